@@ -15,7 +15,7 @@ DESTDIR ?=
 
 PROGRAM := crates/avro/out/avro
 LIBRARY := bindings/out/libavro.so
-TESTS := avro_data_tests avro_answer_tests avro_run_tests
+TESTS := avro_data_tests avro_answer_tests
 
 .DEFAULT_GOAL := help
 .PHONY: help try files program library install quick test check fmt bench robust words clean

@@ -1,13 +1,26 @@
 //! The binary encoding of data (Avro 1.11, "Binary Encoding").
 //!
-//! [`decode`] reads a datum of any kind from the front of bytes, whatever follows it. It accepts
-//! the valid encodings of data within limits and nothing else, and returns the first fault of
-//! other bytes with its offset. [`walk`] returns the same length or fault, and makes no datum.
-//! [`encode`] appends the plain encoding of a datum.
+//! [`decode`] reads a datum of any kind from the start of some bytes, whatever follows it. It accepts
+//! exactly the valid encodings of data within limits, and returns the first fault of other bytes with
+//! its offset. [`walk`] returns the same length or fault without building a datum. [`encode`] appends
+//! the plain encoding of a datum.
 //!
-//! Both go over a [`Cursor`], which reads one element a call, in place. A count or a length
-//! reserves no memory before its bytes are there: items and entries are kept one by one, and
-//! contents are copied once.
+//! # How bytes are read
+//!
+//! One cycle of functions (`read_at`) goes down a schema's nodes, reads elements in place with a [`Cursor`], and passes
+//! each part to a [`Make`], which also learns what the part is for. [`Own`] makes what a [`Build`] builds: the datum
+//! ([`Tree`]) or nothing ([`Nothing`]). The cycle is proved sound: a result stands for a datum whose encoding was passed,
+//! and an error is a fault of the bytes. That there is no other result, and that the fault is the first, follows from
+//! laws about the definitions. The depth left falls at each node, so the recursion ends, after 256 levels at most. A count
+//! or a length allocates nothing before its bytes are there: items and entries are stored one by one, and contents are
+//! copied once.
+//!
+//! Three shortcuts change the time, not the result. The items after one that takes no bytes are the same datum: they are
+//! added at once (`repeat`), and the cursor counts their nodes, so that a limit is exceeded exactly where reading them one
+//! by one would exceed it. A datum or a run of fields without bytes, which may have a million nodes, is passed at once, by
+//! what the `Schema` knows of it (`empty`, `empty_fields`). A record whose fields all are leaves is given to a maker that
+//! accepts it as its bytes and the offsets where fields end (`ends`, `pieces`); if a leaf fails or the maker declines, the
+//! record is read again part by part, so faults and limits are those of that way.
 #![tactic(auto)]
 
 mod build;

@@ -11,13 +11,12 @@ use avro_schema::{Memory, Schema};
 use sha2::{Digest, Sha256};
 use std::alloc::Global;
 
-/// At least this many bytes of a canonical form are gathered before they are hashed, except for
-/// the last ones.
+/// The least number of bytes that are hashed at once, except for the last ones.
 const PIECE: usize = 65_536;
 
 /// The fingerprint of a schema: the SHA-256 of its canonical form's bytes (Avro 1.11, "Schema
-/// Fingerprints"). The form, which may be far longer than the text of the schema, is hashed piece by piece as it is
-/// written, and never held whole.
+/// Fingerprints"). The form may be far longer than the schema's text; it is hashed in pieces as it is written, and never
+/// held as a whole.
 ///
 /// # Errors
 ///
@@ -30,7 +29,7 @@ pub fn fingerprint(alloc: Global, schema: &Schema) -> Result<[u8; 32], Memory>
     let mut marks = no_marks(alloc, schema)?;
     let mut parts: Vec<Part> = Vec::new(alloc);
     put_part(&mut parts, Part::Node(schema.root()))?;
-    // A node is begun once, so that there are no more steps than edges and nodes.
+    // Each node is begun once, so there are no more steps than edges and nodes.
     for _ in 0..u64::MAX {
         match next_part(&mut parts) {
             None => {
@@ -44,7 +43,7 @@ pub fn fingerprint(alloc: Global, schema: &Schema) -> Result<[u8; 32], Memory>
     Err(Memory)
 }
 
-/// Hashes the gathered text and starts anew, where it is long enough.
+/// Hashes and clears the text if it is long enough.
 fn hash_piece(hasher: &mut Sha256, text: &mut String)
     ensures { (before : List ℕ) → Holds256 hasher.old before
         → (then : List ℕ) × Holds256 hasher.new then × (then ++ string_bytes text.new ≡ before ++ string_bytes text.old) }
@@ -56,7 +55,7 @@ fn hash_piece(hasher: &mut Sha256, text: &mut String)
     text.clear();
 }
 
-/// The fingerprint of a schema as 64 lower case hexadecimal digits.
+/// The fingerprint of a schema as 64 lowercase hexadecimal digits.
 ///
 /// # Errors
 ///

@@ -1,4 +1,4 @@
-//! Laws of canonical forms.
+//! Laws about canonical forms.
 
 ghost use Rattle.std.specs.Prelude.{◌≡◌, ◌≤◌, ◌↔◌, ℕ, true, List, []};
 ghost use Rattle.avro_schema.specs.Node.{Node, root_of};
@@ -26,10 +26,9 @@ pub fn same_encodings()
         → Encodes nodes (root_of nodes) v bytes ↔ Encodes others (root_of others) v bytes }
 {}
 
-/// A canonical form, read as the declaration that it is, declares a schema of the same canonical
-/// form and the same encodings, provided that no type of the null namespace is defined or referred
-/// to inside a definition of another namespace, and that the declared nodes are within their
-/// limit.
+/// A canonical form, read as a declaration, declares a schema with the same canonical form and the same
+/// encodings, provided that no type of the null namespace is defined or referred to inside a definition
+/// of another namespace, and that the declared nodes are within their limit.
 pub fn read_again()
     ensures { (nodes : List Node) (text : List ℕ) → is_schema nodes ≡ true → (it : IsCanonical nodes text)
         → keeps_names [] it.form ≡ true → nodes_in it.form ≤ max_nodes

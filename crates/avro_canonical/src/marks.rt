@@ -5,7 +5,7 @@ ghost use Rattle.avro_canonical.specs.inside.Pending.{marks_of};
 use avro_schema::{Memory, NodeId, Schema};
 use std::alloc::Global;
 
-/// A mark for each node of a schema, none of which is set.
+/// A mark for each node of a schema, none of them set.
 pub(crate) fn no_marks(alloc: Global, schema: &Schema) -> Result<Vec<bool>, Memory>
     ensures { IfOk result (λ marks. marks.items ≡ marks_of [] (schema_nodes schema.now)) }
 {

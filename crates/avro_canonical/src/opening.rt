@@ -9,8 +9,7 @@ use avro_name::FullName;
 use avro_schema::{Field, Memory, Node, NodeId};
 use std::alloc::Global;
 
-/// Writes what the first of some fields begins with, and leaves its node and the other fields for
-/// later.
+/// Writes the start of the first of some fields, and pushes its node and the other fields.
 pub(crate) fn open_fields<'a>(
     out: &mut String,
     parts: &mut Vec<Part<'a>>,
@@ -32,7 +31,7 @@ pub(crate) fn open_fields<'a>(
     }
 }
 
-/// Leaves the first of some branches and the others for later.
+/// Pushes the first of some branches and the others.
 pub(crate) fn open_branches<'a>(
     parts: &mut Vec<Part<'a>>,
     branches: &'a [NodeId],
@@ -48,7 +47,7 @@ pub(crate) fn open_branches<'a>(
     }
 }
 
-/// Leaves the node of items or values, and the end of its array or map, for later.
+/// Pushes the node of the items or values, and the end of the array or map.
 fn open_part<'a>(parts: &mut Vec<Part<'a>>, id: NodeId) -> Result<(), Memory>
     ensures { OnOk result (pendings_of parts.new.items ≡ of_node id.0 ∷ end ∷ pendings_of parts.old.items) }
 {
@@ -56,7 +55,7 @@ fn open_part<'a>(parts: &mut Vec<Part<'a>>, id: NodeId) -> Result<(), Memory>
     put_part(parts, Part::Node(id))
 }
 
-/// Writes what the definition of a record begins with, and leaves its fields for later.
+/// Writes the start of a record's definition, and pushes its fields.
 fn open_record<'a>(
     out: &mut String,
     parts: &mut Vec<Part<'a>>,
@@ -72,7 +71,7 @@ fn open_record<'a>(
     open_fields(out, parts, fields)
 }
 
-/// Writes what the form of a node begins with, and leaves its parts for later.
+/// Writes the start of a node's form, and pushes its parts.
 pub(crate) fn open_node<'a>(
     alloc: Global,
     out: &mut String,

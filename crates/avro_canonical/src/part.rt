@@ -4,14 +4,14 @@ ghost use Rattle.avro_schema.specs.Seen.{seen_fields, ids_of};
 
 use avro_schema::{Field, Memory, NodeId};
 
-/// A part of a canonical text that is not written yet.
+/// A part of a canonical form that is still to be written.
 #[derive(Clone, Copy)]
 pub(crate) enum Part<'a> {
     /// A node.
     Node(NodeId),
-    /// Branches of a union after another one, and the end of the union.
+    /// The remaining branches of a union, after an earlier one, and its end.
     Branches(&'a [NodeId]),
-    /// Fields of a record after another one, and the end of the record.
+    /// The remaining fields of a record, after an earlier one, and its end.
     Fields(&'a [Field]),
     /// The end of an array, a map or a field.
     End,

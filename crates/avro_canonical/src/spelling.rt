@@ -38,7 +38,7 @@ pub(crate) fn put_name(out: &mut String, name: &FullName) -> Result<(), Memory>
     put(out, "\"")
 }
 
-/// Appends what the definition of a named type begins with: its name, and the word of its type.
+/// Appends the start of a named type's definition: its name and its type's keyword.
 pub(crate) fn put_head(out: &mut String, name: &FullName, word: &str) -> Result<(), Memory>
     ensures { OnOk result (string_bytes out.new
         ≡ string_bytes out.old ++ codes "{\"name\":" ++ full_text name.now ++ codes ",\"type\":" ++ in_quotes word.now) }
@@ -49,7 +49,7 @@ pub(crate) fn put_head(out: &mut String, name: &FullName, word: &str) -> Result<
     put_quoted(out, word)
 }
 
-/// Appends the symbols of an enum, in quotes and with commas between them.
+/// Appends the symbols of an enum, quoted and separated by commas.
 pub(crate) fn put_symbols(out: &mut String, symbols: &[String]) -> Result<(), Memory>
     ensures { OnOk result (string_bytes out.new ≡ string_bytes out.old ++ with_commas (map in_quotes (texts_of symbols.now))) }
 {
@@ -66,7 +66,7 @@ pub(crate) fn put_symbols(out: &mut String, symbols: &[String]) -> Result<(), Me
     }
 }
 
-/// Appends a number in decimal digits.
+/// Appends a number in decimal.
 pub(crate) fn put_number(alloc: Global, out: &mut String, number: u32) -> Result<(), Memory>
     ensures { OnOk result (string_bytes out.new ≡ string_bytes out.old ++ decimal number) }
 {

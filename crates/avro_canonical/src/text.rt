@@ -11,7 +11,7 @@ use std::alloc::Global;
 
 /// The canonical form of a schema (Avro 1.11, "Parsing Canonical Form for Schemas").
 ///
-/// A type is defined where it first occurs from the root on, and is only its fullname after that.
+/// A named type is defined at its first occurrence, and is only its fullname from then on.
 ///
 /// # Errors
 ///
@@ -24,7 +24,7 @@ pub fn canonical(alloc: Global, schema: &Schema) -> Result<String, Memory>
     let mut marks = no_marks(alloc, schema)?;
     let mut parts: Vec<Part> = Vec::new(alloc);
     put_part(&mut parts, Part::Node(schema.root()))?;
-    // Each step writes a character, so that a text of more steps is longer than any memory.
+    // Each step writes a character, so memory runs out before the steps do.
     for _ in 0..u64::MAX {
         match next_part(&mut parts) {
             None => return Ok(text),

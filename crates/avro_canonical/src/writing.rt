@@ -10,7 +10,7 @@ use crate::spelling::{put, put_name};
 use avro_schema::{Field, Memory, NodeId, Schema};
 use std::alloc::Global;
 
-/// Writes a node's form: its name alone where that is already written, else what it begins with.
+/// Writes the start of a node's form, or just its name if the node was already written.
 fn write_node<'a>(
     alloc: Global,
     schema: &'a Schema,
@@ -35,7 +35,7 @@ fn write_node<'a>(
     }
 }
 
-/// Writes a comma and leaves the next branch for later, or writes the end of the union.
+/// Writes a comma and pushes the next branch, or writes the end of the union.
 fn next_branch<'a>(
     out: &mut String,
     parts: &mut Vec<Part<'a>>,
@@ -51,7 +51,7 @@ fn next_branch<'a>(
     open_branches(parts, branches)
 }
 
-/// Writes a comma and what the next field begins with, or the end of the record.
+/// Writes a comma and the start of the next field, or the end of the record.
 fn next_field<'a>(
     out: &mut String,
     parts: &mut Vec<Part<'a>>,
@@ -67,7 +67,7 @@ fn next_field<'a>(
     open_fields(out, parts, fields)
 }
 
-/// Writes the beginning of a part, and leaves the rest for later.
+/// Writes the start of a part, and pushes the rest.
 pub(crate) fn write_part<'a>(
     alloc: Global,
     schema: &'a Schema,

@@ -1,4 +1,4 @@
-//! Tests of the lists of a certificate.
+//! Checks on the lists of a certificate.
 
 ghost use Rattle.std.specs.Prelude.{◌≡◌, nat_lt, option_map};
 ghost use Rattle.std.specs.List.{list_all};
@@ -6,7 +6,7 @@ ghost use Rattle.avro_certificate.specs.CertificateText.{is_small, is_small_pair
 ghost use Rattle.avro_certificate.specs.inside.CertificateLines.{follows};
 ghost use Rattle.avro_certificate.specs.SeenPair.{pair_of, pairs_of};
 
-/// The greatest number of a node of any schema.
+/// The greatest node number in any schema.
 const MAX_NUMBER: u32 = 4095;
 
 /// Whether no number is over 4,095.
@@ -38,7 +38,7 @@ fn small_pairs(pairs: &[(u32, u32)]) -> bool
     true
 }
 
-/// Whether each number is above those before it.
+/// Whether the numbers are strictly increasing.
 pub(crate) fn numbers_rise(numbers: &[u32]) -> bool
     ensures { result ≡ is_rising nat_lt numbers.now }
 {
@@ -61,7 +61,7 @@ fn number_follows(last: Option<u32>, number: u32) -> bool
     }
 }
 
-/// Whether each pair is above those before it, by its first number and then by its second.
+/// Whether the pairs are strictly increasing, by first number and then by second.
 pub(crate) fn pairs_rise(pairs: &[(u32, u32)]) -> bool
     ensures { result ≡ is_rising is_before (pairs_of pairs.now) }
 {

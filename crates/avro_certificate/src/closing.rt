@@ -1,4 +1,4 @@
-//! Whether the sets of a certificate are closed over two schemas.
+//! Checking that the sets of a certificate are closed for two schemas.
 
 ghost use Rattle.std.specs.Prelude.{◌≡◌, ◌&&◌, true, is_some, nat_lt, length, map, IfOk, OnOk};
 ghost use Rattle.std.specs.Option.{IfSome};
@@ -19,9 +19,9 @@ use avro_compare::{Comparison, Lead, Names, compare, has_fault, leads};
 use avro_schema::{Field, Memory, Node, NodeId, Schema};
 use std::alloc::Global;
 
-/// Tests whether a certificate shows that no datum of a writer's schema fails for a reader's: its nodes are
-/// nodes of the writer's that no datum has, the roots are accounted for, and each pair is closed.
-/// The result is what was found by names of its pairs, and none where it does not show this.
+/// Checks whether a certificate shows that no datum of a writer's schema fails for a reader's: its dead
+/// nodes are nodes of the writer's that have no datum, the roots are accounted for, and each pair is closed.
+/// Returns the comparisons of its pairs, or `None` if it does not show this.
 ///
 /// # Errors
 ///
@@ -42,7 +42,7 @@ pub fn find_closed(
     }
 }
 
-/// Whether each dead node is a node of the writer's that no datum has.
+/// Whether each dead node is a node of the writer's that has no datum.
 fn is_dead(writer: &Schema, certificate: &Certificate) -> bool
     ensures { result ≡ is_dead (schema_nodes writer.now) (dead_of certificate.now) }
 {
@@ -90,7 +90,7 @@ fn has_dead_branches(certificate: &Certificate, ids: &[NodeId]) -> bool
     true
 }
 
-/// What was found by names of the pairs of a certificate, where each is closed.
+/// The comparisons of a certificate's pairs, if each pair is closed.
 fn find_pairs(
     alloc: Global,
     writer: &Schema,
@@ -104,7 +104,7 @@ fn find_pairs(
     find_each(alloc, writer, reader, &names, certificate)
 }
 
-/// The same by the tables of names.
+/// Like `find_pairs`, given the tables of names.
 fn find_each(
     alloc: Global,
     writer: &Schema,
@@ -126,8 +126,8 @@ fn find_each(
     Ok(Some(found))
 }
 
-/// Whether a pair is one of nodes, and closed where its writer's node is not dead. What is found of it by names
-/// is added to what was found of others.
+/// Whether a pair is one of existing nodes, and is closed unless its writer's node is dead. Appends its
+/// comparison to `found`.
 fn is_closed_at(
     alloc: Global,
     writer: &Schema,
@@ -173,7 +173,7 @@ fn is_closed_live(
     Ok(all_stand(certificate, &leads))
 }
 
-/// Whether the pairs of all leads are accounted for.
+/// Whether all pairs that these leads go to are accounted for.
 fn all_stand(certificate: &Certificate, leads: &[Lead]) -> bool
     ensures { result ≡ list_all (stands (dead_of certificate.now) (pairs_in certificate.now)) (map lead_pair leads.now) }
 {

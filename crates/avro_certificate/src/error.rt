@@ -5,19 +5,19 @@ use std::alloc::AllocFailed;
 use std::error::Error;
 use std::fmt;
 
-/// Why a text is not read as a certificate.
+/// Why a text cannot be read as a certificate.
 #[derive(Clone, Copy, Debug, PartialEq, Eq)]
 pub enum CertError {
-    /// It is no certificate's text, or longer than any.
+    /// It is not the text of a certificate, or longer than any.
     Malformed,
-    /// It has the lines of a certificate, and a number over 4,095.
+    /// It has the form of a certificate, but a number over 4,095.
     NumberTooLarge,
     /// Memory ran out.
     OutOfMemory,
 }
 
 impl CertError {
-    /// Its code.
+    /// The error's code.
     fn code(self) -> &'static str {
         match self {
             CertError::Malformed => "G1",

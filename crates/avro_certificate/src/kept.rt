@@ -9,7 +9,7 @@ use crate::writing::write_text;
 use avro_schema::Memory;
 use std::alloc::Global;
 
-/// Nodes of a writer's schema that no datum has, and pairs of nodes: each list rises strictly, the
+/// Nodes of a writer's schema that have no datum, and pairs of nodes. Each list is strictly increasing,
 /// pairs by the writer's node and then by the reader's, and no number is over 4,095.
 #[derive(Debug, Drop)]
 pub struct Certificate {
@@ -29,20 +29,20 @@ impl Certificate {
     ghost use Rattle.avro_certificate.specs.SeenCertificate.{dead_of, pairs_in};
     ghost use Rattle.avro_certificate.specs.SeenPair.{pairs_of};
 
-    /// The greatest length of a text: no certificate of numbers up to 4,095 has a longer one.
+    /// The greatest length of a text. No certificate with numbers up to 4,095 has a longer one.
     pub const MAX_LEN: usize = 268_435_456;
 
     /// Reads the text of a certificate.
     ///
     /// # Errors
     ///
-    /// `NumberTooLarge` where the lines are those of a certificate but for numbers over 4,095, however
+    /// `NumberTooLarge` if the lines are those of a certificate except for numbers over 4,095, however
     /// long; `Malformed` for any other text; `OutOfMemory`.
     pub fn read(alloc: Global, text: &[u8]) -> Result<Certificate, CertError>
-        // The certificate is the text's.
+        // The result is the certificate with this text.
         ensures found { IfOk result (λ c. CertText (dead_of c) (pairs_in c) text.now) }
         ensures small { IfOk result (λ c. are_small (dead_of c) (pairs_in c) ≡ true) }
-        // Each text of numbers up to 4,095 is read.
+        // Each certificate's text with numbers up to 4,095 is read.
         ensures complete { (dead : List ℕ) (pairs : List Pair) → CertText dead pairs text.now → are_small dead pairs ≡ true
             → UnlessOutOfMemory result (λ c. (dead_of c ≡ dead) × (pairs_in c ≡ pairs)) }
         // A refusal says what is wrong with the text.
@@ -64,7 +64,7 @@ impl Certificate {
         Ok(Certificate { dead, pairs })
     }
 
-    /// The certificate of two lists of its form.
+    /// Makes a certificate from its two lists.
     pub fn of(dead: Vec<u32>, pairs: Vec<(u32, u32)>) -> Certificate
         requires rising { is_rising nat_lt dead.items ≡ true }
         requires rising_pairs { is_rising is_before (pairs_of pairs.items) ≡ true }
@@ -89,7 +89,7 @@ impl Certificate {
         }
     }
 
-    /// The text, which [`Certificate::read`] reads again.
+    /// The text, which [`Certificate::read`] reads back.
     ///
     /// # Errors
     ///
@@ -102,7 +102,7 @@ impl Certificate {
         Ok(text)
     }
 
-    /// The numbers of the writer's nodes that no datum has.
+    /// The writer's nodes that have no datum.
     pub(crate) fn dead(&self) -> &[u32]
         ensures numbers { result.now ≡ dead_of self.now }
         ensures rising { is_rising nat_lt (dead_of self.now) ≡ true }
@@ -111,7 +111,7 @@ impl Certificate {
         &self.dead
     }
 
-    /// The pairs of a writer's and a reader's node, by their numbers.
+    /// The pairs of a writer's and a reader's node.
     pub fn pairs(&self) -> &[(u32, u32)]
         ensures pairs { pairs_of result.now ≡ pairs_in self.now }
         ensures rising { is_rising is_before (pairs_in self.now) ≡ true }

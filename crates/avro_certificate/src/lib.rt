@@ -1,9 +1,9 @@
-//! Certificates: sets of nodes and of pairs of nodes which show that a reader's schema reads everything
-//! that was written under a writer's schema.
+//! Certificates: a set of nodes and a set of pairs of nodes, which together show that a reader's schema
+//! reads everything that was written with a writer's schema.
 //!
-//! A [`Certificate`] is read from a text and written to it. [`find_closed`] checks whether it
-//! shows this of two schemas, whoever made it, and returns what it found of its pairs by names, of
-//! which a plan can be made.
+//! A [`Certificate`] is read from and written to a text. [`find_closed`] checks whether it shows this
+//! for two schemas, whoever made it, and returns the comparisons of its pairs, from which a plan can be
+//! made.
 #![tactic(auto)]
 
 mod checks;

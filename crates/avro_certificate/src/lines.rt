@@ -6,10 +6,10 @@ ghost use Rattle.avro_certificate.specs.inside.CertificateLines.{bounded, bounde
 ghost use Rattle.avro_compare.specs.Children.{Pair};
 ghost use Rattle.avro_certificate.specs.SeenPair.{pair_of};
 
-/// One more than the greatest number of a certificate; it stands for each greater number.
+/// One more than the greatest number in a certificate. Stands for all greater numbers.
 const TOO_LARGE: u32 = 4096;
 
-/// The number that a whole text is in decimal, without leading zeros; 4,096 stands for all greater ones.
+/// Parses a decimal number without leading zeros; 4,096 stands for all greater numbers.
 fn number_of(numeral: &[u8]) -> Option<u32>
     ensures { MatchOption result ((n : ℕ) → numeral.now ≢ decimal n) (λ v. (n : ℕ) × (numeral.now ≡ decimal n) × (v ≡ bounded n)) }
 {
@@ -30,7 +30,7 @@ fn number_of(numeral: &[u8]) -> Option<u32>
     }
 }
 
-/// How many bytes there are before the first of this value.
+/// The number of bytes before the first `stop`.
 fn length_before(bytes: &[u8], stop: u8) -> Option<usize>
     ensures { MatchOption result ((k : ℕ) → k < length bytes.now → slice_index bytes.now k ≢ stop)
         (λ k. (k < length bytes.now) × (slice_index bytes.now k ≡ stop) × ((j : ℕ) → j < k → slice_index bytes.now j ≢ stop)) }
@@ -43,14 +43,14 @@ fn length_before(bytes: &[u8], stop: u8) -> Option<usize>
     None
 }
 
-/// What follows a word at the front of a text.
+/// The text after the word that it starts with.
 pub(crate) fn after<'a>(text: &'a [u8], word: &[u8]) -> Option<&'a [u8]>
     ensures { MatchOption result ((rest : List ℕ) → text.now ≢ word.now ++ rest) (λ rest. text.now ≡ word.now ++ rest.now) }
 {
     text.strip_prefix(word)
 }
 
-/// The number at the front of a text, up to a byte that is no digit, and what follows that byte.
+/// The number at the start of a text, which `stop` ends, and the text after `stop`.
 fn read_number(text: &[u8], stop: u8) -> Option<(u32, &[u8])>
     requires { stop < 48 }
     ensures { MatchOption result ((n : ℕ) (more : List ℕ) → text.now ≢ decimal n ++ (stop ∷ more))
@@ -61,7 +61,7 @@ fn read_number(text: &[u8], stop: u8) -> Option<(u32, &[u8])>
     Some((number, &text[length + 1..]))
 }
 
-/// The node of the line of a dead node at the front of a text, and what follows the line.
+/// The dead node in the first line of a text, and the text after that line.
 pub(crate) fn read_dead_line(text: &[u8]) -> Option<(u32, &[u8])>
     ensures { MatchOption result ((n : ℕ) (more : List ℕ) → text.now ≢ dead_line n ++ more)
         (λ r. (n : ℕ) × (text.now ≡ dead_line n ++ r.1.now) × (r.0 ≡ bounded n)) }
@@ -70,7 +70,7 @@ pub(crate) fn read_dead_line(text: &[u8]) -> Option<(u32, &[u8])>
     read_number(numeral, b'\n')
 }
 
-/// The pair of the line of a pair at the front of a text, and what follows the line.
+/// The pair in the first line of a text, and the text after that line.
 pub(crate) fn read_pair_line(text: &[u8]) -> Option<((u32, u32), &[u8])>
     ensures { MatchOption result ((p : Pair) (more : List ℕ) → text.now ≢ pair_line p ++ more)
         (λ r. (p : Pair) × (text.now ≡ pair_line p ++ r.1.now) × (pair_of r.0 ≡ bounded_pair p)) }

@@ -1,4 +1,4 @@
-//! Looking up the nodes and the pairs of a certificate.
+//! Looking up nodes and pairs in a certificate.
 
 ghost use Rattle.std.specs.Prelude.{◌≡◌, ◌||◌, true, false};
 ghost use Rattle.std.specs.List.Sorted.{IsPartitionPoint};
@@ -9,21 +9,21 @@ ghost use Rattle.avro_certificate.specs.SeenPair.{pair_of, pairs_of};
 
 use crate::kept::Certificate;
 
-/// Whether a pair is accounted for: its writer's node is dead, or the pair is there.
+/// Whether a pair is accounted for: its writer's node is dead, or the certificate has the pair.
 pub(crate) fn has(certificate: &Certificate, w: u32, r: u32) -> bool
     ensures { result ≡ (is_among (dead_of certificate.now) w || is_among_pairs (pairs_in certificate.now) (record { w = w; r = r })) }
 {
     has_dead(certificate, w) || has_pair(certificate, w, r)
 }
 
-/// Whether a node is among the dead ones.
+/// Whether a node is one of the dead nodes.
 pub(crate) fn has_dead(certificate: &Certificate, number: u32) -> bool
     ensures { result ≡ is_among (dead_of certificate.now) number }
 {
     certificate.dead().binary_search(&number).is_ok()
 }
 
-/// Whether a pair is there.
+/// Whether the certificate has a pair.
 fn has_pair(certificate: &Certificate, w: u32, r: u32) -> bool
     ensures { result ≡ is_among_pairs (pairs_in certificate.now) (record { w = w; r = r }) }
 {
@@ -35,7 +35,7 @@ fn has_pair(certificate: &Certificate, w: u32, r: u32) -> bool
     }
 }
 
-/// The position of the first of rising pairs that does not come before another, by halving.
+/// The position of the first of some increasing pairs that is not less than `other`, by binary search.
 fn position_of(pairs: &[(u32, u32)], other: (u32, u32)) -> usize
     ensures { is_rising is_before (pairs_of pairs.now) ≡ true
         → IsPartitionPoint (λ y. is_before (pair_of y) (pair_of other) ≡ true) (λ y. is_before (pair_of y) (pair_of other) ≡ false) pairs.now result }

@@ -3,7 +3,7 @@ ghost use Rattle.avro_certificate.specs.CertificateText.{decimal};
 
 use std::alloc::AllocError;
 
-/// Appends a number in decimal digits of ASCII, without leading zeros.
+/// Appends a number in ASCII decimal digits, without leading zeros.
 ///
 /// # Errors
 ///

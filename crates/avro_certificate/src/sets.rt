@@ -1,4 +1,4 @@
-//! The two sets of a certificate's text.
+//! Reading the two sets from a certificate's text.
 
 ghost use Rattle.std.specs.Prelude.{◌≡◌, ℕ, List, ◌++◌, map, flat_map, IfOk};
 ghost use Rattle.std.specs.Result.{IfErr};
@@ -12,8 +12,7 @@ use crate::error::CertError;
 use crate::lines::{after, read_dead_line, read_pair_line};
 use std::alloc::Global;
 
-/// The nodes and the pairs of the lines of a text, which need not rise; 4,096 stands for each greater
-/// number.
+/// The nodes and the pairs in the lines of a text, in any order; 4,096 stands for all greater numbers.
 pub(crate) fn read_sets(
     alloc: Global,
     text: &[u8],
@@ -33,7 +32,7 @@ pub(crate) fn read_sets(
     Ok((dead, pairs))
 }
 
-/// The nodes of the lines of dead nodes at the front of a text, and what follows those lines.
+/// The nodes in the dead-node lines at the start of a text, and the text after those lines.
 fn read_dead(alloc: Global, text: &[u8]) -> Result<(Vec<u32>, &[u8]), CertError>
     ensures found { IfOk result (λ r. (dead : List ℕ) × (text.now ≡ flat_map dead_line dead ++ r.1.now) × (r.0.items ≡ map bounded dead)
         × NoneAhead dead_line r.1.now) }
@@ -48,7 +47,7 @@ fn read_dead(alloc: Global, text: &[u8]) -> Result<(Vec<u32>, &[u8]), CertError>
     Ok((dead, rest))
 }
 
-/// The pairs of the lines of pairs at the front of a text, and what follows those lines.
+/// The pairs in the pair lines at the start of a text, and the text after those lines.
 fn read_pairs(alloc: Global, text: &[u8]) -> Result<(Vec<(u32, u32)>, &[u8]), CertError>
     ensures found { IfOk result (λ r. (pairs : List Pair) × (text.now ≡ flat_map pair_line pairs ++ r.1.now) × (pairs_of r.0.items ≡ map bounded_pair pairs)
         × NoneAhead pair_line r.1.now) }

@@ -7,7 +7,7 @@ ghost use Rattle.avro_certificate.specs.SeenPair.{pair_of, pairs_of};
 use crate::numbers::append_decimal;
 use std::alloc::AllocError;
 
-/// Appends the text of two lists.
+/// Appends the text of a certificate with these lists.
 pub(crate) fn write_text(
     text: &mut Vec<u8>,
     dead: &[u32],
@@ -22,7 +22,7 @@ pub(crate) fn write_text(
     Ok(())
 }
 
-/// Appends the lines of dead nodes.
+/// Appends a line for each dead node.
 fn write_dead(text: &mut Vec<u8>, dead: &[u32]) -> Result<(), AllocError>
     ensures { OnOk result (text.new.items ≡ text.old.items ++ flat_map dead_line dead.now) }
 {
@@ -32,7 +32,7 @@ fn write_dead(text: &mut Vec<u8>, dead: &[u32]) -> Result<(), AllocError>
     Ok(())
 }
 
-/// Appends the line of a dead node.
+/// Appends the line for a dead node.
 fn write_dead_node(text: &mut Vec<u8>, number: u32) -> Result<(), AllocError>
     ensures { OnOk result (text.new.items ≡ text.old.items ++ dead_line number) }
 {
@@ -42,7 +42,7 @@ fn write_dead_node(text: &mut Vec<u8>, number: u32) -> Result<(), AllocError>
     Ok(())
 }
 
-/// Appends the lines of pairs.
+/// Appends a line for each pair.
 fn write_pairs(text: &mut Vec<u8>, pairs: &[(u32, u32)]) -> Result<(), AllocError>
     ensures { OnOk result (text.new.items ≡ text.old.items ++ flat_map pair_line (pairs_of pairs.now)) }
 {
@@ -52,7 +52,7 @@ fn write_pairs(text: &mut Vec<u8>, pairs: &[(u32, u32)]) -> Result<(), AllocErro
     Ok(())
 }
 
-/// Appends the line of a pair.
+/// Appends the line for a pair.
 fn write_pair(text: &mut Vec<u8>, pair: (u32, u32)) -> Result<(), AllocError>
     ensures { OnOk result (text.new.items ≡ text.old.items ++ pair_line (pair_of pair)) }
 {

@@ -39,7 +39,7 @@ pub struct Block<'a> {
 }
 
 impl<'a> Block<'a> {
-    /// How many data it says that it has.
+    /// The number of data that the block claims to have.
     pub fn count(&self) -> u32
         ensures { result ≡ self.now.count }
     {
@@ -53,9 +53,8 @@ impl<'a> Block<'a> {
         &self.body
     }
 
-    /// Reads the data one by one, and returns what a builder builds of each: of what it is for the
-    /// reader if there is one, and else of the datum itself. A plan is made for the reader;
-    /// [`Block::read_by`] reads by one that is kept.
+    /// Reads the data one by one, and returns what the builder makes of each, resolved for the reader if
+    /// there is one. A plan is made for the reader; [`Block::read_by`] uses an existing one.
     ///
     /// # Errors
     ///
@@ -85,8 +84,8 @@ impl<'a> Block<'a> {
         }
     }
 
-    /// Reads the data one by one as data of a plan's writer, and returns what a builder builds of
-    /// what each is for its reader.
+    /// Reads the data one by one as data of a plan's writer, and returns what the builder makes of each,
+    /// resolved for the plan's reader.
     ///
     /// # Errors
     ///
@@ -110,7 +109,7 @@ impl<'a> Block<'a> {
         self.read_data(schema, &Some(plan), builder)
     }
 
-    /// Reads the data one by one, and makes nothing of them: no memory is taken but for the keys of maps.
+    /// Reads the data one by one without building anything. Memory is allocated only for the keys of maps.
     ///
     /// # Errors
     ///
@@ -181,7 +180,7 @@ impl<'a> Block<'a> {
     }
 }
 
-/// What a datum is for a reader is a datum of the reader's schema.
+/// What a datum resolves to is a datum of the reader's schema.
 fn made_data_fit(plan: &Option<PlanRef<'_>>)
     ensures { (nodes : List Node) (v u : Value) → fits nodes (root_of nodes) v ≡ true
         → resolution (option_map (λ p. schema_nodes p.1) plan.now) nodes v ≡ Ok u
@@ -191,7 +190,7 @@ fn made_data_fit(plan: &Option<PlanRef<'_>>)
     resolved_fits();
     match plan {
         Some(plan) => {
-            // Its nodes are known to be a schema.
+            // Only the contract of this call matters here: the schema is well formed.
             let _ = plan.reader().len();
         }
         None => {}

@@ -7,7 +7,7 @@ use std::alloc::{AllocError, AllocFailed};
 use std::error::Error;
 use std::fmt;
 
-/// Why a block's count or size is not a number of data or of bytes.
+/// Why a block's count or size is invalid.
 #[derive(Clone, Copy, Debug, PartialEq, Eq)]
 pub enum CountError {
     /// It is not a valid long.
@@ -16,23 +16,23 @@ pub enum CountError {
     Negative,
 }
 
-/// Where a limit is passed. Blocks and data are counted from 0.
+/// Where a limit is exceeded. Blocks and data are counted from 0.
 #[derive(Clone, Copy, Debug, PartialEq, Eq)]
 pub enum LimitPlace {
     /// In the header.
     Header,
-    /// In a block, or by its copy.
+    /// In a block, or in its copy.
     Block(u64),
     /// In a datum of a block.
     Datum(u64, u32),
 }
 
-/// Why a file is not read or copied (Avro 1.11, "Object Container Files"). Blocks and data are counted from 0.
+/// Why a file cannot be read or copied (Avro 1.11, "Object Container Files"). Blocks and data are counted from 0.
 #[derive(Debug, PartialEq, Eq, Drop)]
 pub enum CopyError {
-    /// The file does not begin with the four bytes of the magic.
+    /// The file does not start with the four magic bytes.
     NoMagic,
-    /// The metadata is not a map of bytes; the offset is from the file's first byte.
+    /// The metadata is not a map of bytes. The offset counts from the start of the file.
     InvalidMetadata(ReadError),
     /// The metadata has no `avro.schema`.
     NoSchema,
@@ -40,15 +40,15 @@ pub enum CopyError {
     InvalidSchema(SchemaError),
     /// `avro.codec` is not `null`.
     UnknownCodec,
-    /// A block's count or size is not a number of data or of bytes.
+    /// A block's count or size is invalid.
     InvalidCount(u64, CountError),
-    /// A block has bytes left after its data.
+    /// A block has bytes after its last datum.
     BytesLeft(u64),
     /// The marker after a block differs from the header's.
     WrongMarker(u64),
-    /// A limit is passed.
+    /// A limit is exceeded.
     LimitExceeded(LimitPlace),
-    /// A datum of a block is not validly encoded; the offset is from the block's first byte of data.
+    /// A datum of a block is not validly encoded. The offset counts from the start of the block's data.
     InvalidDatum(u64, u32, ReadError),
     /// A datum of a block does not resolve.
     UnresolvedDatum(u64, u32, Fault),
@@ -70,7 +70,7 @@ impl CopyError {
     ghost use Rattle.std.specs.Prelude.{◌≡◌};
     ghost use Rattle.avro_container.specs.ErrorText.{error_code, place_of};
 
-    /// Its code, or what failed.
+    /// The error's code, or what failed.
     pub fn code(&self) -> &'static str
         ensures { result.now ≡ error_code self.now }
     {
@@ -95,7 +95,7 @@ impl CopyError {
         }
     }
 
-    /// The block, or the datum, that it is of; else the header.
+    /// The block or datum that the error is in; otherwise the header.
     pub fn place(&self) -> LimitPlace
         ensures { result ≡ place_of self.now }
     {
@@ -111,7 +111,7 @@ impl CopyError {
         }
     }
 
-    /// Writes what is wrong there, if more is known than the code.
+    /// Writes the cause, if more is known than the code.
     fn write_reason<W: fmt::Write>(&self, f: &mut fmt::Formatter<W>) -> fmt::Result {
         match self {
             CopyError::InvalidMetadata(error) => write_behind(": ", error, f),
@@ -154,7 +154,7 @@ impl fmt::Display for CopyError {
 
 impl Error for CopyError {}
 
-/// Writes a block, or a datum of one.
+/// Writes the number of a block, or of a block and a datum.
 fn write_place<W: fmt::Write>(place: LimitPlace, f: &mut fmt::Formatter<W>) -> fmt::Result {
     match place {
         LimitPlace::Header => Ok(()),
@@ -166,7 +166,7 @@ fn write_place<W: fmt::Write>(place: LimitPlace, f: &mut fmt::Formatter<W>) -> f
     }
 }
 
-/// Writes a value behind a word.
+/// Writes a value after a word.
 fn write_behind<W: fmt::Write, T: fmt::Display>(
     word: &str,
     value: &T,

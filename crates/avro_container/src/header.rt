@@ -1,4 +1,4 @@
-//! A header, and taking it.
+//! A header, and reading it.
 
 ghost use Rattle.std.specs.Prelude.{◌≡◌, ◌≢◌, OnOk, IfOk, Some, Err, [], ◌+◌, ◌^◌, ◌<◌, ◌≤◌, max, length, take, OnErr};
 ghost use Rattle.std.specs.Result.{IfErr};
@@ -27,7 +27,7 @@ use avro_device::Input;
 use avro_schema::Schema;
 use std::alloc::Global;
 
-/// The header of a file: its schema, its metadata in order, and its sync marker (Avro 1.11, "Object Container Files").
+/// The header of a file: its schema, metadata and sync marker (Avro 1.11, "Object Container Files").
 #[derive(Drop)]
 pub struct Header {
     pub(crate) schema: Schema,
@@ -52,7 +52,7 @@ impl Header {
         &self.metadata
     }
 
-    /// The marker after the header and each block.
+    /// The sync marker, which follows the header and each block.
     pub fn sync(&self) -> &[u8; 16]
         ensures marker { result.now ≡ self.now.sync }
         ensures length { length result.now ≡ 16 }
@@ -66,7 +66,7 @@ impl Header {
     ///
     /// # Errors
     ///
-    /// `NoMagic`; then from left to right `InvalidMetadata`, `LimitExceeded` of a part that would pass the limit, or
+    /// `NoMagic`; then, from left to right, `InvalidMetadata`, `LimitExceeded` for a part that would exceed the limit, or
     /// `CutHeader` if the input ends; then `NoSchema`, `UnknownCodec`, `InvalidSchema`. `InputFailed`, `OutOfMemory`.
     pub fn read<I: Input>(
         alloc: Global,

@@ -1,4 +1,4 @@
-//! Taking from an input until a part of a file is there.
+//! Taking bytes from an input until a part of a file is complete.
 
 ghost use Rattle.std.specs.Prelude.{◌≡◌, ◌≢◌, ◌+◌, ◌-◌, ◌^◌, ◌<◌, ◌≤◌, max, length, OnOk, OnErr, Err};
 ghost use Rattle.avro_container.specs.Filled.{GrowsBy, TakesAtMost, UnlessLost};
@@ -10,12 +10,12 @@ pub(crate) mod number;
 use crate::input::buffer::{Buffer, GROWTH, TakeError};
 use avro_device::Input;
 
-/// Why a part of a file is not taken whole.
+/// Why a part of a file cannot be taken as a whole.
 #[derive(Clone, Copy, Debug, PartialEq, Eq)]
 pub(crate) enum PartError {
     /// A number is too large.
     OutOfRange,
-    /// It passes a limit.
+    /// It exceeds a limit.
     Limit,
     /// The input ends in it.
     Ended,
@@ -25,20 +25,20 @@ pub(crate) enum PartError {
     OutOfMemory,
 }
 
-/// How far an input is taken: no further than `limit` bytes in all, and `ahead` bytes beyond what is asked for.
+/// How far an input may be taken: up to `limit` bytes in all, and up to `ahead` bytes beyond what is asked for.
 #[derive(Clone, Copy, Debug)]
 pub struct Reach {
     /// The most bytes in all.
     pub limit: usize,
-    /// How many bytes beyond.
+    /// The most bytes beyond what is asked for.
     pub ahead: usize,
 }
 
-/// Takes until a number of bytes is held.
+/// Takes bytes until the buffer holds a given number.
 ///
 /// # Errors
 ///
-/// `Limit` if they are more than the limit, `Ended` if the input ends before; `Device`, `OutOfMemory`.
+/// `Limit` if the number exceeds the limit, `Ended` if the input ends first; `Device`, `OutOfMemory`.
 pub(crate) fn fill<I: Input>(
     input: &mut I,
     buffer: &mut Buffer,

@@ -1,8 +1,12 @@
 //! Object container files (Avro 1.11, "Object Container Files").
 //!
-//! A file is read part by part: [`Header::read`] takes its header, [`Blocks::next`] a block, and [`Block::read`] reads the
-//! data of a block. They take from an `Input` of `avro_device`. Whoever keeps a [`Buffer`] of what was taken, and may take
-//! ahead, calls [`take_header`] and [`take_block`].
+//! A file is read part by part from an `Input` of `avro_device`: [`Header::read`] takes its header, [`Blocks::next`] takes a
+//! block, and [`Block::read`] reads the data of a block. A caller that keeps its own [`Buffer`] and may take ahead of the
+//! part at hand uses [`take_header`] and [`take_block`].
+//!
+//! A [`Buffer`] holds the bytes that were taken but belong to no part yet. The header is taken part by part: the magic, the
+//! blocks of the metadata, the marker. What is missing is asked for, and not a byte more unless the caller may take ahead.
+//! A block is taken whole: its count and size, then as many bytes as they say, allocated 65,536 at a time, and its marker.
 #![tactic(auto)]
 
 mod block;

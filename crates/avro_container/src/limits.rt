@@ -1,7 +1,7 @@
 use avro_schema::Limits;
 use std::marker::Model;
 
-/// Limits of a file: the bytes of its header, the bytes of a block's data, the data of a block, and those of each datum.
+/// Limits on a file: on the bytes of its header, the bytes and the number of a block's data, and on each datum.
 #[derive(Clone, Copy, Debug)]
 pub struct FileLimits {
     header: u32,
@@ -28,7 +28,7 @@ impl Default for FileLimits {
 
     ghost is_default = { λ limits. limits ≡ record { header = 4194304; block = 16777216; per_block = 1048576; datum = record { depth = 128; nodes = 1048576; blob = 16777216 } } };
 
-    /// 4,194,304 bytes of a header, 16,777,216 bytes and 1,048,576 data of a block, and the default limits of a datum.
+    /// 4,194,304 bytes in a header, 16,777,216 bytes and 1,048,576 data in a block, and the default limits on a datum.
     fn default() -> FileLimits {
         FileLimits {
             header: 4_194_304,
@@ -43,10 +43,10 @@ impl FileLimits {
     ghost use Rattle.std.specs.Prelude.{◌≡◌, SomeIff};
     ghost use Rattle.avro_container.specs.FileRanges.{AreFileLimits};
 
-    /// The greatest number that a limit may be.
+    /// The greatest value of a limit.
     pub const MAX: u32 = 16_777_216;
 
-    /// Limits, or nothing if one of the first three is 0 or too large.
+    /// Limits, or `None` if one of the first three is 0 or too large.
     pub fn new(header: u32, block: u32, per_block: u32, datum: Limits) -> Option<FileLimits>
         ensures { SomeIff result (AreFileLimits (record { header = header; block = block; per_block = per_block; datum = datum })) (record { header = header; block = block; per_block = per_block; datum = datum }) }
     {
@@ -65,7 +65,7 @@ impl FileLimits {
         }
     }
 
-    /// The most bytes of a header.
+    /// The most bytes in a header.
     pub fn header(&self) -> u32
         ensures header { result ≡ self.now.header }
         ensures in_range { AreFileLimits self.now }
@@ -81,7 +81,7 @@ impl FileLimits {
         self.block
     }
 
-    /// The most data of a block.
+    /// The most data in a block.
     pub fn per_block(&self) -> u32
         ensures per_block { result ≡ self.now.per_block }
         ensures in_range { AreFileLimits self.now }
@@ -89,7 +89,7 @@ impl FileLimits {
         self.per_block
     }
 
-    /// The limits of each datum.
+    /// The limits on each datum.
     pub fn datum(&self) -> Limits
         ensures { result ≡ self.now.datum }
     {

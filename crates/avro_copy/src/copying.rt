@@ -30,24 +30,24 @@ use std::alloc::Global;
 pub enum Step {
     /// It put the header.
     Header,
-    /// It put a block, which has this number of data.
+    /// It put a block with this number of data.
     Block(u64),
     /// The input has reported its end.
     End,
 }
 
-/// How many data and blocks a file has.
+/// The number of data and blocks in a file.
 #[derive(Clone, Copy, Debug, PartialEq, Eq)]
 pub struct Counts {
-    /// The data of all blocks.
+    /// The number of data in all blocks.
     pub items: u64,
-    /// The blocks.
+    /// The number of blocks.
     pub blocks: u64,
 }
 
-/// Copies a whole file in one pass, and returns how many data and blocks it has: each datum as what
-/// it is for the reader, if there is one, and in its plain encoding. `sync` is the marker of the
-/// copy, or else it is the file's. The last call of the output is a flush.
+/// Copies a whole file in one pass, and returns the number of its data and blocks. Each datum is resolved
+/// for the reader, if there is one, and put in its plain encoding. `sync` is the marker of the copy; without
+/// it, the copy has the file's. The last call on the output is a flush.
 ///
 /// # Errors
 ///
@@ -78,7 +78,7 @@ pub fn copy<'a, I: Input, O: Output>(
     copy_all(&mut copier, input, output)
 }
 
-/// Takes the steps of a copier that has taken none, to the end, and flushes the output.
+/// Takes all steps of a new copier, and flushes the output.
 ///
 /// # Errors
 ///

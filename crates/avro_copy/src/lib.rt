@@ -1,7 +1,19 @@
 //! Copies of object container files (Avro 1.11, "Object Container Files").
 //!
-//! A [`Sink`] puts a header and blocks. [`copy`] takes a whole file and puts its copy, and a [`Copier`] does the same a part
-//! a step.
+//! A [`Sink`] puts a header and blocks. [`copy`] takes a whole file and puts its copy; a [`Copier`] does the same one part
+//! per step.
+//!
+//! # How a file is copied
+//!
+//! Each block is taken whole, its data are read from the buffer and packed without building a datum, and the packed data
+//! are put as one block. Without a reader, a datum's bytes are appended right after those of the previous datum; for a
+//! reader they are gathered first. All data after one without bytes are the same datum, in this block and in later ones,
+//! and are not read again. The names of two schemas are compared once per file: the copier keeps the plan table beside the
+//! header, and its invariant is that the table is of the header's schema and the reader's.
+//!
+//! The contract of a step says what was held and taken before it, and what is put and held after it. A run of such steps
+//! takes the start of a file and puts its copy: that is a law about the definitions alone (`laws.rt`), on which the loop of
+//! `copy` rests.
 #![tactic(auto)]
 
 mod copying;

@@ -1,4 +1,4 @@
-//! Putting a file part by part.
+//! Writing a file part by part.
 
 ghost use Rattle.std.specs.Prelude.{◌≡◌, ◌≢◌, ◌⊎◌, ◌++◌, ◌^◌, ◌<◌, [], pos, true, false, None, IfOk, OnOk, OnErr, Err};
 ghost use Rattle.std.specs.Result.{IfErr};
@@ -15,7 +15,7 @@ use avro_device::{Output, put_all};
 use avro_zigzag::write_long;
 use std::alloc::{AllocError, Global};
 
-/// A file that is put: its header, then block by block (Avro 1.11, "Object Container Files").
+/// A file being put: its header, then block by block (Avro 1.11, "Object Container Files").
 #[derive(Drop)]
 pub struct Sink {
     sync: [u8; 16],
@@ -58,11 +58,11 @@ impl Sink {
         }
     }
 
-    /// Puts a block of `count` data, whose encodings one after another are `body`.
+    /// Puts a block of `count` data, whose concatenated encodings are `body`.
     ///
     /// # Errors
     ///
-    /// `OutputFailed`, `OutOfMemory`. After an error `FailedBefore`.
+    /// `OutputFailed`, `OutOfMemory`. After an error, `FailedBefore`.
     pub fn block<O: Output>(
         &mut self,
         output: &mut O,
@@ -95,7 +95,7 @@ impl Sink {
     }
 }
 
-/// Puts a block in one call, from a buffer that is kept from block to block.
+/// Puts a block as a whole, from a buffer that is reused from block to block.
 pub(crate) fn put_block<O: Output>(
     output: &mut O,
     room: &mut Vec<u8>,
@@ -151,7 +151,7 @@ fn append_header(
     out.extend_from_slice(sync)
 }
 
-/// Appends the metadata in one block, if there is any, and the end.
+/// Appends the metadata as one block, if there is any, and the end of the metadata.
 fn append_metadata(metadata: &[(String, Vec<u8>)], out: &mut Vec<u8>) -> Result<(), AllocError>
     ensures { OnOk result (out.new.items ≡ out.old.items ++ plain (metadata_value (properties_of metadata.now))) }
 {
@@ -174,7 +174,7 @@ fn append_properties(metadata: &[(String, Vec<u8>)], out: &mut Vec<u8>) -> Resul
     Ok(())
 }
 
-/// Appends a length and the bytes.
+/// Appends bytes, preceded by their length.
 fn append_bytes(content: &[u8], out: &mut Vec<u8>) -> Result<(), AllocError>
     ensures { OnOk result (out.new.items ≡ out.old.items ++ plain_bytes content.now) }
 {

@@ -1,14 +1,13 @@
 ghost use Rattle.std.specs.Prelude.{◌≡◌};
 
-/// The head of a block of an array or a map: how many items the block has, and the size that it
-/// gives, if any.
+/// The head of an array's or a map's block: the number of items, and the block's size if given.
 #[derive(Clone, Copy)]
 pub struct Block {
     pub(crate) count: u32,
     pub(crate) size: Option<BlockSize>,
 }
 
-/// The size of a block's items in bytes, as its head gives it.
+/// The size of a block's items in bytes, as given in its head.
 #[derive(Clone, Copy)]
 pub(crate) struct BlockSize {
     pub(crate) bytes: u64,
@@ -19,7 +18,7 @@ pub(crate) struct BlockSize {
 }
 
 impl Block {
-    /// How many items the block has.
+    /// The number of items in the block.
     pub fn count(&self) -> u32
         ensures { result ≡ self.now.count }
     {

@@ -15,8 +15,8 @@ use avro_schema::Limits;
 use avro_zigzag::VarError;
 use std::marker::Model;
 
-/// An offset in bytes, and what is left of the limits there. Each call reads one element, and
-/// returns slices of the bytes.
+/// A position in some bytes, and what is left of the limits there. Each call reads one element;
+/// contents are returned as slices of the bytes.
 ///
 /// A call that returns an error leaves the cursor where it was.
 #[derive(Drop)]
@@ -40,7 +40,7 @@ impl<'a> Model for Cursor<'a> {
 }
 
 impl<'a> Cursor<'a> {
-    /// A cursor at the front of bytes.
+    /// A cursor at the start of `bytes`.
     pub fn new(bytes: &'a [u8], limits: &Limits) -> Self
         ensures { result ≡ record { bytes = bytes.now; offset = 0; depth = limits.now.depth; nodes = limits.now.nodes; blob = limits.now.blob } }
     {
@@ -53,7 +53,7 @@ impl<'a> Cursor<'a> {
         }
     }
 
-    /// How many bytes were read.
+    /// The number of bytes read so far.
     #[inline(always)]
     pub fn offset(&self) -> usize
         ensures { result ≡ self.now.offset }
@@ -61,7 +61,7 @@ impl<'a> Cursor<'a> {
         self.len - self.rest.len()
     }
 
-    /// How many bytes are left.
+    /// The number of bytes left.
     #[inline(always)]
     pub fn left(&self) -> usize
         ensures { result ≡ length self.now.bytes }
@@ -69,7 +69,7 @@ impl<'a> Cursor<'a> {
         self.rest.len()
     }
 
-    /// How many nodes are left of the limit.
+    /// The number of nodes that the limit still allows.
     #[inline(always)]
     pub fn nodes(&self) -> u32
         ensures count { result ≡ self.now.nodes }
@@ -78,7 +78,7 @@ impl<'a> Cursor<'a> {
         self.nodes
     }
 
-    /// Another cursor at the same place.
+    /// A second cursor at the same position.
     #[inline(always)]
     pub fn ahead(&self) -> Cursor<'a>
         ensures { result ≡ self.now }
@@ -92,7 +92,7 @@ impl<'a> Cursor<'a> {
         }
     }
 
-    /// The bytes that are left.
+    /// The bytes left.
     #[inline(always)]
     pub fn rest(&self) -> &'a [u8]
         ensures { result.now ≡ self.now.bytes }
@@ -100,7 +100,7 @@ impl<'a> Cursor<'a> {
         self.rest
     }
 
-    /// Skips a number of bytes, and returns them.
+    /// Skips `count` bytes, and returns them.
     #[inline(always)]
     fn pass(&mut self, count: usize) -> &'a [u8]
         requires { count ≤ length self.old.bytes }
@@ -112,7 +112,7 @@ impl<'a> Cursor<'a> {
         front
     }
 
-    /// The offset after a number of the bytes that are left.
+    /// The offset after the next `count` bytes.
     #[inline(always)]
     fn offset_behind(&self, count: usize) -> usize
         requires { count ≤ length self.now.bytes }
@@ -121,11 +121,11 @@ impl<'a> Cursor<'a> {
         self.len - (self.rest.len() - count)
     }
 
-    /// Counts a node that has no parts, as entering and leaving it would: it takes one of the nodes left.
+    /// Counts a node without parts, as entering and leaving it would: one node fewer is left.
     ///
     /// # Errors
     ///
-    /// `LimitExceeded` where there is none, or no depth.
+    /// `LimitExceeded` if no node or no depth is left.
     #[inline(always)]
     pub fn count(&mut self) -> Result<(), ReadError>
         ensures counted { OnOk result (Counts self.old self.new) }
@@ -140,11 +140,11 @@ impl<'a> Cursor<'a> {
         Ok(())
     }
 
-    /// Counts the nodes of a number of data, each of which takes as many.
+    /// Counts the nodes of `count` data of `size` nodes each.
     ///
     /// # Errors
     ///
-    /// `LimitExceeded` where fewer are left.
+    /// `LimitExceeded` if fewer are left.
     pub fn count_again(&mut self, size: u32, count: u32) -> Result<(), ReadError>
         ensures counted { OnOk result (CountsAgain self.old (size * count) self.new) }
         ensures refused { IfErr result (λ e. (read_fault e ≡ Some limit_exceeded) × (self.old.nodes < size * count)) }
@@ -165,11 +165,11 @@ impl<'a> Cursor<'a> {
         }
     }
 
-    /// Passes a datum without bytes, of a number of nodes and so deep.
+    /// Passes a datum that takes no bytes, given its number of nodes and its depth.
     ///
     /// # Errors
     ///
-    /// `LimitExceeded` where fewer nodes are left, or less depth.
+    /// `LimitExceeded` if fewer nodes or less depth are left.
     pub fn pass_empty(&mut self, nodes: u32, depth: u32) -> Result<(), ReadError>
         ensures counted { OnOk result (CountsAgain self.old nodes self.new) }
         ensures deep { OnOk result (depth ≤ self.old.depth) }
@@ -187,11 +187,11 @@ impl<'a> Cursor<'a> {
         Ok(())
     }
 
-    /// Enters a node: it takes one of the nodes left and one of the depth.
+    /// Enters a node: one node fewer and one level less are left.
     ///
     /// # Errors
     ///
-    /// `LimitExceeded` where there is none.
+    /// `LimitExceeded` if no node or no level is left.
     #[inline(always)]
     pub fn enter(&mut self) -> Result<(), ReadError>
         ensures entered { OnOk result (Enters self.old self.new) }
@@ -204,7 +204,7 @@ impl<'a> Cursor<'a> {
         Ok(())
     }
 
-    /// Leaves a node, whose depth is free again. No limit is over 256, and there the depth stays.
+    /// Leaves a node: one more level is left, up to 256, the greatest limit.
     #[inline(always)]
     pub fn leave(&mut self)
         ensures freed { self.old.depth < 256 → self.new ≡ record self.old { depth = self.old.depth + 1 } }
@@ -216,7 +216,7 @@ impl<'a> Cursor<'a> {
     }
 }
 
-/// The error of a number that should be at an offset.
+/// The read error for a number that is faulty at an offset.
 fn number_error(error: VarError, offset: usize) -> ReadError
     ensures { read_fault result ≡ Some (behind offset (number_fault error)) }
 {

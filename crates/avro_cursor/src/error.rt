@@ -5,24 +5,24 @@ use std::alloc::AllocError;
 use std::error::Error;
 use std::fmt;
 
-/// Why bytes begin with no encoding within limits. The place is the offset of the part that fails.
+/// Why bytes do not start with an encoding within limits. `place` is the offset of the part that fails.
 #[derive(Clone, Copy, Debug, PartialEq, Eq)]
 pub enum ReadError {
-    /// The input ends in a number, a boolean or content.
+    /// The input ends before a number, a boolean or content does.
     EndOfInput { place: usize },
-    /// A number is too large: it has more than 32 bits where it is an int, or more than 64 where it is a long.
+    /// A number has more than 32 bits (for an int) or 64 bits (for a long).
     InvalidNumber { place: usize },
-    /// A boolean's byte is over 1.
+    /// A boolean is neither 0 nor 1.
     InvalidBoolean { place: usize },
-    /// The content of a string or a key is not UTF-8.
+    /// A string or a map key is not UTF-8.
     InvalidText { place: usize },
-    /// There is no such branch or symbol.
+    /// An index is not that of a branch or a symbol.
     UnknownIndex { place: usize },
-    /// A length or a block's size is negative, or a count is the smallest long.
+    /// A length or a block's size is negative, or a block's count is the smallest long.
     InvalidLength { place: usize },
-    /// A block's size is not that of its items.
+    /// A block's items do not have the size that its head gives.
     WrongBlockSize { place: usize },
-    /// A key occurs twice in one map; the place is that of the second key.
+    /// A key occurs twice in a map; `place` is the second occurrence.
     DuplicateKey { place: usize },
     /// A limit is exceeded.
     LimitExceeded,
@@ -39,7 +39,7 @@ impl From<AllocError> for ReadError {
 }
 
 impl ReadError {
-    /// The code that is shown, and the place, if there is one.
+    /// The code to display, and the offset if there is one.
     fn shown(self) -> (&'static str, Option<usize>) {
         match self {
             ReadError::EndOfInput { place } => ("B1", Some(place)),

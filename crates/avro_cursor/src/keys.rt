@@ -6,9 +6,10 @@ use std::alloc::{AllocError, Global};
 use std::collections::BTreeSet;
 use std::marker::Model;
 
-/// The keys of a map that were read so far.
+/// The keys of a map that have been read so far.
 ///
-/// The first few stand by themselves, and take no memory. The others are a tree in byte order: no choice of keys makes a look-up slow.
+/// Up to three are stored inline, without allocation. The others are in a tree in byte order, so that no choice of keys
+/// makes a lookup slow.
 #[derive(Drop)]
 pub struct Keys<'a> {
     first: Option<&'a [u8]>,
@@ -47,7 +48,7 @@ impl<'a> Keys<'a> {
     ///
     /// # Errors
     ///
-    /// Memory ran out; the keys are as before.
+    /// Memory ran out; the keys are unchanged.
     pub fn add(&mut self, key: &'a [u8]) -> Result<bool, AllocError>
         ensures is_new { IfOk result (λ is_new. is_new ≡ not (set.contains self.old key.now)) }
         ensures added { OnOk result (self.new ≡ set.insert self.old key.now) }
@@ -68,7 +69,7 @@ impl<'a> Keys<'a> {
     }
 }
 
-/// Whether there is no third key, and none beside the first three.
+/// Whether an inline slot is free and the tree is empty.
 #[inline(always)]
 fn is_free(third: Option<&[u8]>, keys: &BTreeSet<&[u8]>) -> bool
     ensures third { result ≡ true → third.entry ≡ None }
@@ -80,7 +81,7 @@ fn is_free(third: Option<&[u8]>, keys: &BTreeSet<&[u8]>) -> bool
     }
 }
 
-/// Whether a key is one of three.
+/// Whether `key` is one of the inline keys.
 #[inline(always)]
 fn is_among(first: Option<&[u8]>, second: Option<&[u8]>, third: Option<&[u8]>, key: &[u8]) -> bool
     ensures { (keys : KeySet) → set.contains (with_key first.entry (with_key second.entry (with_key third.entry keys))) key.now ≡ (result || set.contains keys key.now) }
@@ -96,7 +97,7 @@ fn is_among(first: Option<&[u8]>, second: Option<&[u8]>, third: Option<&[u8]>, k
     is_key(third, key)
 }
 
-/// Whether a key is this one, if there is one.
+/// Whether `kept` is this key.
 #[inline(always)]
 fn is_key(kept: Option<&[u8]>, key: &[u8]) -> bool
     ensures { (keys : KeySet) → set.contains (with_key kept.entry keys) key.now ≡ (result || set.contains keys key.now) }

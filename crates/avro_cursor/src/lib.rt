@@ -1,7 +1,7 @@
-//! A cursor over the binary encoding of data (Avro 1.11, "Binary Encoding"): each call reads one
-//! element, in place, or returns the element's fault with its offset.
+//! A cursor over the binary encoding of data (Avro 1.11, "Binary Encoding"). Each call reads one
+//! element in place, or returns its fault and the offset of the fault.
 //!
-//! The definitions of encodings and of the first fault of bytes are in `specs/`.
+//! `specs/` defines the encodings, and the first fault of bytes that are not one.
 #![tactic(auto)]
 
 mod block;

@@ -6,10 +6,10 @@ ghost use Rattle.std.specs.Prelude.{◌≡◌, ◌≢◌, ℕ, ◌+◌, ◌%◌,
 #[derive(Clone, Copy, Debug, PartialEq, Eq)]
 pub struct DeviceFault;
 
-/// Gives the bytes of a file in order.
+/// Supplies the bytes of a file in order.
 ///
-/// An implementation says by a relation which bytes a call has moved, where the end was reported, and how many calls have
-/// failed.
+/// An implementation defines which bytes were taken between two states, whether the end was reported, and how many calls
+/// have failed.
 pub trait Input {
     /// These bytes were taken between two states.
     ghost gives: { Self → List ℕ → Self → Type 0 };
@@ -17,14 +17,14 @@ pub trait Input {
     /// The last call reported the end.
     ghost ended: { Self → Type 0 };
 
-    /// The number of failed calls, in 64 bits that wrap.
+    /// The number of failed calls, modulo 2^64.
     ghost failures: { Self → ℕ };
 
-    /// Takes some bytes, into the front of the buffer. No bytes, for a buffer that is not empty, is the end.
+    /// Takes some bytes into the front of the buffer, and returns how many. If the buffer is not empty, 0 means the end.
     ///
     /// # Errors
     ///
-    /// The device failed. It may have taken bytes that are lost, at most as many as the buffer has.
+    /// The device failed. Some bytes may be lost, at most as many as the buffer holds.
     fn take(&mut self, buffer: &mut [u8]) -> Result<usize, DeviceFault>
         ensures within { IfOk result (λ n. n ≤ length buffer.new) }
         ensures taken { IfOk result (λ n. gives self.old (take n buffer.new) self.new) }
@@ -35,7 +35,7 @@ pub trait Input {
         ensures counts { OnErr result (failures self.new ≡ (failures self.old + 1) % 2 ^ 64) }
         ensures lost { OnErr result ((bytes : List ℕ) × gives self.old bytes self.new × (length bytes ≤ length buffer.new)) };
 
-    /// Without a call no bytes are taken; those of two runs of calls are joined.
+    /// With no call, no bytes are taken; the bytes of successive calls are concatenated.
     ghost none: { (s : Self) → gives s [] s };
 
     ghost chain: { (s t u : Self) (front back : List ℕ) → gives s front t → gives t back u → gives s (front ++ back) u };
@@ -43,8 +43,8 @@ pub trait Input {
 
 /// Takes the bytes of a file in order.
 ///
-/// An implementation says by a relation which bytes a call has put, whether the last call was a flush that succeeded, and how
-/// many calls have failed.
+/// An implementation defines which bytes were put between two states, whether the last call was a successful flush, and
+/// how many calls have failed.
 pub trait Output {
     /// These bytes were put between two states.
     ghost keeps: { Self → List ℕ → Self → Type 0 };
@@ -52,17 +52,17 @@ pub trait Output {
     /// The last call took none of the bytes.
     ghost stuck: { Self → Type 0 };
 
-    /// The last call was a flush that succeeded.
+    /// The last call was a successful flush.
     ghost flushed: { Self → Type 0 };
 
-    /// The number of failed calls, in 64 bits that wrap.
+    /// The number of failed calls, modulo 2^64.
     ghost failures: { Self → ℕ };
 
-    /// Puts some of the bytes, from the first on.
+    /// Puts a prefix of the bytes, and returns its length.
     ///
     /// # Errors
     ///
-    /// The device failed, and none was put.
+    /// The device failed, and nothing was put.
     fn put(&mut self, bytes: &[u8]) -> Result<usize, DeviceFault>
         ensures within { IfOk result (λ n. n ≤ length bytes.now) }
         ensures put { IfOk result (λ n. keeps self.old (take n bytes.now) self.new) }
@@ -74,7 +74,7 @@ pub trait Output {
         ensures fails { OnErr result (failures self.new ≢ failures self.old) }
         ensures counts { OnErr result (failures self.new ≡ (failures self.old + 1) % 2 ^ 64) };
 
-    /// Flushes what the device holds back, if anything.
+    /// Flushes whatever the device has buffered.
     ///
     /// # Errors
     ///
@@ -87,7 +87,7 @@ pub trait Output {
         ensures fails { OnErr result (failures self.new ≢ failures self.old) }
         ensures counts { OnErr result (failures self.new ≡ (failures self.old + 1) % 2 ^ 64) };
 
-    /// Without a call no bytes are put; those of two runs of calls are joined.
+    /// With no call, no bytes are put; the bytes of successive calls are concatenated.
     ghost none: { (s : Self) → keeps s [] s };
 
     ghost chain: { (s t u : Self) (front back : List ℕ) → keeps s front t → keeps t back u → keeps s (front ++ back) u };

@@ -1,7 +1,7 @@
 //! What a file is read from and written to.
 //!
-//! An [`Input`] gives the bytes of a file in order, and an [`Output`] takes them. [`ReadInput`] and [`WriteOutput`] are any
-//! reader and any writer; [`put_all`] puts all of some bytes.
+//! An [`Input`] supplies the bytes of a file in order, and an [`Output`] takes them. [`ReadInput`] and [`WriteOutput`]
+//! adapt any reader and any writer; [`put_all`] puts a whole slice.
 #![tactic(auto)]
 
 mod device;

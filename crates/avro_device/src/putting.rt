@@ -1,15 +1,15 @@
-//! Putting all of some bytes.
+//! Putting a whole slice.
 
 ghost use Rattle.std.specs.Prelude.{◌≡◌, ◌≢◌, ◌⊎◌, OnOk, OnErr};
 ghost use Rattle.avro_device.specs.PutFront.{PutsFrontOf};
 
 use crate::device::{DeviceFault, Output};
 
-/// Puts all of the bytes, in as many calls as the output takes.
+/// Puts all of `bytes`, in as many calls as it takes.
 ///
 /// # Errors
 ///
-/// The device failed, or took none of the bytes. A prefix of the bytes was put.
+/// The device failed, or took none of the bytes. A prefix of `bytes` was put.
 pub fn put_all<O: Output>(output: &mut O, bytes: &[u8]) -> Result<(), DeviceFault>
     ensures put { OnOk result (O.keeps output.old bytes.now output.new) }
     ensures works { OnOk result (O.failures output.new ≡ O.failures output.old) }

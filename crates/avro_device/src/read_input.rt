@@ -1,4 +1,4 @@
-//! Any reader as an input.
+//! An input over any reader.
 
 ghost use Rattle.std.specs.Prelude.{◌≡◌, true};
 ghost use Rattle.std.specs.Io.KnownBytes.{Consumes, IsAtEnd};
@@ -7,7 +7,7 @@ ghost use Rattle.avro_device.specs.inside.DeviceLaws.{consumes_none, consumes_ch
 use crate::device::{DeviceFault, Input};
 use std::io::Read;
 
-/// A reader, each error of which is a failure of the device.
+/// An input over a reader. Each error of the reader is a failure of the device.
 #[derive(Drop)]
 pub struct ReadInput<R> {
     reader: R,
@@ -17,7 +17,7 @@ pub struct ReadInput<R> {
 }
 
 impl<R: Read> ReadInput<R> {
-    /// The input that the reader is.
+    /// An input over this reader.
     pub fn new(reader: R) -> ReadInput<R>
         ensures reader { result.reader ≡ reader }
     {

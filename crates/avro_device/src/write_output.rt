@@ -1,4 +1,4 @@
-//! Any writer as an output.
+//! An output over any writer.
 
 ghost use Rattle.std.specs.Prelude.{◌≡◌, true};
 ghost use Rattle.std.specs.Io.KnownBytes.{Appends};
@@ -7,19 +7,19 @@ ghost use Rattle.avro_device.specs.inside.DeviceLaws.{appends_none, appends_chai
 use crate::device::{DeviceFault, Output};
 use std::io::Write;
 
-/// A writer, each error of which is a failure of the device.
+/// An output over a writer. Each error of the writer is a failure of the device.
 #[derive(Drop)]
 pub struct WriteOutput<W> {
     writer: W,
     failures: u64,
     // the last put took none of the bytes
     stuck: bool,
-    // the last call was a flush that succeeded
+    // the last call was a successful flush
     flushed: bool,
 }
 
 impl<W: Write> WriteOutput<W> {
-    /// The output that the writer is.
+    /// An output over this writer.
     pub fn new(writer: W) -> WriteOutput<W>
         ensures writer { result.writer ≡ writer }
     {

@@ -13,7 +13,7 @@ use avro_schema::{Datum, Field, Memory, Node, NodeId, Schema};
 use serde_json::{Map, Value};
 use std::alloc::Global;
 
-/// The display of a datum of a node: compact JSON text.
+/// Displays a datum of a node as compact JSON.
 ///
 /// # Errors
 ///
@@ -103,7 +103,7 @@ fn displayed_items(
     Ok(Value::from(trees))
 }
 
-/// The JSON object that displays keys with their values.
+/// The JSON object that displays the entries of a map.
 #[cycle(display)]
 fn displayed_entries(
     alloc: Global,
@@ -122,7 +122,7 @@ fn displayed_entries(
     Ok(Value::from(members))
 }
 
-/// The JSON object that displays the values of fields.
+/// The JSON object that displays the field values of a record.
 #[cycle(display)]
 #[tactic(auto, using(crate::proofs::DisplaySeen::fields_past))]
 fn displayed_fields(

@@ -17,7 +17,7 @@ pub(crate) fn copy_of_text(alloc: Global, text: &str) -> Result<String, Memory>
     Ok(String::from_str(alloc, text)?)
 }
 
-/// A text of one character for each byte, whose code is the byte's value.
+/// A string with one character per byte, whose code point is the byte's value.
 pub(crate) fn bytes_text(alloc: Global, bytes: &[u8]) -> Result<String, Memory>
     ensures { IfOk result (λ text. string_bytes text ≡ encode_utf8_all bytes.now) }
 {
@@ -28,7 +28,7 @@ pub(crate) fn bytes_text(alloc: Global, bytes: &[u8]) -> Result<String, Memory>
     Ok(text)
 }
 
-/// The symbol of an enum at an index, or the empty text where there is none.
+/// The symbol of an enum at an index; empty if there is none.
 pub(crate) fn symbol_text(alloc: Global, node: &Node, index: u32) -> Result<String, Memory>
     ensures { IfOk result (λ text. string_bytes text ≡ symbol_at (node_of node.now) index) }
 {
@@ -41,7 +41,7 @@ pub(crate) fn symbol_text(alloc: Global, node: &Node, index: u32) -> Result<Stri
     }
 }
 
-/// A fullname as a text.
+/// A fullname as text.
 fn full_text(alloc: Global, name: &FullName) -> Result<String, Memory>
     ensures { IfOk result (λ text. string_bytes text ≡ name_text name.now) }
 {
@@ -75,7 +75,7 @@ fn branch_key(alloc: Global, node: &Node) -> Result<String, Memory>
     }
 }
 
-/// Inserts a value among members under a key.
+/// Adds a member to an object.
 pub(crate) fn put_member(
     alloc: Global,
     members: &mut Map<String, Value>,
@@ -89,14 +89,14 @@ pub(crate) fn put_member(
     Ok(())
 }
 
-/// Whether a node is that of null.
+/// Whether a node is null.
 fn is_null(node: &Node) -> bool
     ensures { result ≡ is_null_node (node_of node.now) }
 {
     matches!(node, Node::Null)
 }
 
-/// The value of a branch under the branch's key; null has no key.
+/// The value of a branch, under the branch's key unless it is null.
 pub(crate) fn labelled(alloc: Global, node: &Node, tree: Value) -> Result<Value, Memory>
     ensures { IfOk result (λ labelled. view labelled ≡ branch_tree (node_of node.now) (view tree)) }
 {

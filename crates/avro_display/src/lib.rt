@@ -1,7 +1,7 @@
-//! The display of data: compact JSON text, as `serde_json` writes it.
+//! Displaying data as compact JSON, as `serde_json` writes it.
 //!
-//! It is this project's own form and not part of the Avro specification: the value of a union is
-//! under the key of its branch, except for null, and bytes are a text of one character per byte.
+//! The form is this project's own, not part of the Avro specification: the value of a union is an object
+//! whose key is its branch, except for null, and bytes are a string of one character per byte.
 #![tactic(auto)]
 
 mod display;

@@ -6,7 +6,7 @@ ghost use Rattle.avro_display.specs.DisplayTree.{part_at, record_fields};
 
 use avro_schema::{Field, Node, NodeId, Schema};
 
-/// The node of an id, or the given node, that of null, where there is none.
+/// The node with this id, or the given null node if there is no id.
 pub(crate) fn part<'a>(schema: &'a Schema, null: &'a Node, id: Option<NodeId>) -> &'a Node
     requires { node_of null.now ≡ NullNode }
     ensures { node_of result.now ≡ part_at (schema_nodes schema.now) (option_map (λ id. id.0) id) }
@@ -17,7 +17,7 @@ pub(crate) fn part<'a>(schema: &'a Schema, null: &'a Node, id: Option<NodeId>) -
     }
 }
 
-/// The fields of a record; another node has none.
+/// The fields of a record; none for other nodes.
 pub(crate) fn node_fields(node: &Node) -> &[Field]
     ensures { seen_fields result.now ≡ record_fields (node_of node.now) }
 {

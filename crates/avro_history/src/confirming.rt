@@ -14,9 +14,9 @@ use avro_judge::{Approved, Certificate, confirm};
 use avro_schema::{Memory, Schema};
 use std::alloc::Global;
 
-/// Approves a reader's schema for several writers' by a history: there are approvals exactly when
-/// there is a certificate for each writer, in order, and each is closed. Whoever made the history, no
-/// datum of any of the writers' then fails.
+/// Approves a reader's schema for several writers' schemas by a history, if and only if it has a
+/// certificate for each writer, in order, and each is closed. No datum of any writer's then fails,
+/// whoever made the history.
 ///
 /// # Errors
 ///
@@ -51,7 +51,7 @@ pub fn confirm_history<'a>(
     Ok(Some(approvals))
 }
 
-/// Approves two schemas by a certificate, as `confirm` does; no datum of the writer's then fails.
+/// Approves two schemas by a certificate, as `confirm` does. No datum of the writer's then fails.
 fn confirm_one<'a>(
     alloc: Global,
     writer: &'a Schema,
@@ -66,7 +66,7 @@ fn confirm_one<'a>(
     ensures of_these { IfOk result (λ o. IfSome o (λ a. a ≡ (writer.now, reader.now))) }
 {
     closed_is_compatible();
-    // Its contract says that the schema is well formed, which the proof asks for.
+    // Only the contract of this call matters here: the schema is well formed.
     let _ = reader.len();
     confirm(alloc, writer, reader, certificate)
 }

@@ -4,7 +4,7 @@ use avro_judge::{CertError, Certificate};
 use avro_schema::Memory;
 use std::alloc::Global;
 
-/// Certificates, in the order of the writers' schemas that they are for.
+/// Certificates, in the order of their writers' schemas.
 #[derive(Debug, Drop)]
 pub struct HistoryCert {
     certificates: Vec<Certificate>,
@@ -17,7 +17,7 @@ impl HistoryCert {
     ghost use Rattle.avro_history.specs.HistoryRead.{Refuses, UnlessOutOfMemory};
     ghost use Rattle.avro_history.specs.SeenHistory.{set_of, sets_of};
 
-    /// The history of certificates, however many there are.
+    /// The history of any number of certificates.
     pub fn new(certificates: Vec<Certificate>) -> HistoryCert
         ensures { sets_of result ≡ map set_of certificates.items }
     {
@@ -28,13 +28,13 @@ impl HistoryCert {
     ///
     /// # Errors
     ///
-    /// `NumberTooLarge` where the lines are those of a history but for numbers over 4,095, however
-    /// long; `Malformed` for any other text; `OutOfMemory`.
+    /// `NumberTooLarge` if the lines are those of a history except for numbers over 4,095, however long;
+    /// `Malformed` for any other text; `OutOfMemory`.
     pub fn read(alloc: Global, text: &[u8]) -> Result<HistoryCert, CertError>
-        // The history is the text's.
+        // The result is the history with this text.
         ensures found { IfOk result (λ h. HistoryText (sets_of h) text.now) }
         ensures small { IfOk result (λ h. all_small (sets_of h) ≡ true) }
-        // Each text of numbers up to 4,095 is read.
+        // Each history's text with numbers up to 4,095 is read.
         ensures complete { (sets : List Sets) → HistoryText sets text.now → all_small sets ≡ true
             → UnlessOutOfMemory result (λ h. sets_of h ≡ sets) }
         // A refusal says what is wrong with the text.
@@ -47,7 +47,7 @@ impl HistoryCert {
         Ok(HistoryCert { certificates })
     }
 
-    /// The text, which [`HistoryCert::read`] reads again.
+    /// The text, which [`HistoryCert::read`] reads back.
     ///
     /// # Errors
     ///

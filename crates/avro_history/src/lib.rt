@@ -1,8 +1,8 @@
-//! Histories: one certificate for each of several writers' schemas, all against one reader's schema,
-//! in one text.
+//! Histories: one text with a certificate for each of several writers' schemas, all for the same
+//! reader's schema.
 //!
-//! [`confirm_history`] approves the reader's schema for all of the writers' by such a history, whoever
-//! made it.
+//! [`confirm_history`] approves the reader's schema for all the writers' schemas by such a history,
+//! whoever made it.
 #![tactic(auto)]
 
 mod confirming;

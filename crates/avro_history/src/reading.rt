@@ -11,15 +11,15 @@ use crate::cutting::split_certificate;
 use avro_judge::{CertError, Certificate};
 use std::alloc::Global;
 
-/// What follows a line at the front of a text.
+/// The text after the line that it starts with.
 pub(crate) fn after<'a>(text: &'a [u8], line: &[u8]) -> Option<&'a [u8]>
     ensures { MatchOption result ((rest : List ℕ) → text.now ≢ line.now ++ rest) (λ rest. text.now ≡ line.now ++ rest.now) }
 {
     text.strip_prefix(line)
 }
 
-/// The certificates of a text that ends with a line `end` of its own. A number that is too large is reported
-/// only if the whole text has its form.
+/// Reads certificates up to a line `end` that does not belong to any of them, which must end the text. A
+/// number that is too large is reported only if the whole text has the right form.
 pub(crate) fn read_certificates(alloc: Global, text: &[u8]) -> Result<Vec<Certificate>, CertError>
     ensures found { IfOk result (λ v. AreLines (map set_of v.items) text.now) }
     ensures small { IfOk result (λ v. all_small (map set_of v.items) ≡ true) }

@@ -9,7 +9,7 @@ use avro_judge::Certificate;
 use avro_schema::Memory;
 use std::alloc::Global;
 
-/// Appends the text of the history of certificates.
+/// Appends the text of the history of these certificates.
 pub(crate) fn write_history(
     alloc: Global,
     text: &mut Vec<u8>,

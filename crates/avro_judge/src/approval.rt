@@ -5,8 +5,9 @@ use avro_schema::{Limits, Memory, Schema};
 use std::alloc::Global;
 use std::marker::Model;
 
-/// Two schemas of which every datum of the first resolves into the second, with a plan of reading that
-/// keeps the pairs of nodes that the roots lead to, and the certificate if it was made. Contracts see the two schemas.
+/// Two schemas such that every datum of the first resolves into the second, with a plan for reading that
+/// has the pairs of nodes that the roots lead to, and the certificate if it was made. Contracts see the two
+/// schemas.
 #[derive(Drop)]
 pub struct Approved<'a> {
     writer: &'a Schema,
@@ -53,8 +54,8 @@ impl<'a> Approved<'a> {
     ghost use Rattle.avro_certificate.specs.Compatible.{AreCompatible};
     ghost use Rattle.avro_judge.specs.inside.Judged.{IsCertificateOf};
 
-    /// The approval of two compatible schemas, by what was found by names of pairs of their nodes, and with their
-    /// certificate if it was made.
+    /// The approval of two compatible schemas, from comparisons of pairs of their nodes, and their certificate
+    /// if it was made.
     ///
     /// # Errors
     ///
@@ -80,12 +81,12 @@ impl<'a> Approved<'a> {
         })
     }
 
-    /// Reads a datum of the writer's from the front of bytes, and returns what a builder builds of
-    /// what it is for the reader, with the length of its encoding.
+    /// Reads a writer's datum from the start of some bytes and resolves it; returns what the builder makes of
+    /// the reader's datum, and the length of the encoding.
     ///
     /// # Errors
     ///
-    /// The first fault of the bytes, and none of resolution; `OutOfMemory`.
+    /// The first fault of the bytes, never one of resolution; `OutOfMemory`.
     pub fn read<B: Build>(
         &self,
         alloc: Global,
@@ -93,15 +94,15 @@ impl<'a> Approved<'a> {
         limits: &Limits,
         builder: &mut B,
     ) -> Result<(B::Out, usize), ReadError>
-        // If the bytes begin with an encoding of a writer's datum within limits, whatever follows it, the answer stands for
-        // what resolution gives of the datum, and has that encoding's length.
+        // If the bytes start with an encoding of a writer's datum within the limits, whatever follows, the result stands for
+        // what the datum resolves to, and the length is the encoding's.
         ensures begins { (v : Value) (front rest : List ℕ) → Encodes (schema_nodes self.now.0) (root_of (schema_nodes self.now.0)) v front
             → is_within limits.now v ≡ true → bytes.now ≡ front ++ rest
             → UnlessOutOfMemory result (IsOkAnd result (λ r.
             (u : Value) × B.stands_for r.0 u × (resolve_root (schema_nodes self.now.0) (schema_nodes self.now.1) v ≡ Ok u) × (r.1 ≡ length front))) }
         // There is no other result.
         ensures found { IfOk result (λ r. (u : Value) × B.stands_for r.0 u × ReadsAs (schema_nodes self.now.0) (schema_nodes self.now.1) limits.now bytes.now r.1 (Ok u)) }
-        // An error reports the first fault of the bytes, and each fault is reported.
+        // An error is the first fault of the bytes, and each fault is reported.
         ensures refused { IfErr result (λ e. IfSome (read_fault e) (Breaks (schema_nodes self.now.0) limits.now (root_of (schema_nodes self.now.0)) bytes.now)) }
         ensures breaks { (fault : ReadFault) → Breaks (schema_nodes self.now.0) limits.now (root_of (schema_nodes self.now.0)) bytes.now fault
             → UnlessOutOfMemory result (Reports result fault) }
@@ -113,7 +114,7 @@ impl<'a> Approved<'a> {
         }
     }
 
-    /// The writer's schema and the reader's.
+    /// The writer's and the reader's schema.
     pub(crate) fn schemas(&self) -> (&'a Schema, &'a Schema)
         ensures these { self.now ≡ (result.0.now, result.1.now) }
         ensures compatible { AreCompatible (schema_nodes self.now.0) (schema_nodes self.now.1) }

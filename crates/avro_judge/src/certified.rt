@@ -13,14 +13,14 @@ impl<'a> Approved<'a> {
     ghost use Rattle.avro_certificate.specs.Evidence.{IsEvidence};
     ghost use Rattle.avro_certificate.specs.SeenCertificate.{dead_of, pairs_in};
 
-    /// The certificate of the two schemas, by which [`confirm`](crate::confirm) approves them again. It
+    /// The certificate of the two schemas, with which [`confirm`](crate::confirm) approves them again. It
     /// depends on the schemas alone.
     ///
     /// # Errors
     ///
     /// Memory ran out.
     pub fn certificate(&self, alloc: Global) -> Result<Certificate, Memory>
-        // All nodes of the writer's schema that no datum has, and the pairs that the roots lead to, no others.
+        // It has exactly the writer's nodes that have no datum and the pairs that the roots lead to.
         ensures evidence { IfOk result (λ c. IsEvidence (schema_nodes self.now.0) (schema_nodes self.now.1) (dead_of c) (pairs_in c)) }
         // It shows that the schemas are compatible.
         ensures confirmed { IfOk result (λ c. is_closed (schema_nodes self.now.0) (schema_nodes self.now.1) (dead_of c) (pairs_in c) ≡ true) }

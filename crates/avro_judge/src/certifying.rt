@@ -1,4 +1,4 @@
-//! The certificate of two compatible schemas, made of the tables of judging.
+//! The certificate of two compatible schemas, made from the tables of judging.
 
 ghost use Rattle.std.specs.Prelude.{◌≡◌, ◌*◌, ◌++◌, ◌∷◌, ℕ, true, [], cond, length, is_none, nat_lt, IfOk, OnOk};
 ghost use Rattle.std.specs.List.{list_all};
@@ -18,7 +18,7 @@ use avro_schema::{Memory, NodeId, Schema};
 use indexmap::IndexSet;
 use std::alloc::Global;
 
-/// Adds the id of a node without an entry.
+/// Appends a node's id if the table has no entry for it.
 fn add_dead(dead: &mut Vec<u32>, table: &[Option<Least>], id: u32) -> Result<(), Memory>
     ensures { OnOk result (dead.new.items ≡ dead.old.items ++ cond (is_none (table_of table.now id)) (id ∷ []) []) }
 {
@@ -29,7 +29,7 @@ fn add_dead(dead: &mut Vec<u32>, table: &[Option<Least>], id: u32) -> Result<(),
     Ok(())
 }
 
-/// The ids of the nodes without an entry, rising.
+/// The ids of the nodes without an entry, in increasing order.
 fn dead_ids(alloc: Global, table: &[Option<Least>], count: u32) -> Result<Vec<u32>, Memory>
     ensures { IfOk result (λ d. d.items ≡ dead_below (table_of table.now) count) }
 {
@@ -40,7 +40,7 @@ fn dead_ids(alloc: Global, table: &[Option<Least>], count: u32) -> Result<Vec<u3
     Ok(dead)
 }
 
-/// The keys, rising.
+/// The keys in increasing order.
 fn sorted_keys(alloc: Global, known: &IndexSet<u64>) -> Result<Vec<u64>, Memory>
     ensures same { IfOk result (λ n. (k : ℕ) → is_key n.items k ≡ is_key (keys known.now) k) }
     ensures rising { IfOk result (λ n. is_rising nat_lt n.items ≡ true) }
@@ -50,7 +50,7 @@ fn sorted_keys(alloc: Global, known: &IndexSet<u64>) -> Result<Vec<u64>, Memory>
     Ok(numbers)
 }
 
-/// The pairs of some numbers.
+/// The pairs that some numbers stand for.
 fn pairs_of_numbers(
     alloc: Global,
     writer: &Schema,
@@ -71,7 +71,7 @@ fn pairs_of_numbers(
     Ok(pairs)
 }
 
-/// The pairs that were reached, rising.
+/// The pairs that were reached, in increasing order.
 fn reached_pairs(
     alloc: Global,
     writer: &Schema,
@@ -85,7 +85,7 @@ fn reached_pairs(
     pairs_of_numbers(alloc, writer, reader, &numbers)
 }
 
-/// The certificate of tables by which no datum errs.
+/// The certificate, made from tables in which no datum errs.
 pub(crate) fn certificate_of(
     alloc: Global,
     writer: &Schema,
@@ -99,7 +99,7 @@ pub(crate) fn certificate_of(
         → IsSteppedTo (steps_at (schema_nodes writer.now) (schema_nodes reader.now) (table_of table.now)) k }
     ensures { IfOk result (IsCertificateOf (schema_nodes writer.now) (schema_nodes reader.now)) }
 {
-    // The contract of this call bounds the number of nodes, which the proof needs.
+    // Only the contract of this call matters here: it bounds the number of nodes.
     let _ = count(reader);
     let dead = dead_ids(alloc, table, count(writer))?;
     if entry(table, NodeId(0)).is_none() {

@@ -9,9 +9,9 @@ use avro_certificate::{Certificate, find_closed};
 use avro_schema::{Memory, Schema};
 use std::alloc::Global;
 
-/// Approves two schemas by a certificate: there is an approval exactly when each number is that of a
-/// node of its schema, and the two sets are closed. Whoever made the certificate, no datum of the
-/// writer's then fails.
+/// Approves two schemas by a certificate, if and only if each number in it is that of a node of its
+/// schema and the two sets are closed. No datum of the writer's then fails, whoever made the
+/// certificate.
 ///
 /// The approval reads by a plan of the certificate's pairs.
 ///
@@ -30,7 +30,7 @@ pub fn confirm<'a>(
         (is_closed (schema_nodes writer.now) (schema_nodes reader.now) (dead_of certificate.now) (pairs_in certificate.now) ≡ false)) }
     ensures of_these { IfOk result (λ o. IfSome o (λ a. a ≡ (writer.now, reader.now))) }
 {
-    // Its contract says that the schema is well formed, which the proof asks for.
+    // Only the contract of this call matters here: the schema is well formed.
     let _ = reader.len();
     match find_closed(alloc, writer, reader, certificate)? {
         Some(found) => {

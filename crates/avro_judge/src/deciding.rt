@@ -1,4 +1,4 @@
-//! What the tables decide of two schemas.
+//! Deciding by the tables.
 
 ghost use Rattle.std.specs.Prelude.{◌≡◌, ◌≤◌, ◌*◌, ℕ, true, length, nat_lt, IfOk};
 ghost use Rattle.std.specs.List.{list_all};
@@ -21,20 +21,20 @@ use avro_resolve::Comparison;
 use avro_schema::{Datum, Memory, NodeId, Schema};
 use std::alloc::Global;
 
-/// What is decided of two schemas.
+/// What is decided about two schemas.
 #[derive(Debug, Drop)]
 pub(crate) enum Judged {
-    /// No datum errs; the certificate.
+    /// No datum errs. This is the certificate.
     Compatible(Certificate),
     /// Each datum that errs has more nodes than the limit.
     Size,
-    /// Each least datum that errs is too deep.
+    /// Each of the smallest data that err is deeper than the limit.
     Depth,
-    /// A least datum that errs, within both limits.
+    /// A smallest datum that errs, within both limits.
     Erring(Datum),
 }
 
-/// What the entry of the roots says.
+/// What the entry of the roots decides.
 fn judge_roots(
     alloc: Global,
     writer: &Schema,
@@ -59,7 +59,7 @@ fn judge_roots(
     requires found { AreComparisons (schema_nodes writer.now) (schema_nodes reader.now) reached.now.found.items }
     ensures { IfOk result (λ j. IsJudged (schema_nodes writer.now) (schema_nodes reader.now) limit deepest j) }
 {
-    // The contract of this call bounds the number of nodes, which the proof needs.
+    // Only the contract of this call matters here: it bounds the number of nodes.
     let _ = count(writer);
     let count = count(reader);
     let root = NodeId(0);
@@ -90,8 +90,8 @@ fn judge_roots(
     }
 }
 
-/// Decides whether some datum of the writer's errs, and finds a least one that does; with what was found by
-/// names of the pairs of nodes that the roots lead to.
+/// Decides whether some datum of the writer's errs, and finds a smallest one that does. Also returns the
+/// comparisons of the pairs of nodes that the roots lead to.
 pub(crate) fn decide(
     alloc: Global,
     writer: &Schema,
@@ -112,7 +112,8 @@ pub(crate) fn decide(
     Ok((judged, reached.found))
 }
 
-/// The certificate of two compatible schemas. Only whether a datum errs matters, so the least limits do.
+/// The certificate of two compatible schemas. The smallest limits suffice, as it only matters whether a
+/// datum errs.
 #[tactic(auto, using(crate::proofs::Exclusive::not_above, crate::proofs::Exclusive::not_deep, crate::proofs::Exclusive::not_least))]
 pub(crate) fn certify(
     alloc: Global,

@@ -16,12 +16,12 @@ use avro_resolve::{Comparison, Fault, PlanTable, ReadResolveError, ResolveError,
 use avro_schema::{Datum, Limits, Memory, Schema};
 use std::alloc::Global;
 
-/// The plain encoding of a datum of the writer's.
+/// The plain encoding of a writer's datum.
 fn encoded(alloc: Global, writer: &Schema, datum: &Datum) -> Result<Vec<u8>, Memory>
     requires { fits (schema_nodes writer.now) (root_of (schema_nodes writer.now)) (value_of datum.now) ≡ true }
     ensures { IfOk result (λ bytes. Encodes (schema_nodes writer.now) (root_of (schema_nodes writer.now)) (value_of datum.now) bytes.items) }
 {
-    // The law that a plain encoding is an encoding.
+    // Law: a plain encoding is an encoding.
     plain_encodes();
     let mut bytes = Vec::new(alloc);
     match encode(alloc, writer, writer.root(), datum, &mut bytes) {
@@ -31,7 +31,7 @@ fn encoded(alloc: Global, writer: &Schema, datum: &Datum) -> Result<Vec<u8>, Mem
     }
 }
 
-/// The fault of a datum that errs, found while the whole datum is resolved.
+/// The fault of a datum that errs, found by resolving the datum as a whole.
 fn resolved_fault(
     alloc: Global,
     writer: &Schema,
@@ -48,9 +48,9 @@ fn resolved_fault(
     }
 }
 
-/// The fault of a datum that errs, by what was found by names of pairs of nodes. It is found while the datum's
-/// encoding is read, so that nothing is made of the reader's datum, which may have far more nodes. Only a datum with
-/// contents over the limits is resolved as a whole.
+/// The fault of a datum that errs, given comparisons of pairs of nodes. It is found by reading the datum's encoding, so
+/// that the reader's datum, which may have far more nodes, is not built. Only a datum with contents over the limits is
+/// resolved as a whole.
 ///
 /// # Errors
 ///
@@ -67,7 +67,7 @@ pub(crate) fn fault_of_datum(
     requires found { AreComparisons (schema_nodes writer.now) (schema_nodes reader.now) found.items }
     ensures { IfOk result (λ f. ErrsWith (schema_nodes writer.now) (schema_nodes reader.now) (value_of datum.now) (fault_of f)) }
 {
-    // The law that no encoding begins another, by which the datum that is read is this one.
+    // Law: no encoding is a proper prefix of another, so the datum that is read is this one.
     prefix();
     let bytes = encoded(alloc, writer, datum)?;
     let table = PlanTable::of_one_read(alloc, writer, reader, found)?;

@@ -15,12 +15,12 @@ use crate::verdict::{Cause, Refutation, Verdict};
 use avro_schema::{Memory, Schema};
 use std::alloc::Global;
 
-/// Whether every datum of the writer's schema resolves into the reader's, of any size.
+/// Whether every datum of the writer's schema, of any size, resolves into the reader's.
 ///
-/// Up to the pair limit the two schemas are approved exactly when they are compatible; else a least
-/// datum that fails is returned, within the size and the depth limit, or the limit that none is
-/// within. Among least data the choice is by depth, then the first branch, symbol or field, which
-/// tests show.
+/// Up to the pair limit, the two schemas are approved if and only if they are compatible. Otherwise the
+/// result is a smallest datum that fails, within the size and depth limits, or the limit that no such
+/// datum is within. Among the smallest data it is the shallowest, then the one of the first branch,
+/// symbol or field, as tests show.
 ///
 /// # Errors
 ///
@@ -32,17 +32,17 @@ pub fn judge<'a>(
     reader: &'a Schema,
     limits: &JudgeLimits,
 ) -> Result<Verdict<'a>, Memory>
-    // The pair limit is passed exactly when the product of the numbers of nodes is over it.
+    // The cause is the pair limit if and only if the product of the two node counts exceeds it.
     ensures pairs { IfOk result (λ v. IsUndecided v Cause.Pairs
         ↔ (limits.now.pairs < length (schema_nodes writer.now) * length (schema_nodes reader.now))) }
 
-    // An approval is of these two schemas, and no datum of the writer's fails, of any size.
+    // An approval is of these two schemas, and no datum of the writer's, of any size, fails.
     ensures of_these { IfOk result (λ v. IfApproved v (λ a. a ≡ (writer.now, reader.now))) }
     ensures sound { IfOk result (λ v. IfApproved v (λ _. AreCompatible (schema_nodes writer.now) (schema_nodes reader.now))) }
     ensures complete { IfOk result (λ v. length (schema_nodes writer.now) * length (schema_nodes reader.now) ≤ limits.now.pairs
         → AreCompatible (schema_nodes writer.now) (schema_nodes reader.now) → IsApproved v) }
 
-    // The datum of a refutation is the writer's, and resolution gives it the stated fault.
+    // The datum of a refutation is one of the writer's, and resolving it gives the stated fault.
     ensures errs { IfOk result (λ v. IfRefuted v (λ r.
         ErrsWith (schema_nodes writer.now) (schema_nodes reader.now) (value_of r.datum) (fault_of r.fault))) }
     // No datum that fails has fewer nodes.
@@ -51,7 +51,7 @@ pub fn judge<'a>(
     ensures within { IfOk result (λ v. IfRefuted v (λ r.
         (size (value_of r.datum) ≤ limits.now.size) × (depth (value_of r.datum) ≤ limits.now.limits.depth))) }
 
-    // The other two causes, up to the pair limit and not past it.
+    // The other two causes, which occur only up to the pair limit.
     ensures size { IfOk result (λ v. (IsUndecided v Cause.Size
         ↔ ((length (schema_nodes writer.now) * length (schema_nodes reader.now) ≤ limits.now.pairs)
         × ErrsOnlyAbove (schema_nodes writer.now) (schema_nodes reader.now) limits.now.size))) }

@@ -1,4 +1,4 @@
-//! The headline in one place: what the clauses of a call say together.
+//! The headline in one place: what the clauses of the calls say together.
 
 ghost use Rattle.std.specs.Prelude.{IfOk};
 ghost use Rattle.avro_schema.specs.SeenSchema.{schema_nodes};
@@ -12,7 +12,7 @@ use avro_binary::{Build, ReadError};
 use avro_schema::{Limits, Memory, Schema};
 use std::alloc::Global;
 
-/// What [`judge`] returns is right, by its clauses alone.
+/// The result of [`judge`] is right, by its clauses alone.
 ///
 /// # Errors
 ///
@@ -28,11 +28,11 @@ pub fn judge_is_right<'a>(
     judge(alloc, writer, reader, limits)
 }
 
-/// What [`Approved::read`] returns is right, by its clauses alone.
+/// The result of [`Approved::read`] is right, by its clauses alone.
 ///
 /// # Errors
 ///
-/// The first fault of the bytes, and none of resolution; `OutOfMemory`.
+/// The first fault of the bytes, never one of resolution; `OutOfMemory`.
 pub fn approved_reads<B: Build>(
     approved: &Approved<'_>,
     alloc: Global,

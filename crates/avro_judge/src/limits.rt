@@ -1,8 +1,8 @@
 use avro_schema::Limits;
 use std::marker::Model;
 
-/// Limits of judging: the greatest product of the two numbers of nodes, the greatest number of nodes
-/// of a refuting datum, and limits of which the depth bounds that datum too.
+/// Limits on judging: on the product of the two node counts, on the number of nodes of a refuting datum,
+/// and limits on data, whose depth also bounds that datum.
 #[derive(Clone, Copy, Debug)]
 pub struct JudgeLimits {
     pairs: u32,
@@ -27,7 +27,7 @@ impl Default for JudgeLimits {
 
     ghost is_default = { λ l. l ≡ record { pairs = 4194304; size = 4096; limits = record { depth = 128; nodes = 1048576; blob = 16777216 } } };
 
-    /// 4,194,304 pairs of nodes, 4,096 nodes of a datum, and the default limits.
+    /// 4,194,304 pairs of nodes, 4,096 nodes in a refuting datum, and the default limits on data.
     fn default() -> JudgeLimits {
         JudgeLimits {
             pairs: 4_194_304,
@@ -44,7 +44,7 @@ impl JudgeLimits {
     /// The greatest pair limit.
     pub const MAX_PAIRS: u32 = 16_777_216;
 
-    /// Limits, or nothing if the pairs are 0 or too many, or the size is 0 or over `limits.nodes`.
+    /// Limits, or `None` if the pairs are 0 or too many, or the size is 0 or over `limits.nodes`.
     pub fn new(pairs: u32, size: u32, limits: Limits) -> Option<JudgeLimits>
         ensures { SomeIff result (AreJudgeLimits (record { pairs = pairs; size = size; limits = limits })) (record { pairs = pairs; size = size; limits = limits }) }
     {
@@ -61,7 +61,7 @@ impl JudgeLimits {
         }
     }
 
-    /// The greatest product of the two numbers of nodes.
+    /// The greatest product of the two node counts.
     pub fn pairs(&self) -> u32
         ensures pairs { result ≡ self.now.pairs }
         ensures in_range { AreJudgeLimits self.now }
@@ -77,7 +77,7 @@ impl JudgeLimits {
         self.size
     }
 
-    /// The limits of which the depth bounds a refuting datum.
+    /// The limits on data. Their depth bounds a refuting datum.
     pub fn limits(&self) -> Limits
         ensures limits { result ≡ self.now.limits }
         ensures in_range { AreJudgeLimits self.now }

@@ -9,8 +9,8 @@ use avro_resolve::{Fault, ResolveError, resolve};
 use avro_schema::{Datum, Memory, Schema, fits};
 use std::alloc::Global;
 
-/// The fault that a datum of the writer's has for the reader; none if it resolves, or if it is
-/// not a datum of the writer's.
+/// The fault of a writer's datum for the reader, or `None` if it resolves or is not a datum of the
+/// writer's.
 ///
 /// # Errors
 ///

@@ -2,18 +2,18 @@ use crate::approval::Approved;
 use avro_resolve::Fault;
 use avro_schema::Datum;
 
-/// What is known of a writer's schema and a reader's.
+/// The verdict on a writer's and a reader's schema.
 #[derive(Drop)]
 pub enum Verdict<'a> {
     /// Every datum of the writer's schema resolves.
     Approved(Approved<'a>),
-    /// A datum of the writer's schema does not.
+    /// A datum of the writer's schema does not resolve.
     Refuted(Refutation),
-    /// A limit was passed.
+    /// A limit was exceeded.
     Undecided(Cause),
 }
 
-/// A datum of the writer's schema that does not resolve, and why; none with fewer nodes fails.
+/// A datum of the writer's schema that does not resolve, and why. No datum with fewer nodes fails.
 #[derive(Debug, Drop)]
 pub struct Refutation {
     /// The datum.
@@ -25,10 +25,10 @@ pub struct Refutation {
 /// Why a pair of schemas is undecided.
 #[derive(Clone, Copy, Debug, PartialEq, Eq, Hash)]
 pub enum Cause {
-    /// The product of the two numbers of nodes is over the pair limit.
+    /// The product of the two node counts is over the pair limit.
     Pairs,
-    /// Data fail, and each that does has more nodes than the size limit.
+    /// Some data fail, but each of them has more nodes than the size limit.
     Size,
-    /// Data fail, and each least one that does is deeper than the depth limit.
+    /// Some data fail, but each of the smallest ones is deeper than the depth limit.
     Depth,
 }

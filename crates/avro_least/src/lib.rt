@@ -1,8 +1,20 @@
-//! Finds the least data of a writer's schema that fail for a reader's. Two tables hold the least data of each
-//! node, and the least data that fail at each pair of nodes that the roots lead to.
+//! Finds a smallest datum of a writer's schema that fails for a reader's. One table holds the size of a smallest
+//! datum of each node, another that of a smallest datum that fails at each pair of nodes that the roots lead to.
 //!
 //! [`least_data`] makes the first table, [`reach`] finds the pairs, and [`least_errors`] makes the second
 //! table. [`build_error`] builds a datum from them.
+//!
+//! # How the tables are made
+//!
+//! An entry is the fewest nodes, and among those the least depth, of a datum. Both tables are filled by Knuth's
+//! generalization of Dijkstra's algorithm to functions of several arguments: an entry is the cost of a node or a pair,
+//! the entries that may still fall are in a queue, and the least of them is settled. A settled entry lowers those of the
+//! pairs that lead to it, each through the one part that is this pair, with the smallest data of a record's other fields.
+//! So each part of each pair is looked at once.
+//!
+//! Two invariants hold: each entry is that of a datum, and a pair's entry is at most what each settled part gives. In the
+//! end all are settled, so no step lowers an entry, and by induction on the datum no failing datum is smaller than its
+//! pair's entry.
 #![tactic(auto)]
 
 mod datum;

@@ -1,4 +1,4 @@
-//! The tests of a text's characters.
+//! Which characters names may have.
 
 ghost use Rattle.std.specs.Prelude.{◌≡◌, true, OnOk, IsOk, IfErr};
 ghost use Rattle.std.specs.List.{list_all};
@@ -15,14 +15,14 @@ fn is_name_start(byte: u8) -> bool
     matches!(byte, b'A'..=b'Z' | b'a'..=b'z' | b'_')
 }
 
-/// Whether a byte may follow in a simple name.
+/// Whether a byte may appear in a simple name after the first.
 fn is_name_character(byte: u8) -> bool
     ensures { result ≡ is_name_character byte }
 {
     matches!(byte, b'A'..=b'Z' | b'a'..=b'z' | b'_' | b'0'..=b'9')
 }
 
-/// Whether bytes may follow in a simple name.
+/// Whether all bytes may appear in a simple name after the first.
 fn are_name_characters(bytes: &[u8]) -> bool
     ensures { result ≡ list_all is_name_character bytes.now }
 {
@@ -34,8 +34,8 @@ fn are_name_characters(bytes: &[u8]) -> bool
     true
 }
 
-/// Whether a text is a simple name: a name without dots, which a field, an alias of one, or a symbol
-/// has (Avro 1.11, "Names"). A simple name may be that of a primitive type.
+/// Whether `text` is a simple name: a name without dots, such as that of a field, a field's alias or an
+/// enum symbol (Avro 1.11, "Names"). It may be the name of a primitive type.
 pub fn is_simple_name(text: &str) -> bool
     ensures { result ≡ is_simple_name text.now }
 {
@@ -45,7 +45,7 @@ pub fn is_simple_name(text: &str) -> bool
     }
 }
 
-/// The first fault of a text that is to be simple names joined by dots.
+/// The first fault of a dotted name, if it has one.
 fn first_fault(text: &[u8]) -> Option<NameError>
     ensures { result ≡ first_fault true text.now }
 {
@@ -72,7 +72,7 @@ fn first_fault(text: &[u8]) -> Option<NameError>
     }
 }
 
-/// Finds whether a text is simple names joined by dots, or a fault of it.
+/// Checks that a text is one or more simple names joined by dots.
 pub(crate) fn check_dotted_name(text: &[u8]) -> Result<(), NameError>
     ensures good { OnOk result (is_dotted_name text.now ≡ true) }
     ensures refused { IfErr result (IsNamespaceFault text.now) }
@@ -84,7 +84,7 @@ pub(crate) fn check_dotted_name(text: &[u8]) -> Result<(), NameError>
     }
 }
 
-/// Whether a text is the name of a primitive type.
+/// Whether `text` is the name of a primitive type.
 pub(crate) fn is_primitive_word(text: &str) -> bool
     ensures { result ≡ is_primitive_word text.now }
 {

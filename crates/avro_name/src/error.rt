@@ -2,12 +2,12 @@ use std::alloc::AllocError;
 use std::error::Error;
 use std::fmt;
 
-/// Why a text is no name. Where there are several faults, it names one of them.
+/// Why a text is not a name. If it has several faults, this is one of them.
 #[derive(Clone, Copy, Debug, PartialEq, Eq)]
 pub enum NameError {
-    /// A part between dots is empty.
+    /// A part is empty: nothing stands before, after or between dots.
     EmptyPart,
-    /// A character may not stand where it does.
+    /// A character is not allowed at its position.
     BadCharacter,
     /// The simple part is the name of a primitive type.
     PrimitiveName,
@@ -16,7 +16,7 @@ pub enum NameError {
 }
 
 impl NameError {
-    /// Its code.
+    /// The error's code.
     fn code(self) -> &'static str {
         match self {
             NameError::EmptyPart => "N1",

@@ -15,8 +15,8 @@ use std::cmp::Ordering;
 use std::hash::{Hash, Hasher};
 use std::marker::Model;
 
-/// A fullname: a namespace, and a simple name that is not that of a primitive type. Names are compared by
-/// their simple parts first, so that names of one long namespace differ there, without a look at it.
+/// A fullname: a namespace and a simple name, which is not the name of a primitive type. Simple names are
+/// compared first, so that most names in one long namespace are told apart without comparing it.
 #[derive(Debug, Drop)]
 pub struct FullName {
     namespace: Namespace,
@@ -34,8 +34,8 @@ impl Model for FullName {
     ghost invariant = { λ n. is_full_name (record { namespace = n.namespace; simple = string_bytes n.simple }) ≡ true };
 }
 
-/// The namespace and the simple part that a text means where a namespace encloses it. A text without
-/// a dot shares the enclosing namespace.
+/// Splits a dotted name into its namespace and simple name. A name without a dot gets the enclosing
+/// namespace.
 fn split<'a>(
     alloc: Global,
     text: &'a str,
@@ -57,11 +57,11 @@ impl FullName {
     ghost use Rattle.avro_name.specs.Name.{Name, is_full_name, name_of};
     ghost use Rattle.avro_name.specs.NameFault.{IsNameFault};
 
-    /// The fullname that a text means where a namespace encloses it.
+    /// Reads a fullname. A name without a dot belongs to the enclosing namespace.
     ///
     /// # Errors
     ///
-    /// `EmptyPart`, `BadCharacter` or `PrimitiveName`, where the text has this fault; `OutOfMemory`.
+    /// `EmptyPart`, `BadCharacter` or `PrimitiveName` if the text has that fault; `OutOfMemory`.
     pub fn read(alloc: Global, text: &str, enclosing: &Namespace) -> Result<FullName, NameError>
         ensures found { IfOk result (λ name. name_of text.now enclosing.now ≡ Some name) }
         ensures named { (name : Name) → name_of text.now enclosing.now ≡ Some name → IsErrOf result NameError.OutOfMemory ⊎ (result ≡ Ok name) }
@@ -75,7 +75,7 @@ impl FullName {
         FullName::from_parts(alloc, namespace, simple)
     }
 
-    /// The part after the last dot.
+    /// The simple name: the part after the last dot.
     pub fn simple(&self) -> &str
         ensures part { result.now ≡ self.now.simple }
         ensures full_name { is_full_name self.now ≡ true }
@@ -83,7 +83,7 @@ impl FullName {
         self.simple.as_str()
     }
 
-    /// The text of the namespace, which is empty for the null namespace.
+    /// The namespace as text; empty for the null namespace.
     pub fn namespace(&self) -> &str
         ensures part { result.now ≡ self.now.namespace }
         ensures full_name { is_full_name self.now ≡ true }
@@ -91,14 +91,14 @@ impl FullName {
         self.namespace.as_str()
     }
 
-    /// The namespace, which encloses what a record of this name holds.
+    /// The namespace, which encloses the names inside a record of this name.
     pub fn space(&self) -> &Namespace
         ensures { result.now ≡ self.now.namespace }
     {
         &self.namespace
     }
 
-    /// The fullname of two parts that make one.
+    /// Makes a fullname from a namespace and a simple name.
     fn from_parts(alloc: Global, namespace: Namespace, simple: &str) -> Result<FullName, NameError>
         requires { is_full_name (record { namespace = namespace; simple = simple.now }) ≡ true }
         ensures { IsErrOf result NameError.OutOfMemory ⊎ (result ≡ Ok (record { namespace = namespace; simple = simple.now })) }

@@ -1,6 +1,6 @@
 //! Names of Avro types (Avro 1.11, "Names").
 //!
-//! Contracts see a [`FullName`] as its namespace and its simple part, and a [`Namespace`] as its text.
+//! Contracts see a [`FullName`] as its namespace and simple name, and a [`Namespace`] as its text.
 #![tactic(auto)]
 
 mod check;

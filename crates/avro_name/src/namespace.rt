@@ -14,11 +14,11 @@ use std::hash::{Hash, Hasher};
 use std::marker::Model;
 use std::rc::RcStr;
 
-/// A namespace: simple names joined by dots, or the empty text, which is the null namespace. Its
-/// clones share one text.
+/// A namespace: simple names joined by dots, or the empty text for the null namespace. Clones share
+/// their text.
 #[derive(Debug, Drop)]
 pub struct Namespace {
-    /// The null namespace has no text.
+    /// `None` for the null namespace.
     text: Option<RcStr>,
 }
 
@@ -39,18 +39,18 @@ impl Namespace {
     ghost use Rattle.avro_name.specs.Name.{is_namespace};
     ghost use Rattle.avro_name.specs.NameFault.{IsNamespaceFault};
 
-    /// The null namespace, which takes no memory.
+    /// The null namespace. It allocates nothing.
     pub fn null(_alloc: Global) -> Namespace
         ensures { result ≡ [] }
     {
         Namespace { text: None }
     }
 
-    /// The namespace that a text spells.
+    /// Reads a namespace.
     ///
     /// # Errors
     ///
-    /// `EmptyPart` or `BadCharacter`, where the text has this fault; `OutOfMemory`.
+    /// `EmptyPart` or `BadCharacter` if the text has that fault; `OutOfMemory`.
     pub fn read(alloc: Global, text: &str) -> Result<Namespace, NameError>
         ensures spelled { IfOk result (λ namespace. namespace ≡ text.now) }
         ensures good { OnOk result (is_namespace text.now ≡ true) }
@@ -64,7 +64,7 @@ impl Namespace {
         Namespace::of_text(alloc, text)
     }
 
-    /// The namespace of a text that spells one.
+    /// Makes a namespace from a text that was checked already.
     pub(crate) fn of_text(alloc: Global, text: &str) -> Result<Namespace, NameError>
         requires { is_namespace text.now ≡ true }
         ensures spelled { IfOk result (λ namespace. namespace ≡ text.now) }
@@ -75,7 +75,7 @@ impl Namespace {
         })
     }
 
-    /// The text of the namespace, which is empty for the null namespace.
+    /// The namespace as text; empty for the null namespace.
     pub fn as_str(&self) -> &str
         ensures text { result.now ≡ self.now }
         ensures good { is_namespace self.now ≡ true }

@@ -1,15 +1,25 @@
-//! Schema resolution (Avro 1.11, "Schema Resolution"): what a datum of a writer's schema is for a
+//! Schema resolution (Avro 1.11, "Schema Resolution"): what a datum of a writer's schema becomes under a
 //! reader's schema.
 //!
-//! [`resolve`] returns this for a datum at hand. [`read_resolved`] does so for bytes, which are
-//! read once: a builder gets each part as it is for the reader, and no writer's datum is made.
-//! [`decode_resolved`] is the same with the datum as the result.
+//! [`resolve`] resolves a datum. [`read_resolved`] resolves bytes in one pass: a builder gets each part as
+//! the reader sees it, and no writer's datum is built. [`decode_resolved`] does the same and returns the
+//! datum. A [`Plan`] reads like [`read_resolved`], with the comparisons of pairs of nodes that a
+//! [`PlanTable`] keeps; a [`PlanRef`] borrows the table and the schemas. The contracts of a builder are
+//! about the values it builds; a [`Put`] may instead write to an output as it goes.
 //!
-//! [`compare`] finds how two nodes relate, by [`Names`], the tables of names of two schemas. A
-//! [`PlanTable`] keeps what was found of some pairs of nodes: of those that it is given, or of those that the
-//! roots lead to. A [`Plan`] reads as [`read_resolved`] does, by such a table beside its schemas; a [`PlanRef`]
-//! borrows both. A builder's contracts are about what was built alone; a [`Put`] may keep an output
-//! as it goes, and what it made is in that output.
+//! # How a plan is kept
+//!
+//! A table keeps the comparison of each pair that it is given (`Plan::new`, `PlanTable::of`) or that the roots lead to
+//! (`Plan::reached`), and the indices of the pairs of its parts. Reading passes an index from each pair to those of its
+//! parts, and compares no names, except for a symbol of an enum whose symbols are not kept. An entry says which pair it is
+//! of, and any other pair is compared by names: so an index needs no proof, and a wrong one only costs time. The invariant
+//! is that what is kept of a pair is what the definitions say of it. `read_resolved` reads by a plan that keeps no pair, so
+//! both have one proof. `PlanTable::of_one_read` looks pairs up as they are met, for a table that reads one datum.
+//!
+//! A table also marks records that can be copied as raw bytes: the pair leads to the reader's record, no field is missing,
+//! and each field that has a source is a leaf whose encoding is the same for the reader, as an int's is for a long. Such a
+//! record is made from the encodings of its fields, in the reader's order and with the defaults between them. If an
+//! encoding is padded, it is not the plain one, and the record is read part by part.
 #![tactic(auto)]
 
 mod error;

@@ -3,29 +3,29 @@
 use avro_zigzag::write_long;
 use std::alloc::{AllocError, Global};
 
-/// The marker of the files.
+/// The sync marker of the files.
 pub const MARK: [u8; 16] = [0, 1, 2, 3, 4, 5, 6, 7, 8, 9, 10, 11, 12, 13, 14, 15];
 
-/// A header and no block, of 41 bytes.
+/// A header without blocks, 41 bytes.
 pub const NULL_HEADER: &[u8] =
     b"Obj\x01\x02\x16avro.schema\x0c\"null\"\x00\x00\x01\x02\x03\x04\x05\x06\x07\x08\x09\x0a\x0b\x0c\x0d\x0e\x0f";
 
-/// Three data in a block, of 59 bytes.
+/// Three data in one block, 59 bytes.
 pub const NULLS: &[u8] =
     b"Obj\x01\x02\x16avro.schema\x0c\"null\"\x00\x00\x01\x02\x03\x04\x05\x06\x07\x08\x09\x0a\x0b\x0c\x0d\x0e\x0f\x06\x00\x00\x01\x02\x03\x04\x05\x06\x07\x08\x09\x0a\x0b\x0c\x0d\x0e\x0f";
 
-/// One int, in a file of 59 bytes.
+/// One int, 59 bytes.
 pub const FIVE: &[u8] =
     b"Obj\x01\x02\x16avro.schema\x0a\"int\"\x00\x00\x01\x02\x03\x04\x05\x06\x07\x08\x09\x0a\x0b\x0c\x0d\x0e\x0f\x02\x02\x0a\x00\x01\x02\x03\x04\x05\x06\x07\x08\x09\x0a\x0b\x0c\x0d\x0e\x0f";
 
-/// The schema that the int is copied for.
+/// The reader's schema for the copy of the int.
 pub const LONG_OR_INT: &str = r#"["long","int"]"#;
 
-/// The copy of the int, in a file of 69 bytes.
+/// The copy of the int, 69 bytes.
 pub const FIVE_COPIED: &[u8] =
     b"Obj\x01\x02\x16avro.schema\x1c[\"long\",\"int\"]\x00\x00\x01\x02\x03\x04\x05\x06\x07\x08\x09\x0a\x0b\x0c\x0d\x0e\x0f\x02\x04\x00\x0a\x00\x01\x02\x03\x04\x05\x06\x07\x08\x09\x0a\x0b\x0c\x0d\x0e\x0f";
 
-/// A file of these metadata, which begin after the magic, and of blocks. The marker follows each part.
+/// A file with this encoded metadata and these blocks, each followed by the sync marker.
 ///
 /// # Errors
 ///
@@ -42,7 +42,7 @@ fn file_with(alloc: Global, metadata: &[u8], blocks: &[&[u8]]) -> Result<Vec<u8>
     Ok(file)
 }
 
-/// A file of a schema's text and of blocks.
+/// A file with this schema text and these blocks.
 ///
 /// # Errors
 ///

@@ -1,4 +1,4 @@
-//! Samples for tests: texts of schemas, and container files.
+//! Samples for tests: schema texts and container files.
 #![tactic(auto)]
 
 mod containers;

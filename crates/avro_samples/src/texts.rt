@@ -1,25 +1,25 @@
-//! Texts of schemas.
+//! Schema texts.
 
 use std::alloc::{AllocError, Global};
 
-/// The text of a schema, or what it is built of and how many.
+/// A schema text, or how to build one and how large.
 #[derive(Clone, Copy)]
 pub enum Text {
     /// This text.
     Plain(&'static str),
-    /// An int, with blanks up to this length.
+    /// An int, padded with blanks to this length.
     Padded(usize),
-    /// A record of this number of fields, each an int.
+    /// A record of this many int fields.
     Ints(u32),
-    /// A record of unions with a default of this depth, which no branch takes.
+    /// A record of unions, with a default of this depth that fits no branch.
     Defaults(u32),
-    /// This number of records, each of which holds the one before twice.
+    /// This many records, each of which contains the previous one twice.
     Doubled(u32),
-    /// A union of this number of records, each of which holds the one before.
+    /// A union of this many records, each of which contains the previous one.
     Chain(u32),
 }
 
-/// The text that is built.
+/// Builds the text.
 ///
 /// # Errors
 ///
@@ -35,7 +35,7 @@ pub fn built(alloc: Global, text: Text) -> Result<String, AllocError> {
     }
 }
 
-/// The text of an int, with blanks up to a length.
+/// The text of an int, padded with blanks to a length.
 fn padded_int(alloc: Global, len: usize) -> Result<String, AllocError> {
     let mut text = String::from_str(alloc, "\"int\"")?;
     for _ in text.len()..len {
@@ -44,7 +44,7 @@ fn padded_int(alloc: Global, len: usize) -> Result<String, AllocError> {
     Ok(text)
 }
 
-/// A record of this number of fields, each an int.
+/// A record of this many int fields.
 fn record_of_ints(alloc: Global, fields: u32) -> Result<String, AllocError> {
     let mut text = String::from_str(alloc, r#"{"type":"record","name":"R","fields":["#)?;
     for number in 0..fields {
@@ -58,8 +58,8 @@ fn record_of_ints(alloc: Global, fields: u32) -> Result<String, AllocError> {
     Ok(text)
 }
 
-/// A record whose second field has a union as its type, each branch of which has a union of both; the field's default
-/// is that many objects inside each other, around a number that no branch takes.
+/// A record whose second field is a union of two records, each with a field that is a union of both. The field's default
+/// is `depth` nested objects around a number that fits no branch.
 fn unions_with_default(alloc: Global, depth: u32) -> Result<String, AllocError> {
     let mut text = String::from_str(
         alloc,
@@ -76,7 +76,7 @@ fn unions_with_default(alloc: Global, depth: u32) -> Result<String, AllocError> 
     Ok(text)
 }
 
-/// Records of which each holds the one before twice; the first holds an enum of one symbol.
+/// Records, each of which contains the previous one twice. The first contains an enum of one symbol.
 fn doubled(alloc: Global, count: u32) -> Result<String, AllocError> {
     let mut text = String::from_str(
         alloc,
@@ -91,7 +91,7 @@ fn doubled(alloc: Global, count: u32) -> Result<String, AllocError> {
     Ok(text)
 }
 
-/// A union of records, the first without fields, each later one with a field of the one before.
+/// A union of records: the first without fields, each later one with a field of the previous one.
 fn chain(alloc: Global, count: u32) -> Result<String, AllocError> {
     let mut text = String::from_str(alloc, r#"[{"type":"record","name":"A0","fields":[]}"#)?;
     for number in 1..count {

@@ -14,7 +14,7 @@ use crate::uniqueness::are_unique;
 use avro_name::FullName;
 use std::alloc::Global;
 
-/// What may occur only once among the branches of a union.
+/// What the branches of a union must differ in.
 #[derive(Clone, Copy, PartialEq, Eq, PartialOrd, Ord)]
 pub(crate) enum Kind<'a> {
     Null,
@@ -28,7 +28,7 @@ pub(crate) enum Kind<'a> {
     Named(&'a FullName),
 }
 
-/// The kind of a node; a union has none.
+/// The kind of a node; `None` for a union.
 fn kind_of_node(node: &Node) -> Option<Kind<'_>>
     ensures { option_map kind_of result ≡ branch_kind (node_of node.now) }
 {
@@ -48,7 +48,7 @@ fn kind_of_node(node: &Node) -> Option<Kind<'_>>
     }
 }
 
-/// The kind of the node of an id; an id without a node has that of null.
+/// The kind of the node with this id; null's if there is no such node.
 fn kind_at(nodes: &[Node], id: NodeId) -> Option<Kind<'_>>
     ensures { option_map kind_of result ≡ branch_kind (node_at (nodes_of nodes.now) id.0) }
 {
@@ -58,7 +58,7 @@ fn kind_at(nodes: &[Node], id: NodeId) -> Option<Kind<'_>>
     }
 }
 
-/// The kinds of the branches, or nothing where one is a union.
+/// The kinds of the branches, or `None` if one of them is a union.
 fn kinds<'a>(
     alloc: Global,
     nodes: &'a [Node],
@@ -76,8 +76,8 @@ fn kinds<'a>(
     Ok(Some(kinds))
 }
 
-/// Whether no node occurs twice. It looks only at the numbers, so that long names that are used
-/// many times are not compared.
+/// Whether no node occurs twice. Only ids are compared, since comparing long names that are used many
+/// times would be slow.
 fn are_unique_ids(alloc: Global, branches: &[NodeId]) -> Result<bool, Memory>
     ensures { IfOk result (λ answer. answer ≡ are_distinct (eq_by_cmp nat_cmp) (ids_of branches.now)) }
 {
@@ -88,7 +88,7 @@ fn are_unique_ids(alloc: Global, branches: &[NodeId]) -> Result<bool, Memory>
     are_unique(ids)
 }
 
-/// Whether branches make a union.
+/// Whether the branches form a valid union.
 pub(crate) fn is_union(alloc: Global, nodes: &[Node], branches: &[NodeId]) -> Result<bool, Memory>
     ensures { IfOk result (λ answer. answer ≡ is_good_union (nodes_of nodes.now) (ids_of branches.now)) }
 {

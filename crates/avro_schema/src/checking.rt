@@ -1,4 +1,4 @@
-//! Whether nodes are a schema.
+//! Checking that nodes form a schema.
 
 ghost use Rattle.std.specs.Prelude.{◌≡◌, ℕ, ◌<◌, true, length, IfOk, IfErr, OnOk};
 ghost use Rattle.std.specs.List.{list_all};
@@ -17,7 +17,7 @@ use crate::schema::{EnumNode, Field, FixedNode, Node, NodeId, RecordNode, Schema
 use crate::uniqueness::are_unique_texts;
 use std::alloc::Global;
 
-/// Tests the rules of a schema.
+/// Checks the rules of a schema.
 pub(crate) fn check_nodes(alloc: Global, nodes: &[Node]) -> Result<(), DraftError>
     ensures formed { OnOk result (is_schema (nodes_of nodes.now) ≡ true) }
     ensures faulty { IfErr result (IsRefused (nodes_of nodes.now)) }
@@ -35,7 +35,7 @@ pub(crate) fn check_nodes(alloc: Global, nodes: &[Node]) -> Result<(), DraftErro
     Ok(())
 }
 
-/// Tests the rules of each node by itself.
+/// Checks the rules that concern one node at a time.
 fn check_each(alloc: Global, nodes: &[Node]) -> Result<(), DraftError>
     ensures good { OnOk result (are_good_nodes (nodes_of nodes.now) 0 (nodes_of nodes.now) ≡ true) }
     ensures broken { IfErr result (IsRefusedSomewhere (nodes_of nodes.now)) }
@@ -46,7 +46,7 @@ fn check_each(alloc: Global, nodes: &[Node]) -> Result<(), DraftError>
     Ok(())
 }
 
-/// Tests the rules of a node under its id.
+/// Checks the rules for the node with this id.
 fn check_node(alloc: Global, nodes: &[Node], id: usize, node: &Node) -> Result<(), DraftError>
     ensures good { OnOk result (is_good_node (nodes_of nodes.now) id (node_of node.now) ≡ true) }
     ensures broken { IfErr result (IsRefusedAt (nodes_of nodes.now) id (node_of node.now)) }
@@ -62,7 +62,7 @@ fn check_node(alloc: Global, nodes: &[Node], id: usize, node: &Node) -> Result<(
     }
 }
 
-/// Whether an edge stays among the nodes, and goes to a later one or to a record, an enum or a fixed.
+/// Whether an edge goes to an existing node, which is a later one or a record, an enum or a fixed.
 fn is_edge(nodes: &[Node], from: usize, to: NodeId) -> bool
     ensures { result ≡ is_good_edge (nodes_of nodes.now) from to.0 }
 {
@@ -72,7 +72,7 @@ fn is_edge(nodes: &[Node], from: usize, to: NodeId) -> bool
     }
 }
 
-/// Whether edges are good.
+/// Whether all these edges are valid.
 fn are_edges(nodes: &[Node], from: usize, ids: &[NodeId]) -> bool
     ensures { result ≡ list_all (is_good_edge (nodes_of nodes.now) from) (ids_of ids.now) }
 {
@@ -84,7 +84,7 @@ fn are_edges(nodes: &[Node], from: usize, ids: &[NodeId]) -> bool
     true
 }
 
-/// Whether the edges of fields are good.
+/// Whether the edges of all fields are valid.
 fn are_field_edges(nodes: &[Node], from: usize, fields: &[Field]) -> bool
     ensures { result ≡ list_all (is_good_edge (nodes_of nodes.now) from) (field_ids (seen_fields fields.now)) }
 {
@@ -96,7 +96,7 @@ fn are_field_edges(nodes: &[Node], from: usize, fields: &[Field]) -> bool
     true
 }
 
-/// Tests the rules of an array.
+/// Checks the rules for an array.
 fn check_array(nodes: &[Node], id: usize, items: NodeId) -> Result<(), DraftError>
     ensures good { OnOk result (is_good_node (nodes_of nodes.now) id (SeenNode.array items.0) ≡ true) }
     ensures broken { IfErr result (IsRefusedAt (nodes_of nodes.now) id (SeenNode.array items.0)) }
@@ -107,7 +107,7 @@ fn check_array(nodes: &[Node], id: usize, items: NodeId) -> Result<(), DraftErro
     Ok(())
 }
 
-/// Tests the rules of a map.
+/// Checks the rules for a map.
 fn check_map(nodes: &[Node], id: usize, values: NodeId) -> Result<(), DraftError>
     ensures good { OnOk result (is_good_node (nodes_of nodes.now) id (SeenNode.map_of values.0) ≡ true) }
     ensures broken { IfErr result (IsRefusedAt (nodes_of nodes.now) id (SeenNode.map_of values.0)) }
@@ -118,7 +118,7 @@ fn check_map(nodes: &[Node], id: usize, values: NodeId) -> Result<(), DraftError
     Ok(())
 }
 
-/// Tests the rules of a union.
+/// Checks the rules for a union.
 fn check_union(
     alloc: Global,
     nodes: &[Node],
@@ -137,7 +137,7 @@ fn check_union(
     Ok(())
 }
 
-/// Tests the rules of a record.
+/// Checks the rules for a record.
 fn check_record(
     alloc: Global,
     nodes: &[Node],
@@ -164,7 +164,7 @@ fn check_record(
     Ok(())
 }
 
-/// Tests the rules of an enum.
+/// Checks the rules for an enum.
 fn check_enum(
     alloc: Global,
     nodes: &[Node],
@@ -200,7 +200,7 @@ fn check_enum(
     Ok(())
 }
 
-/// Tests the rules of a fixed.
+/// Checks the rules for a fixed.
 fn check_fixed(nodes: &[Node], id: usize, fixed: &FixedNode) -> Result<(), DraftError>
     ensures good { OnOk result (is_good_node (nodes_of nodes.now) id (node_of (kept.Fixed fixed.now)) ≡ true) }
     ensures broken { IfErr result (IsRefusedAt (nodes_of nodes.now) id (node_of (kept.Fixed fixed.now))) }
@@ -212,7 +212,7 @@ fn check_fixed(nodes: &[Node], id: usize, fixed: &FixedNode) -> Result<(), Draft
     Ok(())
 }
 
-/// Whether the defaults of fields are good.
+/// Whether the defaults of all fields are valid.
 fn are_good_defaults(alloc: Global, nodes: &[Node], fields: &[Field]) -> Result<bool, Memory>
     ensures { IfOk result (λ answer. answer ≡ list_all (is_good_default (nodes_of nodes.now)) (seen_fields fields.now)) }
 {
@@ -224,7 +224,7 @@ fn are_good_defaults(alloc: Global, nodes: &[Node], fields: &[Field]) -> Result<
     Ok(true)
 }
 
-/// Whether a field has no default, or one that is a datum of its node.
+/// Whether the field has no default, or a default that is a datum of its node.
 fn has_good_default(alloc: Global, nodes: &[Node], field: &Field) -> Result<bool, Memory>
     ensures { IfOk result (λ answer. answer ≡ is_good_default (nodes_of nodes.now) (field_of field.now)) }
 {

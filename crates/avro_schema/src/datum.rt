@@ -44,13 +44,13 @@ pub enum Datum {
     Long(i64),
     /// Bytes.
     Bytes(Vec<u8>),
-    /// A text.
+    /// A string.
     Str(String),
     /// The items of an array.
     Array(Vec<Datum>),
     /// The keys of a map, each with its value.
     Map(Vec<(String, Datum)>),
-    /// The index of a union's branch, and the value.
+    /// The index of a union's branch, and the branch's value.
     Union(u32, Box<Datum>),
     /// A value for each field of a record.
     Record(Vec<Datum>),
@@ -60,8 +60,8 @@ pub enum Datum {
     Fixed(Vec<u8>),
 }
 
-/// The number of nodes of a datum, or the greatest `u64` where there are more. A union is a node
-/// and its value another; keys are not counted.
+/// The number of nodes of a datum, or `u64::MAX` if there are more. A union is a node, and its value
+/// is another; keys are not counted.
 #[cycle(size)]
 pub fn size(datum: &Datum) -> u64
     ensures { result ≡ min (value_size (value_of datum.now)) (2 ^ 64 - 1) }
@@ -82,7 +82,7 @@ pub fn size(datum: &Datum) -> u64
     }
 }
 
-/// The number of nodes of some data.
+/// The total number of nodes of some data.
 #[cycle(size)]
 fn size_of_items(items: &[Datum]) -> u64
     ensures { result ≡ min (values_size (values_of items.now)) (2 ^ 64 - 1) }
@@ -94,7 +94,7 @@ fn size_of_items(items: &[Datum]) -> u64
     all
 }
 
-/// The number of nodes of a map's values.
+/// The total number of nodes of a map's values.
 #[cycle(size)]
 fn size_of_entries(entries: &[(String, Datum)]) -> u64
     ensures { result ≡ min (entries_size (entries_of entries.now)) (2 ^ 64 - 1) }
@@ -106,8 +106,8 @@ fn size_of_entries(entries: &[(String, Datum)]) -> u64
     all
 }
 
-/// The depth of a datum, or the greatest `u64` where it is more: 1 for a datum without parts, else
-/// one more than its deepest part's.
+/// The depth of a datum, or `u64::MAX` if it is deeper: 1 for a datum without parts, otherwise one
+/// more than the depth of its deepest part.
 #[cycle(depth)]
 pub fn depth(datum: &Datum) -> u64
     ensures { result ≡ min (value_depth (value_of datum.now)) (2 ^ 64 - 1) }
@@ -128,7 +128,7 @@ pub fn depth(datum: &Datum) -> u64
     }
 }
 
-/// The depth of the deepest of some data.
+/// The greatest depth of some data.
 #[cycle(depth)]
 fn depth_of_items(items: &[Datum]) -> u64
     ensures { result ≡ min (values_depth (values_of items.now)) (2 ^ 64 - 1) }
@@ -140,7 +140,7 @@ fn depth_of_items(items: &[Datum]) -> u64
     deepest
 }
 
-/// The depth of the deepest of a map's values.
+/// The greatest depth of a map's values.
 #[cycle(depth)]
 fn depth_of_entries(entries: &[(String, Datum)]) -> u64
     ensures { result ≡ min (entries_depth (entries_of entries.now)) (2 ^ 64 - 1) }

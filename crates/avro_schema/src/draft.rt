@@ -7,7 +7,7 @@ use crate::runs::{find_runs, lists_with_entries};
 use crate::schema::{Node, NodeId, Schema};
 use std::alloc::Global;
 
-/// Nodes that are to become a schema, in the order of their numbers.
+/// A schema under construction: its nodes, in the order of their ids.
 #[derive(Debug, Drop)]
 pub struct Draft {
     nodes: Vec<Node>,
@@ -21,7 +21,7 @@ impl Draft {
     ghost use Rattle.avro_schema.specs.SeenSchema.{schema_nodes, draft_nodes};
     ghost use Rattle.avro_schema.specs.WellFormed.{is_schema};
 
-    /// A draft without nodes.
+    /// An empty draft.
     pub fn new(alloc: Global) -> Draft
         ensures { draft_nodes result ≡ [] }
     {
@@ -30,11 +30,11 @@ impl Draft {
         }
     }
 
-    /// Adds a node under the next number; the first is the root.
+    /// Adds a node under the next id. The first node is the root.
     ///
     /// # Errors
     ///
-    /// `LimitExceeded` where there are 4,096 nodes; `OutOfMemory`. The draft then stays as it was.
+    /// `LimitExceeded` if there are 4,096 nodes already; `OutOfMemory`. Either leaves the draft unchanged.
     pub fn add(&mut self, node: Node) -> Result<NodeId, DraftError>
         ensures added { OnOk result (draft_nodes self.new ≡ draft_nodes self.old ++ node_of node ∷ []) }
         ensures number { IfOk result (λ id. id.0 ≡ length (draft_nodes self.old)) }
@@ -54,7 +54,7 @@ impl Draft {
     ///
     /// # Errors
     ///
-    /// One of the faults; each is described at its variant of [`DraftError`]. `OutOfMemory`.
+    /// A fault of the nodes, as described at the variants of [`DraftError`]; `OutOfMemory`.
     pub fn finish(self) -> Result<Schema, DraftError>
         ensures schema { IfOk result (λ schema. schema_nodes schema ≡ draft_nodes self) }
         ensures formed { OnOk result (is_schema (draft_nodes self) ≡ true) }

@@ -1,4 +1,4 @@
-//! The nodes whose data take no bytes (Avro 1.11, "Binary Encoding").
+//! Finding the nodes whose data take no bytes (Avro 1.11, "Binary Encoding").
 
 ghost use Rattle.std.specs.Prelude.{◌≡◌, ◌<◌, ◌+◌, ◌≤◌, max, suc, true, ℕ, List, ◌∷◌, Some, IfSome, IfOk, length, slice_get, OnOk};
 ghost use Rattle.avro_schema.specs.Empties.{AreEmpties, empty_datum, empty_parts, has_measure, have_measure};
@@ -10,7 +10,7 @@ use crate::datum::Memory;
 use crate::schema::{Field, Node, NodeId};
 use std::alloc::Global;
 
-/// The datum of a node whose data take no bytes.
+/// The one datum of a node whose data take no bytes.
 #[derive(Clone, Copy, Debug)]
 pub struct Empty {
     /// Its number of nodes.
@@ -19,10 +19,10 @@ pub struct Empty {
     pub depth: u32,
 }
 
-/// How often all nodes are gone through at most. No datum is read that is deeper.
+/// The greatest number of passes over all nodes. Deeper data are never read.
 const MOST_ROUNDS: u32 = 256;
 
-/// The datum of a node that takes no bytes, where it is known.
+/// The node's datum without bytes, if one is known.
 #[inline(always)]
 pub(crate) fn known_at(known: &[Option<Empty>], id: NodeId) -> Option<Empty>
     ensures { IfSome result (λ e. slice_get known.now id.0 ≡ Some (Some e)) }
@@ -33,7 +33,7 @@ pub(crate) fn known_at(known: &[Option<Empty>], id: NodeId) -> Option<Empty>
     }
 }
 
-/// A datum and others, as a sum, unless it is too large.
+/// A datum and its siblings together: the sum of their nodes and the greater depth, unless the sum overflows.
 pub(crate) fn with(first: Empty, others: Empty) -> Option<Empty>
     ensures { IfSome result (λ e. (e.nodes ≡ first.nodes + others.nodes) × (e.depth ≡ max first.depth others.depth)) }
 {
@@ -44,7 +44,7 @@ pub(crate) fn with(first: Empty, others: Empty) -> Option<Empty>
     })
 }
 
-/// A datum that has others as its parts.
+/// The datum that has these parts.
 fn around(parts: Empty) -> Option<Empty>
     ensures { IfSome result (λ e. (e.nodes ≡ suc parts.nodes) × (e.depth ≡ suc parts.depth)) }
 {
@@ -53,7 +53,7 @@ fn around(parts: Empty) -> Option<Empty>
     Some(Empty { nodes, depth })
 }
 
-/// The datum of a node before others, where it is known to take no bytes.
+/// A node's datum together with its later siblings, if it is known to take no bytes.
 fn before(known: &[Option<Empty>], id: NodeId, others: Empty) -> Option<Empty>
     ensures { (nodes : List SeenNode) (ids : List ℕ) → AreEmpties nodes known.now
         → have_measure others.nodes others.depth (empty_parts (λ i. empty_datum others.depth nodes (node_at nodes i)) ids) ≡ true
@@ -65,7 +65,7 @@ fn before(known: &[Option<Empty>], id: NodeId, others: Empty) -> Option<Empty>
     }
 }
 
-/// The data of fields, where all are known to take no bytes.
+/// The data of all fields together, if all are known to take no bytes.
 fn empty_fields(known: &[Option<Empty>], fields: &[Field]) -> Option<Empty>
     ensures { (nodes : List SeenNode) → AreEmpties nodes known.now → IfSome result (λ e. have_measure e.nodes e.depth (empty_parts (λ id. empty_datum e.depth nodes (node_at nodes id)) (field_ids (seen_fields fields.now))) ≡ true) }
 {
@@ -81,7 +81,7 @@ fn empty_fields(known: &[Option<Empty>], fields: &[Field]) -> Option<Empty>
     Some(all)
 }
 
-/// The datum of a node, where it is known to take no bytes.
+/// The datum of a node, if it is known to take no bytes.
 fn empty_of(known: &[Option<Empty>], node: &Node) -> Option<Empty>
     ensures { (nodes : List SeenNode) → AreEmpties nodes known.now → IfSome result (λ e. has_measure e.nodes e.depth (empty_datum e.depth nodes (node_of node.now)) ≡ true) }
 {
@@ -93,7 +93,7 @@ fn empty_of(known: &[Option<Empty>], node: &Node) -> Option<Empty>
     }
 }
 
-/// The datum of a fixed of no bytes.
+/// The datum of a fixed of size 0.
 fn empty_fixed(size: u32) -> Option<Empty>
     ensures none { IfSome result (λ e. size ≡ 0) }
     ensures count { IfSome result (λ e. e.nodes ≡ 1) }
@@ -106,7 +106,7 @@ fn empty_fixed(size: u32) -> Option<Empty>
     }
 }
 
-/// The datum of a record of fields, where it is known to take no bytes.
+/// The datum of a record with these fields, if it is known to take no bytes.
 fn empty_record(known: &[Option<Empty>], fields: &[Field]) -> Option<Empty>
     ensures { (nodes : List SeenNode) → AreEmpties nodes known.now → (name : Name) (aliases : List Name) → IfSome result (λ e. has_measure e.nodes e.depth (empty_datum e.depth nodes (SeenNode.record_of name aliases (seen_fields fields.now))) ≡ true) }
 {
@@ -116,7 +116,7 @@ fn empty_record(known: &[Option<Empty>], fields: &[Field]) -> Option<Empty>
     }
 }
 
-/// Learns whether the data of the node at an index take no bytes, and says whether that is new.
+/// Records it if the data of the node at an index are newly found to take no bytes; returns whether they are.
 fn learn(nodes: &[Node], known: &mut Vec<Option<Empty>>, index: usize) -> bool
     requires { index < length nodes.now }
     ensures { AreEmpties (nodes_of nodes.now) known.old.items → AreEmpties (nodes_of nodes.now) known.new.items }
@@ -133,7 +133,7 @@ fn learn(nodes: &[Node], known: &mut Vec<Option<Empty>>, index: usize) -> bool
     }
 }
 
-/// Goes through all nodes, parts before what they are parts of as they are mostly numbered, and says whether anything is new.
+/// Makes a pass over all nodes, last to first since most parts have greater ids; returns whether it found anything new.
 fn learn_all(nodes: &[Node], known: &mut Vec<Option<Empty>>) -> bool
     ensures { AreEmpties (nodes_of nodes.now) known.old.items → AreEmpties (nodes_of nodes.now) known.new.items }
 {
@@ -146,7 +146,7 @@ fn learn_all(nodes: &[Node], known: &mut Vec<Option<Empty>>) -> bool
     is_new
 }
 
-/// A list that knows nothing of so many nodes.
+/// A list of `count` entries in which nothing is known.
 fn nothing_known(alloc: Global, count: usize) -> Result<Vec<Option<Empty>>, Memory>
     ensures { (nodes : List SeenNode) → IfOk result (λ known. AreEmpties nodes known.items) }
 {
@@ -157,8 +157,8 @@ fn nothing_known(alloc: Global, count: usize) -> Result<Vec<Option<Empty>>, Memo
     Ok(known)
 }
 
-/// For each node, its datum without bytes, where it has one. Of records that are parts of one another far too often to be
-/// read nothing is known.
+/// For each node, its datum without bytes, if it has one. Data nested too deeply to be read, or with too many nodes, may
+/// be missing.
 ///
 /// # Errors
 ///
@@ -175,7 +175,7 @@ pub(crate) fn find_empties(alloc: Global, nodes: &[Node]) -> Result<Vec<Option<E
     Ok(known)
 }
 
-/// Whether the data of a record take no bytes, as far as is known.
+/// Whether any record is known to take no bytes.
 fn has_empty_record(nodes: &[Node], known: &[Option<Empty>]) -> bool {
     for i in 0..nodes.len() {
         if nodes[i].fields().is_some() && i < known.len() && known[i].is_some() {
@@ -185,7 +185,7 @@ fn has_empty_record(nodes: &[Node], known: &[Option<Empty>]) -> bool {
     false
 }
 
-/// What is known, or nothing where no record is among it: other data without bytes are read as fast as they are found.
+/// Returns `known`, or an empty list if it has no record: other data without bytes are as fast to read as to look up.
 pub(crate) fn worth_keeping(
     alloc: Global,
     nodes: &[Node],

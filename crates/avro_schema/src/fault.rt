@@ -6,32 +6,32 @@ use std::alloc::AllocFailed;
 use std::error::Error;
 use std::fmt;
 
-/// Why nodes are not a schema. Where there are several faults, it names one of them.
+/// Why nodes do not form a schema. If they have several faults, this is one of them.
 #[derive(Clone, Copy, Debug, PartialEq, Eq)]
 pub enum DraftError {
-    /// An edge goes to no node, or to one that is neither later nor a record, an enum or a fixed.
+    /// An edge goes to a node that does not exist, or that is neither later nor a record, an enum or a fixed.
     UnknownNode,
-    /// Two types have one fullname.
+    /// Two types have the same fullname.
     DuplicateName,
-    /// A symbol, or a name or alias of a field, is not a name.
+    /// A symbol, or the name or an alias of a field, is not a simple name.
     InvalidName,
-    /// A union whose edges are good has no branch, a union as a branch, or two branches of one kind.
+    /// A union whose edges are valid has no branch, a union as a branch, or two branches of the same kind.
     InvalidUnion,
-    /// An enum has no symbol, a symbol twice, or a default that is not one of its symbols.
+    /// An enum has no symbol, a duplicate symbol, or a default that is not one of its symbols.
     InvalidSymbols,
     /// A name or alias occurs twice among the fields of a record.
     DuplicateField,
-    /// A default is not a datum of its field, in a record whose edges are good.
+    /// A default is not a datum of its field, in a record whose edges are valid.
     InvalidDefault,
-    /// There is no node or there are more than 4,096; or an enum has more than 1,048,576 symbols,
-    /// or a fixed more bytes.
+    /// There is no node, or there are more than 4,096; or an enum has more than 1,048,576 symbols, or a
+    /// fixed has more bytes than that.
     LimitExceeded,
     /// Memory ran out.
     OutOfMemory,
 }
 
 impl DraftError {
-    /// Its code.
+    /// The error's code.
     fn code(self) -> &'static str {
         match self {
             DraftError::UnknownNode => "S2",

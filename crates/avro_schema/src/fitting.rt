@@ -10,7 +10,7 @@ use crate::schema::{Field, Node, NodeId, Schema};
 use crate::uniqueness::are_unique_texts;
 use std::alloc::Global;
 
-/// Whether a datum is one of a node of the schema.
+/// Whether a datum is valid for a node of the schema.
 ///
 /// # Errors
 ///
@@ -23,7 +23,7 @@ pub fn fits(alloc: Global, schema: &Schema, node: NodeId, datum: &Datum) -> Resu
     fits_at(alloc, schema.nodes(), node, datum)
 }
 
-/// Whether a datum is one of the node of an id; an id without a node is that of null.
+/// Whether a datum is valid for the node with this id; an id without a node counts as null.
 #[cycle(fitting)]
 pub(crate) fn fits_at(
     alloc: Global,
@@ -39,7 +39,7 @@ pub(crate) fn fits_at(
     }
 }
 
-/// Whether a datum is one of a node.
+/// Whether a datum is valid for a node.
 #[cycle(fitting)]
 fn fits_node(alloc: Global, nodes: &[Node], node: &Node, datum: &Datum) -> Result<bool, Memory>
     ensures { IfOk result (λ answer. answer ≡ value_fits (nodes_of nodes.now) (node_of node.now) (value_of datum.now)) }
@@ -63,39 +63,39 @@ fn fits_node(alloc: Global, nodes: &[Node], node: &Node, datum: &Datum) -> Resul
     }
 }
 
-/// Whether an int is one of the node's data.
+/// Whether an int is valid for the node.
 fn fits_int(node: &Node, value: &i32) -> bool
     ensures { (nodes : List SeenNode) → result ≡ value_fits nodes (node_of node.now) (Value.int value.now) }
 {
-    // A number that is read is known to be in its range.
+    // Reading the number tells the proof that it is in range.
     let _value = *value;
     matches!(node, Node::Int)
 }
 
-/// Whether a long is one of the node's data.
+/// Whether a long is valid for the node.
 fn fits_long(node: &Node, value: &i64) -> bool
     ensures { (nodes : List SeenNode) → result ≡ value_fits nodes (node_of node.now) (Value.long value.now) }
 {
-    // A number that is read is known to be in its range.
+    // Reading the number tells the proof that it is in range.
     let _value = *value;
     matches!(node, Node::Long)
 }
 
-/// Whether bytes are one of the node's data.
+/// Whether bytes are valid for the node.
 fn fits_bytes(node: &Node, bytes: &Vec<u8>) -> bool
     ensures { (nodes : List SeenNode) → result ≡ value_fits nodes (node_of node.now) (Value.bytes bytes.now.items) }
 {
     matches!(node, Node::Bytes)
 }
 
-/// Whether a text is one of the node's data.
+/// Whether a string is valid for the node.
 fn fits_text(node: &Node, text: &String) -> bool
     ensures { (nodes : List SeenNode) → result ≡ value_fits nodes (node_of node.now) (Value.string (string_bytes text.now)) }
 {
     matches!(node, Node::Str)
 }
 
-/// Whether the index of a symbol is one of the node's data.
+/// Whether the index of a symbol is valid for the node.
 fn fits_enum(node: &Node, symbol: u32) -> bool
     ensures { (nodes : List SeenNode) → result ≡ value_fits nodes (node_of node.now) (Value.enum symbol) }
 {
@@ -105,7 +105,7 @@ fn fits_enum(node: &Node, symbol: u32) -> bool
     }
 }
 
-/// Whether bytes of a fixed are one of the node's data.
+/// Whether the bytes of a fixed are valid for the node.
 fn fits_fixed(node: &Node, bytes: &Vec<u8>) -> bool
     ensures { (nodes : List SeenNode) → result ≡ value_fits nodes (node_of node.now) (Value.fixed bytes.now.items) }
 {
@@ -115,7 +115,7 @@ fn fits_fixed(node: &Node, bytes: &Vec<u8>) -> bool
     }
 }
 
-/// Whether items are one of the node's data.
+/// Whether an array of these items is valid for the node.
 #[cycle(fitting)]
 fn fits_array(
     alloc: Global,
@@ -131,7 +131,7 @@ fn fits_array(
     }
 }
 
-/// Whether each of some data is one of the node of an id.
+/// Whether all these data are valid for the node with this id.
 #[cycle(fitting)]
 fn each_fits(alloc: Global, nodes: &[Node], id: NodeId, items: &[Datum]) -> Result<bool, Memory>
     ensures { IfOk result (λ answer. answer ≡ values_fit (nodes_of nodes.now) (node_at (nodes_of nodes.now) id.0) (values_of items.now)) }
@@ -144,7 +144,7 @@ fn each_fits(alloc: Global, nodes: &[Node], id: NodeId, items: &[Datum]) -> Resu
     Ok(true)
 }
 
-/// Whether keys with their values are one of the node's data.
+/// Whether a map of these entries is valid for the node.
 #[cycle(fitting)]
 fn fits_map(
     alloc: Global,
@@ -176,7 +176,7 @@ fn keys(alloc: Global, entries: &[(String, Datum)]) -> Result<Vec<&str>, Memory>
     Ok(keys)
 }
 
-/// Whether each value of a map is one of the node of an id.
+/// Whether all values of a map are valid for the node with this id.
 #[cycle(fitting)]
 fn entries_fit(
     alloc: Global,
@@ -194,7 +194,7 @@ fn entries_fit(
     Ok(true)
 }
 
-/// Whether values of fields are one of the node's data.
+/// Whether a record of these field values is valid for the node.
 #[cycle(fitting)]
 fn fits_record(alloc: Global, nodes: &[Node], node: &Node, values: &[Datum]) -> Result<bool, Memory>
     ensures { IfOk result (λ answer. answer ≡ value_fits (nodes_of nodes.now) (node_of node.now) (Value.record_of (values_of values.now))) }
@@ -205,7 +205,7 @@ fn fits_record(alloc: Global, nodes: &[Node], node: &Node, values: &[Datum]) -> 
     }
 }
 
-/// Whether there is a value for each field, of the field's node.
+/// Whether there is exactly one value for each field, valid for the field's node.
 #[cycle(fitting)]
 fn fields_fit(
     alloc: Global,

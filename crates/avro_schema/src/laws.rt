@@ -1,4 +1,4 @@
-//! Laws of data and of schemas.
+//! Laws about data and schemas.
 
 ghost use Rattle.std.specs.Prelude.{◌≡◌, ◌<◌, ◌↔◌, true, List};
 ghost use Rattle.avro_schema.specs.Faulty.{NodeFault, IsThere};
@@ -11,7 +11,7 @@ pub fn parts_are_smaller()
     ensures { (part whole : Value) → IsPart part whole → size part < size whole }
 {}
 
-/// Nodes are a schema exactly when they have no fault.
+/// Nodes form a schema if and only if they have no fault.
 pub fn schema_where_no_fault()
     ensures { (nodes : List Node) → is_schema nodes ≡ true ↔ ((fault : NodeFault) → IsThere fault nodes → ⊥) }
 {}

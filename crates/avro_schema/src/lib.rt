@@ -1,7 +1,7 @@
 //! Avro schemas as graphs of nodes, and the data that they describe.
 //!
-//! A [`Schema`] is well formed: it is made by a [`Draft`], which tests its rules. Contracts see a
-//! schema as the list of its nodes, and a [`Datum`] as a tree with no capacity and no pointer in it.
+//! A [`Schema`] is well formed: it is made from a [`Draft`], which checks the rules. Contracts see a
+//! schema as the list of its nodes, and a [`Datum`] as a tree without capacities and pointers.
 #![tactic(auto)]
 
 mod branches;

@@ -1,7 +1,7 @@
 use std::marker::Model;
 
-/// Limits of a writer's datum: its depth, its number of nodes, and the length of any bytes,
-/// string, key or fixed.
+/// Limits on a writer's datum: its depth, its number of nodes, and the length of any bytes, string,
+/// key or fixed.
 #[derive(Clone, Copy, Debug)]
 pub struct Limits {
     depth: u32,
@@ -28,7 +28,7 @@ impl Default for Limits {
 
     ghost is_default = { λ limits. limits ≡ record { depth = 128; nodes = 1048576; blob = 16777216 } };
 
-    /// Depth 128, 1,048,576 nodes, and 16,777,216 bytes in one part.
+    /// Depth 128, 1,048,576 nodes, and 16,777,216 bytes per part.
     fn default() -> Limits {
         Limits {
             depth: 128,
@@ -42,16 +42,16 @@ impl Limits {
     ghost use Rattle.std.specs.Prelude.{◌≡◌, SomeIff};
     ghost use Rattle.avro_schema.specs.Ranges.{AreLimits};
 
-    /// The greatest depth that a limit may allow.
+    /// The greatest limit on depth.
     pub const MAX_DEPTH: u32 = 256;
 
-    /// The greatest number of nodes that a limit may allow.
+    /// The greatest limit on the number of nodes.
     pub const MAX_NODES: u32 = 16_777_216;
 
-    /// The greatest length, in bytes, that a limit may allow.
+    /// The greatest limit on a length, in bytes.
     pub const MAX_BLOB: u32 = 16_777_216;
 
-    /// Limits, or nothing where one is 0 or too large.
+    /// Limits, or `None` if one of them is 0 or too large.
     pub fn new(depth: u32, nodes: u32, blob: u32) -> Option<Limits>
         ensures { SomeIff result (AreLimits (record { depth = depth; nodes = nodes; blob = blob })) (record { depth = depth; nodes = nodes; blob = blob }) }
     {
@@ -81,7 +81,7 @@ impl Limits {
         self.nodes
     }
 
-    /// The greatest length of any bytes, string, key or fixed.
+    /// The greatest length of any bytes, string, key or fixed, in bytes.
     pub fn blob(&self) -> u32
         ensures blob { result ≡ self.now.blob }
         ensures in_range { AreLimits self.now }

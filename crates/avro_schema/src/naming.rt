@@ -1,4 +1,4 @@
-//! The names in nodes.
+//! The names that occur in nodes.
 
 ghost use Rattle.std.specs.Prelude.{◌≡◌, ◌++◌, true, map, IfOk, option_map, filter_map, flat_map, string_bytes};
 ghost use Rattle.std.specs.List.{list_all};
@@ -14,7 +14,7 @@ use crate::uniqueness::are_unique;
 use avro_name::{FullName, is_simple_name};
 use std::alloc::Global;
 
-/// Whether texts are names without dots.
+/// Whether all texts are simple names.
 pub(crate) fn are_simple_names(texts: &[&str]) -> bool
     ensures { result ≡ list_all is_simple_name (map (λ t. t.now) texts.now) }
 {
@@ -26,7 +26,7 @@ pub(crate) fn are_simple_names(texts: &[&str]) -> bool
     true
 }
 
-/// The texts themselves.
+/// Borrows each string as text.
 pub(crate) fn texts(alloc: Global, strings: &[String]) -> Result<Vec<&str>, Memory>
     ensures { IfOk result (λ texts. map (λ t. t.now) texts.items ≡ texts_of strings.now) }
 {
@@ -37,7 +37,7 @@ pub(crate) fn texts(alloc: Global, strings: &[String]) -> Result<Vec<&str>, Memo
     Ok(texts)
 }
 
-/// The names and aliases of fields.
+/// The names and aliases of all fields.
 pub(crate) fn names_of_fields(alloc: Global, fields: &[Field]) -> Result<Vec<&str>, Memory>
     ensures { IfOk result (λ names. map (λ t. t.now) names.items ≡ flat_map field_names (seen_fields fields.now)) }
 {
@@ -51,19 +51,19 @@ pub(crate) fn names_of_fields(alloc: Global, fields: &[Field]) -> Result<Vec<&st
     Ok(names)
 }
 
-/// Reads the name of a type and its aliases, which are fullnames by their type, as the rules of a node require.
+/// Tells the proof that a type's name and aliases are fullnames, as the rules of a node require.
 pub(crate) fn read_names(name: &FullName, aliases: &[FullName])
     ensures own { is_full_name name.now ≡ true }
     ensures others { list_all is_full_name aliases.now ≡ true }
 {
-    // A name that is read is known to be a fullname; nothing is done with its part.
+    // Only the contract of `simple` matters here: the name is a fullname.
     let _ = name.simple();
     for alias in aliases {
         let _ = alias.simple();
     }
 }
 
-/// The names of the records, enums and fixed.
+/// The names of all records, enums and fixed.
 fn names_of_types(alloc: Global, nodes: &[Node]) -> Result<Vec<&FullName>, Memory>
     ensures { IfOk result (λ names. map (λ n. n.now) names.items ≡ filter_map node_name (nodes_of nodes.now)) }
 {
@@ -77,7 +77,7 @@ fn names_of_types(alloc: Global, nodes: &[Node]) -> Result<Vec<&FullName>, Memor
     Ok(names)
 }
 
-/// Whether no two types have one fullname.
+/// Whether no two types have the same fullname.
 pub(crate) fn have_unique_names(alloc: Global, nodes: &[Node]) -> Result<bool, Memory>
     ensures { IfOk result (λ answer. answer ≡ are_distinct same_name (filter_map node_name (nodes_of nodes.now))) }
 {

@@ -50,7 +50,7 @@ impl Node {
         }
     }
 
-    /// The node of a union's branch, by its index.
+    /// The node of the union's branch at an index.
     pub fn branch(&self, index: u32) -> Option<NodeId>
         ensures { option_map (λ id. id.0) result ≡ option_and_then (λ ids. slice_get ids index) (branches_of (node_of self.now)) }
     {

@@ -1,4 +1,4 @@
-//! Fields next to one another whose data take no bytes.
+//! Runs of adjacent fields whose data take no bytes.
 
 ghost use Rattle.std.specs.Prelude.{◌≡◌, true, ℕ, List, ◌∷◌, IfOk, drop};
 ghost use Rattle.avro_schema.specs.Empties.{AreEmpties, empty_datum, has_measure};
@@ -11,21 +11,21 @@ use crate::empties::{Empty, known_at, with};
 use crate::schema::{Field, Node, NodeId};
 use std::alloc::Global;
 
-/// Fields next to one another whose data take no bytes.
+/// A run of adjacent fields whose data take no bytes.
 #[derive(Clone, Copy, Debug)]
 pub struct EmptyFields {
-    /// How many there are.
+    /// The number of fields.
     pub fields: u32,
-    /// The number of nodes of their data together.
+    /// The number of nodes of all their data.
     pub nodes: u32,
-    /// The depth of the deepest.
+    /// The greatest depth of their data.
     pub depth: u32,
 }
 
-/// How many fields without bytes a record has next to one another at least, for them to be kept.
+/// The least length of a run for which a record's runs are kept.
 const FEWEST: u32 = 8;
 
-/// No fields.
+/// The empty run.
 fn none() -> EmptyFields
     ensures { (nodes : List SeenNode) (ids : List ℕ) → is_run nodes ids result ≡ true }
 {
@@ -36,7 +36,7 @@ fn none() -> EmptyFields
     }
 }
 
-/// A field before others, or none where its data may take bytes.
+/// Extends a run by the field before it; the empty run if the field's data may take bytes.
 fn before(known: &[Option<Empty>], id: NodeId, others: EmptyFields) -> EmptyFields
     ensures { (nodes : List SeenNode) (ids : List ℕ) → AreEmpties nodes known.now → is_run nodes ids others ≡ true → is_run nodes (id.0 ∷ ids) result ≡ true }
 {
@@ -46,7 +46,7 @@ fn before(known: &[Option<Empty>], id: NodeId, others: EmptyFields) -> EmptyFiel
     }
 }
 
-/// A datum before others, or none where they are too many.
+/// Extends a run by the datum before it; the empty run if a number overflows.
 fn one_more(first: Empty, others: EmptyFields) -> EmptyFields
     ensures { (nodes : List SeenNode) (id : ℕ) (ids : List ℕ) → has_measure first.nodes first.depth (empty_datum first.depth nodes (node_at nodes id)) ≡ true
         → is_run nodes ids others ≡ true → is_run nodes (id ∷ ids) result ≡ true }
@@ -68,7 +68,7 @@ fn one_more(first: Empty, others: EmptyFields) -> EmptyFields
     }
 }
 
-/// The greatest number of fields without bytes next to one another.
+/// The length of the longest run.
 fn longest(known: &[Option<Empty>], fields: &[Field]) -> u32 {
     let mut longest = 0;
     let mut run = none();
@@ -81,7 +81,7 @@ fn longest(known: &[Option<Empty>], fields: &[Field]) -> u32 {
     longest
 }
 
-/// For each field, those from it on whose data take no bytes.
+/// For each field, the run that starts there.
 fn runs_of_all(
     alloc: Global,
     known: &[Option<Empty>],
@@ -100,7 +100,7 @@ fn runs_of_all(
     Ok(runs)
 }
 
-/// Puts an entry at an index, if there is one.
+/// Stores a run at an index, if the list has that index.
 fn put(runs: &mut Vec<EmptyFields>, index: usize, run: EmptyFields)
     ensures { (nodes : List SeenNode) (ids : List ℕ) → AreRuns nodes ids runs.old.items → is_run nodes (drop index ids) run ≡ true → AreRuns nodes ids runs.new.items }
 {
@@ -109,7 +109,7 @@ fn put(runs: &mut Vec<EmptyFields>, index: usize, run: EmptyFields)
     }
 }
 
-/// As many entries of no fields.
+/// A list of `count` empty runs.
 fn no_runs(alloc: Global, count: usize) -> Result<Vec<EmptyFields>, Memory>
     ensures { (nodes : List SeenNode) (ids : List ℕ) → IfOk result (λ runs. AreRuns nodes ids runs.items) }
 {
@@ -120,7 +120,7 @@ fn no_runs(alloc: Global, count: usize) -> Result<Vec<EmptyFields>, Memory>
     Ok(runs)
 }
 
-/// For each field, those from it on whose data take no bytes, or nothing where they are few.
+/// For each field, the run that starts there; an empty list if all runs are short.
 fn runs_of(
     alloc: Global,
     known: &[Option<Empty>],
@@ -134,7 +134,7 @@ fn runs_of(
     runs_of_all(alloc, known, fields)
 }
 
-/// The same for the fields of a node.
+/// The runs of a node's fields, as `runs_of`.
 fn runs_of_node(
     alloc: Global,
     known: &[Option<Empty>],
@@ -148,7 +148,7 @@ fn runs_of_node(
     }
 }
 
-/// The same for each node.
+/// The runs of each node's fields.
 ///
 /// # Errors
 ///
@@ -168,7 +168,7 @@ pub(crate) fn find_runs(
     Ok(lists)
 }
 
-/// Whether any list has an entry.
+/// Whether any of the lists has an entry.
 fn has_entry(lists: &[Vec<EmptyFields>]) -> bool {
     for runs in lists {
         if runs.len() > 0 {
@@ -178,7 +178,7 @@ fn has_entry(lists: &[Vec<EmptyFields>]) -> bool {
     false
 }
 
-/// The lists, or none where no list has an entry.
+/// Returns the lists, or no list if all are empty.
 pub(crate) fn lists_with_entries(
     alloc: Global,
     lists: Vec<Vec<EmptyFields>>,
@@ -192,7 +192,7 @@ pub(crate) fn lists_with_entries(
     }
 }
 
-/// What is known of the fields of a node.
+/// The runs of a node's fields, as far as they are kept.
 #[inline(always)]
 pub(crate) fn runs_at(lists: &[Vec<EmptyFields>], id: NodeId) -> &[EmptyFields]
     ensures { (nodes : List SeenNode) → AreAllRuns nodes lists.now → AreRuns nodes (ids_at (node_at nodes id.0)) result.now }

@@ -17,29 +17,29 @@ pub struct NodeId(pub u32);
 /// A node of a schema (Avro 1.11, "Schema Declaration").
 #[derive(Debug, PartialEq, Drop)]
 pub enum Node {
-    /// The type of the one datum null.
+    /// Null, the only datum of its type.
     Null,
-    /// True or false.
+    /// A boolean.
     Boolean,
-    /// A signed number of 32 bits.
+    /// A signed 32-bit integer.
     Int,
-    /// A signed number of 64 bits.
+    /// A signed 64-bit integer.
     Long,
     /// Bytes.
     Bytes,
-    /// A text.
+    /// A string.
     Str,
-    /// Items of one node.
+    /// An array, with the node of its items.
     Array(NodeId),
-    /// Texts, each with a value of one node.
+    /// A map, with the node of its values.
     Map(NodeId),
-    /// A datum of one of several nodes.
+    /// A union, with the nodes of its branches.
     Union(Vec<NodeId>),
-    /// A datum for each field.
+    /// A record.
     Record(RecordNode),
-    /// One of several symbols.
+    /// An enum.
     Enum(EnumNode),
-    /// Bytes of one length.
+    /// A fixed.
     Fixed(FixedNode),
 }
 
@@ -48,7 +48,7 @@ pub enum Node {
 pub struct RecordNode {
     /// Its fullname.
     pub name: FullName,
-    /// Other fullnames that a writer's type may have.
+    /// Alternative fullnames for a writer's type.
     pub aliases: Vec<FullName>,
     /// The fields, in order.
     pub fields: Vec<Field>,
@@ -57,9 +57,9 @@ pub struct RecordNode {
 /// A field of a record: its name, its aliases, the node of its data, and its default.
 #[derive(Debug, PartialEq, Drop)]
 pub struct Field {
-    /// Its name, a simple one.
+    /// Its name, which is a simple name.
     pub name: String,
-    /// Other names that a writer's field may have.
+    /// Alternative names for a writer's field.
     pub aliases: Vec<String>,
     /// The node of its data.
     pub node: NodeId,
@@ -72,11 +72,11 @@ pub struct Field {
 pub struct EnumNode {
     /// Its fullname.
     pub name: FullName,
-    /// Other fullnames that a writer's type may have.
+    /// Alternative fullnames for a writer's type.
     pub aliases: Vec<FullName>,
-    /// The symbols, in order, each once.
+    /// The symbols in order, without duplicates.
     pub symbols: Vec<String>,
-    /// The index of the symbol that stands for an unknown one.
+    /// The index of the symbol that replaces an unknown one.
     pub default: Option<u32>,
 }
 
@@ -85,7 +85,7 @@ pub struct EnumNode {
 pub struct FixedNode {
     /// Its fullname.
     pub name: FullName,
-    /// Other fullnames that a writer's type may have.
+    /// Alternative fullnames for a writer's type.
     pub aliases: Vec<FullName>,
     /// The number of bytes.
     pub size: u32,
@@ -97,19 +97,19 @@ impl EnumNode {
 }
 
 impl FixedNode {
-    /// The greatest size, in bytes.
+    /// The greatest size in bytes.
     pub const MAX_SIZE: u32 = 1_048_576;
 }
 
-/// A well-formed schema: 1 to 4,096 nodes that keep the rules of the standard.
+/// A well-formed schema: 1 to 4,096 nodes that obey the rules of the standard.
 #[derive(Debug, Drop)]
 pub struct Schema {
     nodes: Vec<Node>,
-    // what an id without a node is read as
+    // what an id without a node stands for
     null: Node,
-    // for each node, its datum without bytes, where one is known
+    // for each node, its datum without bytes, if one is known
     empties: Vec<Option<Empty>>,
-    // for each node and each of its fields, those from it on whose data take no bytes, unless they are few
+    // for each node and each of its fields, the run of fields without bytes that starts there, unless all are short
     runs: Vec<Vec<EmptyFields>>,
     ghost is_null: { is_null_node (node_of null) ≡ true },
     ghost formed: { is_schema (nodes_of nodes.items) ≡ true },
@@ -130,7 +130,7 @@ impl Schema {
     /// The greatest number of nodes.
     pub const MAX_NODES: usize = 4096;
 
-    /// A schema of nodes that form one, and of what is known of their data without bytes.
+    /// Makes a schema from nodes that form one, and what is known about their data without bytes.
     pub(crate) fn from_nodes(
         nodes: Vec<Node>,
         empties: Vec<Option<Empty>>,
@@ -149,14 +149,14 @@ impl Schema {
         }
     }
 
-    /// The nodes, in the order of their numbers.
+    /// The nodes, in the order of their ids.
     pub(crate) fn nodes(&self) -> &[Node]
         ensures { nodes_of result.now ≡ schema_nodes self.now }
     {
         &self.nodes
     }
 
-    /// The node of the schema's data.
+    /// The root: the node that the schema's data are valid for.
     pub fn root(&self) -> NodeId
         ensures root { result.0 ≡ 0 }
         ensures in_schema { result.0 < length (schema_nodes self.now) }
@@ -165,7 +165,7 @@ impl Schema {
         NodeId(0)
     }
 
-    /// A node of this schema; [`Schema::has`] is the test.
+    /// The node with this id, which must be in the schema; [`Schema::has`] checks that.
     pub fn node(&self, id: NodeId) -> &Node
         requires { id.0 < length (schema_nodes self.now) }
         ensures { node_of result.now ≡ node_at (schema_nodes self.now) id.0 }
@@ -173,7 +173,7 @@ impl Schema {
         &self.nodes[id.0 as usize]
     }
 
-    /// The node of an id; an id without a node is that of null.
+    /// The node with this id; null if there is none.
     pub fn get(&self, id: NodeId) -> &Node
         ensures node { node_of result.now ≡ node_at (schema_nodes self.now) id.0 }
         ensures formed { is_schema (schema_nodes self.now) ≡ true }
@@ -192,7 +192,7 @@ impl Schema {
         self.nodes.len()
     }
 
-    /// The datum of a node that takes no bytes, where one is known.
+    /// The node's datum without bytes, if one is known.
     #[inline(always)]
     pub fn empty(&self, id: NodeId) -> Option<Empty>
         ensures { IfSome result (λ e. IsEmptyDatum (schema_nodes self.now) (node_at (schema_nodes self.now) id.0) e.nodes e.depth) }
@@ -200,7 +200,7 @@ impl Schema {
         known_at(&self.empties, id)
     }
 
-    /// For each of a node's first fields, those from it on whose data take no bytes, as far as that is known.
+    /// For each of a node's first fields, the run of fields without bytes that starts there, as far as it is known.
     #[inline(always)]
     pub fn empty_fields(&self, id: NodeId) -> &[EmptyFields]
         ensures { (k : ℕ) (run : EmptyFields) → slice_get result.now k ≡ Some run → StartWithEmpties (schema_nodes self.now) (drop k (ids_at (node_at (schema_nodes self.now) id.0))) run }
@@ -208,7 +208,7 @@ impl Schema {
         runs_at(&self.runs, id)
     }
 
-    /// Whether this is a node of the schema.
+    /// Whether the schema has a node with this id.
     pub fn has(&self, id: NodeId) -> bool
         ensures { IsTrue result ↔ (id.0 < length (schema_nodes self.now)) }
     {

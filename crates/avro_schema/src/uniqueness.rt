@@ -1,4 +1,4 @@
-//! Whether no element of a list occurs twice.
+//! Checking that no element of a list occurs twice.
 
 ghost use Rattle.std.specs.Prelude.{◌≡◌, ℕ, ◌+◌, ◌<◌, length, map, bytes_eq, IfOk, MatchBool, slice_index_or};
 ghost use Rattle.std.specs.List.{AllAdjacentBelow};
@@ -9,7 +9,7 @@ ghost use Rattle.avro_schema.specs.Distinct.{are_distinct};
 use crate::datum::Memory;
 use std::cmp::Ordering;
 
-/// Whether no two of some items are equal. It sorts them.
+/// Whether all items are different. Sorts them.
 pub(crate) fn are_unique<T: Ord + Drop>(items: Vec<T>) -> Result<bool, Memory>
     ensures { IfOk result (λ answer. answer ≡ are_distinct (eq_by_cmp T.cmp) items.items) }
 {
@@ -18,7 +18,7 @@ pub(crate) fn are_unique<T: Ord + Drop>(items: Vec<T>) -> Result<bool, Memory>
     Ok(rise(&sorted))
 }
 
-/// Whether each item is less than the next.
+/// Whether the items are strictly increasing.
 fn rise<T: Ord>(items: &[T]) -> bool
     ensures { MatchBool result (AllAdjacentBelow (λ x y. T.cmp x y ≡ Less) items.now (length items.now))
         ((k : ℕ) × (k + 1 < length items.now)
@@ -33,7 +33,7 @@ fn rise<T: Ord>(items: &[T]) -> bool
     true
 }
 
-/// Whether no two texts are the same.
+/// Whether all texts are different.
 pub(crate) fn are_unique_texts(texts: Vec<&str>) -> Result<bool, Memory>
     ensures { IfOk result (λ answer. answer ≡ are_distinct bytes_eq (map (λ t. t.now) texts.entry.items)) }
 {

@@ -1,8 +1,8 @@
-//! The numbers of Avro's binary encoding: zig-zag, and then groups of seven bits.
+//! Integers in Avro's binary encoding: zig-zag, then groups of seven bits.
 //!
-//! [`read_long`] and [`read_int`] read the number at the front of bytes, padded or not, or return a [`VarError`];
-//! [`write_long`] writes the shortest spelling, [`starts_shortest`] tells it from the padded ones, and [`to_zigzag`] gives the number
-//! whose groups it is.
+//! [`read_long`] and [`read_int`] read the number at the start of some bytes, padded or not, or return a [`VarError`].
+//! [`write_long`] writes the shortest encoding, [`starts_shortest`] recognizes it, and [`to_zigzag`] computes the zig-zag
+//! number.
 #![tactic(auto)]
 
 pub mod laws;
@@ -16,19 +16,19 @@ use std::error::Error;
 use std::fmt;
 pub use write::{to_zigzag, write_long};
 
-/// Why no number can be read at the front of some bytes.
+/// Why no number can be read at the start of some bytes.
 #[derive(Clone, Copy, Debug, PartialEq, Eq, Hash)]
 pub enum VarError {
-    /// No byte is left where the number goes on.
+    /// The bytes end before the number does.
     EndOfInput,
-    /// A number is not in its shortest spelling. It is never returned: each spelling is read.
+    /// The number is not in its shortest encoding. Never returned: padded encodings are read.
     NotShortest,
-    /// The number has more than 32 bits where it is an int, or more than 64 where it is a long.
+    /// The number has more than 32 bits (for an int) or 64 bits (for a long).
     OutOfRange,
 }
 
 impl VarError {
-    /// Its code.
+    /// The error's code.
     fn code(self) -> &'static str {
         match self {
             VarError::EndOfInput => "Z1",

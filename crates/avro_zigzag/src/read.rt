@@ -1,4 +1,4 @@
-//! Reading a number (Avro 1.11, "Binary Encoding").
+//! Reading numbers (Avro 1.11, "Binary Encoding").
 
 ghost use Rattle.std.specs.Prelude.{◌≡◌, ℕ, ◌+◌, ◌-◌, ◌*◌, ◌^◌, ◌<◌, ◌≤◌, ℤ, true, List, ◌++◌, length, take, IfOk};
 ghost use Rattle.std.specs.Result.{IfErr};
@@ -8,7 +8,7 @@ ghost use Rattle.avro_zigzag.specs.NumberFault.{NumberFails, IntFails, LongFails
 
 use crate::VarError;
 
-/// The number whose zig-zag number is `number`.
+/// The value whose zig-zag number is `number`.
 #[inline(always)]
 fn from_zigzag(number: u64) -> i64
     ensures { zigzag result ≡ number }
@@ -17,9 +17,10 @@ fn from_zigzag(number: u64) -> i64
     if number % 2 == 0 { half } else { -half - 1 }
 }
 
-/// What the groups at the front of `bytes` stand for, and how many there are: at most `most`, and if as many, a last one of at most `top`.
+/// The value of the groups at the start of `bytes`, and how many there are: at most `most`, of which group number
+/// `most` is at most `top`.
 ///
-/// Most numbers are one byte or two: those cases are here, where a caller has them without a call.
+/// Most numbers take one or two bytes: these cases are inlined.
 #[inline(always)]
 fn read_groups(bytes: &[u8], most: usize, top: u8) -> Result<(u64, usize), VarError>
     requires several { 3 ≤ most }
@@ -38,7 +39,7 @@ fn read_groups(bytes: &[u8], most: usize, top: u8) -> Result<(u64, usize), VarEr
     read_each_group(bytes, most, top)
 }
 
-/// The same, group by group.
+/// Like `read_groups`, in a loop.
 fn read_each_group(bytes: &[u8], most: usize, top: u8) -> Result<(u64, usize), VarError>
     requires several { 2 ≤ most }
     requires low { top < 128 }
@@ -64,14 +65,14 @@ fn read_each_group(bytes: &[u8], most: usize, top: u8) -> Result<(u64, usize), V
     Err(VarError::EndOfInput)
 }
 
-/// The long that the front of `bytes` spells, and in how many of them.
+/// Reads the long at the start of `bytes`; returns it and the number of bytes it takes.
 ///
-/// Avro 1.11, "Binary Encoding", "Primitive Types": zig-zag, and then groups of seven bits, the least first. The number may be padded: its
-/// last groups may be 0, as far as ten bytes go.
+/// Avro 1.11, "Binary Encoding", "Primitive Types": zig-zag, then groups of seven bits, least significant first. The
+/// number may be padded with groups of 0, up to ten bytes in all.
 ///
 /// # Errors
 ///
-/// The first of these that the bytes show, looked at in turn: `EndOfInput` where no byte is left, `OutOfRange` for a tenth byte above `01`.
+/// Whichever comes first, byte by byte: `EndOfInput` if no byte is left, `OutOfRange` if the tenth byte is above `01`.
 #[inline(always)]
 pub fn read_long(bytes: &[u8]) -> Result<(i64, usize), VarError>
     ensures found { IfOk result (λ r. (r.1 ≤ length bytes.now) × SpellsLong r.0 (take r.1 bytes.now)) }
@@ -85,14 +86,14 @@ pub fn read_long(bytes: &[u8]) -> Result<(i64, usize), VarError>
     Ok((from_zigzag(number), len))
 }
 
-/// The int that the front of `bytes` spells, and in how many of them.
+/// Reads the int at the start of `bytes`; returns it and the number of bytes it takes.
 ///
-/// Avro 1.11, "Binary Encoding", "Primitive Types": zig-zag, and then groups of seven bits, the least first. The number may be padded: its
-/// last groups may be 0, as far as five bytes go.
+/// Avro 1.11, "Binary Encoding", "Primitive Types": zig-zag, then groups of seven bits, least significant first. The
+/// number may be padded with groups of 0, up to five bytes in all.
 ///
 /// # Errors
 ///
-/// The first of these that the bytes show, looked at in turn: `EndOfInput` where no byte is left, `OutOfRange` for a fifth byte above `0f`.
+/// Whichever comes first, byte by byte: `EndOfInput` if no byte is left, `OutOfRange` if the fifth byte is above `0f`.
 #[inline(always)]
 pub fn read_int(bytes: &[u8]) -> Result<(i32, usize), VarError>
     ensures found { IfOk result (λ r. (r.1 ≤ length bytes.now) × SpellsInt r.0 (take r.1 bytes.now)) }

@@ -1,11 +1,11 @@
-//! Telling a shortest spelling from a padded one (Avro 1.11, "Binary Encoding").
+//! Telling the shortest encoding from padded ones (Avro 1.11, "Binary Encoding").
 
 ghost use Rattle.std.specs.Prelude.{◌≡◌, ℕ, ℤ, true, List, ◌++◌};
 ghost use Rattle.avro_zigzag.specs.Number.{zigzag, are_groups, groups_value, AreGroups, AreLeastGroups, IsShortest};
 
-/// Whether the number that is spelled at the front of bytes is in its shortest spelling, which is the one that is written.
+/// Whether the number at the start of `bytes` is in its shortest encoding, the one that `write_long` writes.
 ///
-/// Most numbers are one byte: a caller has that case without a call.
+/// Most numbers take one byte: this case is inlined.
 #[inline(always)]
 pub fn starts_shortest(bytes: &[u8]) -> bool
     ensures { (most : ℕ) (v : ℤ) (front rest : List ℕ) → AreGroups most (zigzag v) front → bytes.now ≡ front ++ rest → result ≡ true → IsShortest v front }
@@ -16,7 +16,7 @@ pub fn starts_shortest(bytes: &[u8]) -> bool
     ends_shortest(bytes)
 }
 
-/// Whether the last of the groups at the front of bytes is above 0, so that no fewer groups have their value.
+/// Whether the last group at the start of `bytes` is not 0, so that fewer groups cannot hold the value.
 fn ends_shortest(bytes: &[u8]) -> bool
     ensures { (front rest : List ℕ) → are_groups front ≡ true → bytes.now ≡ front ++ rest → result ≡ true → AreLeastGroups (groups_value front) front }
 {

@@ -1,9 +1,9 @@
-//! Writing a number (Avro 1.11, "Binary Encoding").
+//! Writing numbers (Avro 1.11, "Binary Encoding").
 
 ghost use Rattle.std.specs.Prelude.{◌≡◌, ℕ, ◌≤◌, take, slice_index};
 ghost use Rattle.avro_zigzag.specs.Number.{zigzag, AreLeastGroups, IsShortest};
 
-/// The zig-zag number of `value`: small for a value near 0 on either side.
+/// The zig-zag number of `value`: small for a value near 0, of either sign.
 ///
 /// Avro 1.11, "Binary Encoding", "Primitive Types".
 #[inline(always)]
@@ -17,7 +17,7 @@ pub fn to_zigzag(value: i64) -> u64
     }
 }
 
-/// The groups of `number`, no fewer than it takes, and how many of the ten bytes they are. The rest are zero.
+/// The shortest groups of `number`, and how many of the ten bytes they take. The rest are zero.
 fn write_groups(number: u64) -> ([u8; 10], usize)
     ensures length { (1 ≤ result.1) × (result.1 ≤ 10) }
     ensures spelled { AreLeastGroups number (take result.1 result.0) }
@@ -35,9 +35,9 @@ fn write_groups(number: u64) -> ([u8; 10], usize)
     (bytes, len + 1)
 }
 
-/// The shortest bytes that spell `value` as an int or a long, and how many of the ten they are. The rest are zero.
+/// The shortest encoding of `value` as an int or a long, and how many of the ten bytes it takes. The rest are zero.
 ///
-/// Avro 1.11, "Binary Encoding", "Primitive Types": zig-zag, and then groups of seven bits, the least first.
+/// Avro 1.11, "Binary Encoding", "Primitive Types": zig-zag, then groups of seven bits, least significant first.
 #[inline(always)]
 pub fn write_long(value: i64) -> ([u8; 10], usize)
     ensures length { (1 ≤ result.1) × (result.1 ≤ 10) }
@@ -45,7 +45,7 @@ pub fn write_long(value: i64) -> ([u8; 10], usize)
     ensures rest_zero { (k : ℕ) → result.1 ≤ k → slice_index result.0 k ≡ 0 }
 {
     let number = to_zigzag(value);
-    // Most numbers are one byte: a caller has that case without a call.
+    // Most numbers take one byte: this case is inlined.
     if number < 128 {
         return ([number as u8, 0, 0, 0, 0, 0, 0, 0, 0, 0], 1);
     }

@@ -18,7 +18,7 @@ use crate::limits::FileLimits;
 use avro_device::Input;
 use std::alloc::Global;
 
-/// The blocks of a file after its header, taken one by one (Avro 1.11, "Object Container Files").
+/// The blocks after a file's header, taken one by one (Avro 1.11, "Object Container Files").
 #[derive(Drop)]
 pub struct Blocks<'a> {
     alloc: Global,
@@ -31,7 +31,7 @@ pub struct Blocks<'a> {
 }
 
 impl<'a> Blocks<'a> {
-    /// The blocks after a header. No block is taken yet.
+    /// The blocks after a header, none of which is taken yet.
     pub fn new(alloc: Global, header: &'a Header, limits: &FileLimits) -> Blocks<'a>
         ensures header { result.header ≡ header.entry }
         ensures limits { result.limits ≡ limits.now }
@@ -99,15 +99,15 @@ impl<'a> Blocks<'a> {
         }
     }
 
-    /// Takes the next block, and no byte after it; nothing if the input ends before it, and from then on.
+    /// Takes the next block, and no byte after it; `None` if the input ends before it, and in all later calls.
     ///
-    /// Pass the same input to each call. A call after the end takes nothing of it, so that its end
-    /// is reported there where it was reported before: what another input has reported is not
-    /// known.
+    /// Pass the same input to each call. A call after the end takes nothing, so that the end reported is that of the input
+    /// passed before; nothing is known of another input.
     ///
     /// # Errors
     ///
-    /// `LimitExceeded`, `InvalidCount`, `CutBlock`, `WrongMarker`; `InputFailed`, `OutOfMemory`. After an error `FailedBefore`.
+    /// `LimitExceeded`, `InvalidCount`, `CutBlock`, `WrongMarker`; `InputFailed`, `OutOfMemory`. After an error,
+    /// `FailedBefore`.
     pub fn next<I: Input>(&mut self, input: &mut I) -> Result<Option<Block<'a>>, CopyError>
         ensures before { self.old.failed ≡ true → (result ≡ Err CopyError.FailedBefore) × (input.new ≡ input.old) }
         ensures over { self.old.failed ≡ false → self.old.ended ≡ true → (result ≡ Ok None) × (input.new ≡ input.old) }

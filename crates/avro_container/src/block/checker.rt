@@ -1,4 +1,4 @@
-//! Checking the data of one block after another.
+//! Checking the data of successive blocks.
 
 use crate::block::Block;
 use crate::block::datum::walk_data;
@@ -8,8 +8,8 @@ use crate::limits::FileLimits;
 use std::alloc::Global;
 use std::marker::Model;
 
-/// Reads the data of blocks of a file, one block after another, and makes nothing of them. If a datum of the file's schema has
-/// no bytes, it is read once: each later block takes one step, however many data it has.
+/// Reads the data of a file's blocks, one block after another, without building anything. A datum without bytes is read
+/// only once: each later block takes one step, however many data it has.
 ///
 /// Contracts see the header and the limits by which it reads.
 #[derive(Drop)]
@@ -49,7 +49,7 @@ impl<'a> Checker<'a> {
     ghost use Rattle.avro_container.specs.FileFault.{FileFault};
     ghost use Rattle.avro_container.specs.FileSeen.{file_fault};
 
-    /// Checks blocks of the file with this header, within limits.
+    /// A checker for the blocks of the file with this header, within limits.
     pub fn new(alloc: Global, header: &'a Header, limits: &FileLimits) -> Checker<'a>
         ensures { result ≡ (header.now, limits.now) }
     {

@@ -1,4 +1,4 @@
-//! Reading a datum of a block, or walking over all, and why one is not read.
+//! Reading a datum of a block, or walking over all data, and the errors of a datum.
 
 ghost use Rattle.std.specs.Prelude.{◌≡◌, option_map, None, Some, IfOk, true};
 ghost use Rattle.std.specs.Option.{IfSome};
@@ -22,7 +22,7 @@ use avro_resolve::{PlanRef, ReadResolveError};
 use avro_schema::{Limits, Schema};
 use std::alloc::Global;
 
-/// The same error of bytes that come after `start` others.
+/// The same error, with its offset moved by `start` bytes.
 fn moved(error: ReadError, start: usize) -> ReadError
     requires fits { FitsBehind start error }
     ensures moved { read_fault result ≡ option_map (behind start) (read_fault error) }
@@ -57,7 +57,7 @@ fn moved(error: ReadError, start: usize) -> ReadError
     }
 }
 
-/// The error of a file for a datum that is not read and begins after `start` bytes of its block's data.
+/// The file's error when the datum that starts after `start` bytes of its block's data cannot be read.
 pub fn datum_error(number: u64, datum: u32, start: usize, error: ReadResolveError) -> CopyError
     requires fits { PlaceFits start error }
     ensures fault { file_fault result ≡ error_fault number datum start error }
@@ -75,7 +75,7 @@ pub fn datum_error(number: u64, datum: u32, start: usize, error: ReadResolveErro
     }
 }
 
-/// Reads a datum from the front of bytes, by a plan if there is one.
+/// Reads a datum from the start of some bytes, by a plan if there is one.
 pub(crate) fn read_by_plan<B: Build>(
     alloc: Global,
     schema: &Schema,
@@ -96,7 +96,7 @@ pub(crate) fn read_by_plan<B: Build>(
     }
 }
 
-/// Walks over the datum at the front of bytes.
+/// Walks over the datum at the start of some bytes.
 pub(crate) fn walk_datum(
     alloc: Global,
     schema: &Schema,
@@ -119,8 +119,8 @@ pub(crate) fn walk_datum(
     }
 }
 
-/// Walks over the data of a block one by one, and returns whether one had no bytes. After such a
-/// datum each further one begins at the same byte and is the same, so the walk ends there.
+/// Walks over the data of a block one by one, and returns whether one had no bytes. Each datum after
+/// such a datum starts at the same byte and is the same, so the walk ends there.
 ///
 /// # Errors
 ///

@@ -1,4 +1,4 @@
-//! Taking a block whole: its head, its data and its marker.
+//! Taking a whole block: its head, its data and its marker.
 
 ghost use Rattle.std.specs.Prelude.{◌≡◌, ◌≢◌, ◌↔◌, ◌+◌, ◌-◌, ◌^◌, ◌<◌, ◌≤◌, max, length, take, drop, OnOk, OnErr, IsTrue, Some, Err, IfOk, IfSome, IfNone};
 ghost use Rattle.std.specs.Result.{IfErr};
@@ -17,14 +17,14 @@ use crate::input::{Reach, fill};
 use crate::limits::FileLimits;
 use avro_device::Input;
 
-/// Whether some bytes are the marker.
+/// Whether the bytes are the marker.
 fn is_marker(bytes: &[u8], sync: &[u8; 16]) -> bool
     ensures { IsTrue result ↔ (bytes.now ≡ sync.now) }
 {
     bytes == sync.as_slice()
 }
 
-/// Takes the data of a block and the marker after them, which is compared.
+/// Takes the data of a block and the marker after them, and compares the marker.
 ///
 /// # Errors
 ///
@@ -68,10 +68,10 @@ pub(crate) fn take_body<I: Input>(
     Err(CopyError::WrongMarker(number))
 }
 
-/// The most blocks of a file.
+/// The most blocks in a file.
 const MAX_BLOCKS: u64 = 4_294_967_296;
 
-/// Takes the next block whole, after a number of others; nothing if the input ends before it.
+/// Takes the whole next block, given the number of earlier ones; `None` if the input ends before it.
 ///
 /// # Errors
 ///

@@ -1,4 +1,4 @@
-//! Whether a block begins, and taking its count and its size.
+//! Checking whether there is another block, and taking its count and size.
 
 ghost use Rattle.std.specs.Prelude.{◌≡◌, ◌≢◌, ◌+◌, ◌-◌, ◌^◌, ◌<◌, ◌≤◌, max, true, false, None, length, OnOk, OnErr, IfOk, Err, pos, take, drop, Some, ℕ, List};
 ghost use Rattle.std.specs.Result.{IfErr};
@@ -19,7 +19,7 @@ use crate::limits::FileLimits;
 use avro_device::Input;
 use avro_zigzag::VarError;
 
-/// Whether there is a byte of another block; if not, the input has reported its end.
+/// Whether there is another byte, which starts a block. If not, the input has reported its end.
 ///
 /// # Errors
 ///
@@ -53,7 +53,7 @@ pub(crate) fn begins_block<I: Input>(
     }
 }
 
-/// The error of a block's part that is not taken.
+/// The error when a part of a block cannot be taken.
 pub(crate) fn block_error(error: PartError, number: u64) -> CopyError
     ensures fault { file_fault result ≡ part_fault number error }
     ensures device { result ≡ CopyError.InputFailed → error ≡ PartError.Device }
@@ -73,8 +73,8 @@ pub(crate) fn block_error(error: PartError, number: u64) -> CopyError
     }
 }
 
-/// Takes the count or the size that begins after a number of bytes of a block, and returns it with
-/// its length in bytes.
+/// Takes the count or the size that starts after a number of bytes of a block; returns it and its
+/// length in bytes.
 ///
 /// # Errors
 ///
@@ -115,14 +115,14 @@ pub(crate) fn take_count<I: Input>(
     }
 }
 
-/// How many data a block has, where among its bytes they begin, and how many bytes they are.
+/// The number of a block's data, where among its bytes they start, and their length in bytes.
 #[derive(Clone, Copy, Debug)]
 pub struct BlockHead {
-    /// The number of its data.
+    /// The number of data.
     pub count: u32,
-    /// Where its data begin.
+    /// Where the data start.
     pub start: usize,
-    /// The number of their bytes.
+    /// The length of the data in bytes.
     pub size: usize,
 }
 

@@ -1,4 +1,4 @@
-//! Taking a length and a content of a header's metadata.
+//! Taking a length, or a length and the content after it, of a header's metadata.
 
 ghost use Rattle.std.specs.Prelude.{◌≡◌, ◌≢◌, ◌+◌, ◌^◌, ◌<◌, ◌≤◌, ℕ, Bool, List, max, length, take, drop, pos, IfOk, Some};
 ghost use Rattle.std.specs.Result.{IfErr};
@@ -17,7 +17,7 @@ use crate::input::{PartError, Reach, fill};
 use avro_binary::ReadError;
 use avro_device::Input;
 
-/// The error of a part of the metadata that is not taken, with its number at `offset`.
+/// The error when a part of the metadata, whose number is at `offset`, cannot be taken.
 pub(crate) fn metadata_error(error: PartError, offset: usize) -> CopyError
     ensures fault { file_fault result ≡ header_part_fault offset error }
     ensures device { result ≡ CopyError.InputFailed → error ≡ PartError.Device }
@@ -37,7 +37,7 @@ pub(crate) fn metadata_error(error: PartError, offset: usize) -> CopyError
     }
 }
 
-/// Takes the length that begins at `at`, and returns it with the number of its bytes.
+/// Takes the length that starts at `at`; returns it and the number of bytes it takes.
 ///
 /// # Errors
 ///
@@ -70,11 +70,11 @@ pub(crate) fn take_length<I: Input>(
     }
 }
 
-/// Takes the content whose length begins at `at`, and returns where it begins and ends.
+/// Takes the content whose length starts at `at`; returns where the content starts and ends.
 ///
 /// # Errors
 ///
-/// `InvalidMetadata` of the length, `LimitExceeded`, `CutHeader`; `InputFailed`, `OutOfMemory`.
+/// `InvalidMetadata` for the length, `LimitExceeded`, `CutHeader`; `InputFailed`, `OutOfMemory`.
 pub(crate) fn take_content<I: Input>(
     input: &mut I,
     buffer: &mut Buffer,

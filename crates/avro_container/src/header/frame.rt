@@ -1,4 +1,4 @@
-//! Taking the magic, the metadata and the marker of a header.
+//! Taking the magic, the metadata and the sync marker of a header.
 
 ghost use Rattle.std.specs.Prelude.{◌≡◌, ◌≢◌, ◌↔◌, [], ◌+◌, ◌^◌, ◌<◌, ◌≤◌, max, length, take, drop, IfOk, OnOk, IsTrue, Some};
 ghost use Rattle.std.specs.Result.{IfErr};
@@ -23,14 +23,14 @@ use std::alloc::Global;
 /// The first bytes of a file.
 pub const MAGIC: [u8; 4] = [0x4f, 0x62, 0x6a, 1];
 
-/// Whether some bytes are the magic.
+/// Whether the bytes are the magic.
 fn is_magic(bytes: &[u8]) -> bool
     ensures { IsTrue result ↔ (bytes.now ≡ magic) }
 {
     bytes == MAGIC.as_slice()
 }
 
-/// The error of a magic that is not taken whole.
+/// The error when the magic cannot be taken as a whole.
 fn magic_error(error: PartError) -> CopyError
     ensures device { result ≡ CopyError.InputFailed → error ≡ PartError.Device }
     ensures failed { error ≡ PartError.Device → result ≡ CopyError.InputFailed }
@@ -85,7 +85,7 @@ pub(crate) fn take_magic<I: Input>(
     Ok(())
 }
 
-/// The marker that some bytes are.
+/// The bytes as a marker.
 fn marker_of(bytes: &[u8]) -> [u8; 16]
     requires { length bytes.now ≡ 16 }
     ensures { result ≡ bytes.now }
@@ -126,7 +126,7 @@ pub(crate) fn take_marker<I: Input>(
     Ok(marker_of(marker))
 }
 
-/// What a header consists of, and where it ends.
+/// The parts of a header, and where it ends.
 #[derive(Drop)]
 pub(crate) struct Frame {
     pub(crate) metadata: Vec<(String, Vec<u8>)>,

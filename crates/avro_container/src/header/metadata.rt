@@ -1,4 +1,4 @@
-//! Taking the metadata of a header, and reading them alone.
+//! Taking the metadata of a header, and reading it on its own.
 
 ghost use Rattle.std.specs.Prelude.{◌≡◌, ◌≢◌, ◌+◌, ◌^◌, ◌<◌, ◌≤◌, true, false, max, length, IfOk, Some, OnOk, Err};
 ghost use Rattle.std.specs.Result.{IfErr};
@@ -25,7 +25,7 @@ use avro_device::Input;
 use std::alloc::Global;
 use std::collections::BTreeSet;
 
-/// Whether a block of `len` bytes is of another size than its head says.
+/// Whether the head of a block of `len` bytes gives another size.
 fn is_other_size(head: PropertiesHead, len: u64) -> bool
     ensures other { result ≡ true → (head.is_sized ≡ true) × (len ≢ head.size) }
     ensures same { result ≡ false → head.is_sized ≡ true → head.size ≡ len }
@@ -33,8 +33,8 @@ fn is_other_size(head: PropertiesHead, len: u64) -> bool
     head.is_sized && len != head.size
 }
 
-/// Takes the block of properties that begins at `at`, and returns whether there is one and where it
-/// ends. If there is none, the metadata ends there.
+/// Takes the block of properties that starts at `at`; returns whether there is one, and where it ends.
+/// If there is none, the metadata ends there.
 ///
 /// # Errors
 ///
@@ -73,7 +73,7 @@ fn take_metadata_block<I: Input>(
     Ok((true, end))
 }
 
-/// Takes the metadata after the magic, and returns its properties in order and where it ends.
+/// Takes the metadata after the magic; returns its properties in order, and where it ends.
 ///
 /// # Errors
 ///
@@ -111,12 +111,12 @@ pub(crate) fn take_metadata<I: Input>(
     }
 }
 
-/// Takes the header of a file, and no byte after it, and returns its metadata in the file's order.
-/// What they say is not looked at: the codec may be any, and there need be no schema.
+/// Takes the header of a file, and no byte after it; returns its metadata in the file's order. Its
+/// content is not checked: any codec will do, and a schema may be missing.
 ///
 /// # Errors
 ///
-/// `NoMagic`; then from left to right `InvalidMetadata`, `LimitExceeded` of a part that would pass the limit, or
+/// `NoMagic`; then, from left to right, `InvalidMetadata`, `LimitExceeded` for a part that would exceed the limit, or
 /// `CutHeader` if the input ends. `InputFailed`, `OutOfMemory`.
 pub fn read_metadata<I: Input>(
     alloc: Global,

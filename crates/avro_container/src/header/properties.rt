@@ -1,4 +1,4 @@
-//! Taking the properties of a header's metadata, and their names.
+//! Taking the properties in a header's metadata.
 
 ghost use Rattle.std.specs.Prelude.{◌≡◌, ℕ, cond, true, false, List, bytes_eq, string_bytes, IfOk, OnOk, IfSome, IfNone, Err, ◌+◌, ◌^◌, ◌<◌, ◌≤◌, [], ◌∷◌, ◌++◌, max, length, slice_index, Some};
 ghost use Rattle.std.specs.BTreeSet.{contains_text};
@@ -22,12 +22,12 @@ use avro_device::Input;
 use std::alloc::{AllocError, Global};
 use std::collections::BTreeSet;
 
-/// Why bytes are not a new name.
+/// Why some bytes are not a new name.
 #[derive(Clone, Copy, Debug)]
 pub(crate) enum NameError {
     /// They are not UTF-8.
     NoText,
-    /// The name is already there.
+    /// The name exists already.
     Twice,
     /// Memory ran out.
     OutOfMemory,
@@ -43,7 +43,7 @@ impl From<AllocError> for NameError {
     }
 }
 
-/// The text that bytes are, if they are UTF-8.
+/// The content as text, if it is UTF-8.
 fn text_of(content: &[u8]) -> Option<&str>
     ensures some { IfSome result (λ text. text.now ≡ content.now) }
     ensures valid { IfSome result (λ text. is_utf8 content.now ≡ true) }
@@ -55,11 +55,11 @@ fn text_of(content: &[u8]) -> Option<&str>
     }
 }
 
-/// Adds a name to those before it.
+/// Adds a name to the earlier ones.
 ///
 /// # Errors
 ///
-/// It is not UTF-8, or is already there; memory ran out.
+/// It is not UTF-8, or exists already; memory ran out.
 pub(crate) fn add_name(
     alloc: Global,
     names: &mut BTreeSet<String>,
@@ -90,14 +90,14 @@ pub(crate) fn add_name(
     }
 }
 
-/// The properties so far, with their names in byte order: no choice of names makes a look-up slow.
+/// The properties so far, with their names in byte order, so that no choice of names makes a lookup slow.
 #[derive(Drop)]
 pub(crate) struct Properties {
     pub(crate) entries: Vec<(String, Vec<u8>)>,
     pub(crate) names: BTreeSet<String>,
 }
 
-/// Takes the name of a property, and returns it with where it ends.
+/// Takes the name of a property; returns it, and where it ends.
 ///
 /// # Errors
 ///
@@ -135,12 +135,12 @@ fn take_name<I: Input>(
     }
 }
 
-/// Keeps nothing of a content: the type of its parameter is what says that each byte is below 256.
+/// Does nothing at run time. It tells the proof that each byte is below 256.
 fn keep_none(_content: &[u8])
     ensures { (i : ℕ) → slice_index _content.now i < 2 ^ 8 }
 {}
 
-/// Adds a property to those before it.
+/// Adds a property to the earlier ones.
 ///
 /// # Errors
 ///
@@ -158,7 +158,7 @@ fn add_property(
     Ok(())
 }
 
-/// Takes a property and adds it to those before it, and returns where it ends.
+/// Takes a property and adds it to the earlier ones; returns where it ends.
 ///
 /// # Errors
 ///
@@ -190,7 +190,7 @@ fn take_property<I: Input>(
     Ok(end)
 }
 
-/// Takes `count` properties, and returns where they end.
+/// Takes `count` properties; returns where they end.
 ///
 /// # Errors
 ///

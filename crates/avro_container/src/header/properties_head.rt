@@ -1,4 +1,4 @@
-//! Taking the head of a block of a header's metadata.
+//! Taking the head of a block in a header's metadata.
 
 ghost use Rattle.std.specs.Prelude.{◌≡◌, ◌+◌, ◌^◌, ◌<◌, ◌≤◌, ℕ, true, max, length, take, drop, IfOk, Some};
 ghost use Rattle.std.specs.Result.{IfErr};
@@ -18,8 +18,8 @@ use crate::input::number::take_long;
 use avro_binary::ReadError;
 use avro_device::Input;
 
-/// How many properties a block of the metadata has, where they begin, and the size that it gives them, if any, with its offset.
-/// Without properties it ends the metadata.
+/// The head of a block in the metadata: the number of its properties, where they start, and the size given for them, if
+/// any, with its offset. A block without properties ends the metadata.
 #[derive(Clone, Copy, Debug)]
 pub(crate) struct PropertiesHead {
     pub(crate) count: u64,
@@ -29,7 +29,8 @@ pub(crate) struct PropertiesHead {
     pub(crate) offset: usize,
 }
 
-/// Takes the count of a block that begins at `at`: whether it is negative, its magnitude, and how many bytes it takes.
+/// Takes the block count that starts at `at`; returns whether it is negative, its magnitude, and the number of bytes it
+/// takes.
 ///
 /// # Errors
 ///
@@ -62,7 +63,7 @@ fn take_properties_count<I: Input>(
     Ok((count < 0, count.unsigned_abs(), len))
 }
 
-/// Takes the head of the block that begins at `at`, or the 0 that ends the metadata.
+/// Takes the head of the block that starts at `at`, or the 0 that ends the metadata.
 ///
 /// # Errors
 ///

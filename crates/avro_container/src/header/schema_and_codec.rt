@@ -1,4 +1,4 @@
-//! What the metadata of a header say: the schema and the codec.
+//! The schema and the codec in a header's metadata.
 
 ghost use Rattle.std.specs.Prelude.{◌≡◌, ◌≢◌, codes, IfOk, IfSome, IfNone, Some, None};
 ghost use Rattle.std.specs.Result.{IfErr};
@@ -16,7 +16,7 @@ use avro_schema::Schema;
 use avro_schema_json::{SchemaError, read_schema};
 use std::alloc::Global;
 
-/// The content of the first property of a name, if there is one.
+/// The content of the first property with this name, if any.
 fn content_of<'a>(properties: &'a [(String, Vec<u8>)], name: &str) -> Option<&'a [u8]>
     ensures some { IfSome result (λ content. property name.now (properties_of properties.now) ≡ Some content.now) }
     ensures none { IfNone result (property name.now (properties_of properties.now) ≡ None) }
@@ -29,7 +29,7 @@ fn content_of<'a>(properties: &'a [(String, Vec<u8>)], name: &str) -> Option<&'a
     None
 }
 
-/// The text of the schema among the metadata of a header, if there is one. It need not declare a schema.
+/// The text of the schema in a header's metadata, if any. It need not declare a schema.
 pub fn schema_text(metadata: &[(String, Vec<u8>)]) -> Option<&[u8]>
     ensures some { IfSome result (λ text. property (codes "avro.schema") (properties_of metadata.now) ≡ Some text.now) }
     ensures none { IfNone result (property (codes "avro.schema") (properties_of metadata.now) ≡ None) }
@@ -71,7 +71,7 @@ fn schema_in(alloc: Global, text: &[u8]) -> Result<Schema, CopyError>
     }
 }
 
-/// The schema of a file, of its metadata.
+/// The schema of a file, from its metadata.
 ///
 /// # Errors
 ///

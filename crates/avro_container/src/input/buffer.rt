@@ -1,4 +1,4 @@
-//! Bytes that were taken from an input and are not used yet.
+//! Bytes that were taken from an input but not used yet.
 
 ghost use Rattle.std.specs.Prelude.{◌≡◌, ◌≢◌, ◌+◌, ◌^◌, ◌<◌, ◌≤◌, [], length, drop, IfOk, OnOk, OnErr, Err};
 ghost use Rattle.avro_container.specs.Filled.{GrowsBy, TakesAtMost};
@@ -6,7 +6,7 @@ ghost use Rattle.avro_container.specs.Filled.{GrowsBy, TakesAtMost};
 use avro_device::Input;
 use std::alloc::{AllocError, Global};
 
-/// The most bytes that a buffer grows by ahead of what has arrived.
+/// The most bytes that a buffer grows by before they have arrived.
 pub(crate) const GROWTH: usize = 65_536;
 
 /// Why nothing was taken.
@@ -28,9 +28,9 @@ impl From<AllocError> for TakeError {
     }
 }
 
-/// Bytes that were taken, from `start` to `end` of a room.
+/// The bytes taken so far: those of `room` from `start` to `end`.
 ///
-/// The room stays when bytes are passed, and is filled again: a take writes zeros only where there was no room before.
+/// Passing bytes does not shrink `room`: it is reused, and only newly allocated space is filled with zeros.
 #[derive(Drop)]
 pub struct Buffer {
     room: Vec<u8>,
@@ -54,21 +54,21 @@ impl Buffer {
         }
     }
 
-    /// The bytes that it holds.
+    /// The bytes held.
     pub fn bytes(&self) -> &[u8]
         ensures { result.now ≡ held self.now }
     {
         &self.room[self.start..self.end]
     }
 
-    /// How many bytes it holds.
+    /// The number of bytes held.
     pub fn len(&self) -> usize
         ensures { result ≡ length (held self.now) }
     {
         self.end - self.start
     }
 
-    /// Drops a number of bytes at the front.
+    /// Drops the first `count` bytes.
     pub fn pass(&mut self, count: usize)
         requires { count ≤ length (held self.old) }
         ensures { held self.new ≡ drop count (held self.old) }
@@ -76,7 +76,7 @@ impl Buffer {
         self.start += count;
     }
 
-    /// Moves the bytes to the front of the room, where they are not there.
+    /// Moves the bytes held to the front of `room`.
     fn move_to_front(&mut self)
         ensures same { held self.new ≡ held self.old }
         ensures front { free self.new + length (held self.new) ≡ length self.new.room.items }
@@ -90,8 +90,8 @@ impl Buffer {
         self.end = end - start;
     }
 
-    /// Makes room for a number of bytes more, and for [`GROWTH`] at least if there is too little, so that a buffer that is
-    /// asked for a few bytes again and again is not moved for each.
+    /// Makes room for `count` more bytes. If there is too little, it makes room for at least [`GROWTH`], so that the bytes held
+    /// are not moved for every few bytes.
     fn make_room(&mut self, count: usize) -> Result<(), AllocError>
         requires { length (held self.old) + count < 2 ^ 64 }
         ensures same { held self.new ≡ held self.old }
@@ -109,11 +109,11 @@ impl Buffer {
         Ok(())
     }
 
-    /// One take of at most a number of bytes, after those that it holds.
+    /// Takes at most `most` bytes in one call, and appends them to those held.
     ///
     /// # Errors
     ///
-    /// `Device` or `OutOfMemory`; it holds what it held before.
+    /// `Device` or `OutOfMemory`; the bytes held are unchanged.
     pub(crate) fn take_more<I: Input>(
         &mut self,
         input: &mut I,

@@ -12,7 +12,7 @@ use crate::input::{PartError, Reach, fill};
 use avro_device::Input;
 use avro_zigzag::{VarError, read_long};
 
-/// Takes the long that begins after a number of bytes, and returns it with its length in bytes.
+/// Takes the long that starts after a number of bytes; returns it and its length in bytes.
 ///
 /// # Errors
 ///

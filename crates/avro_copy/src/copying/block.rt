@@ -26,8 +26,8 @@ use avro_container::{BlockHead, Buffer, CopyError, Header, Reach, take_block};
 use avro_device::{Input, Output};
 use avro_resolve::PlanRef;
 
-/// Takes the next block, after a number of others, puts its copy, and returns how many data it has;
-/// nothing if the input ends before it.
+/// Takes the next block, given the number of earlier ones, puts its copy, and returns the number of its
+/// data; `None` if the input ends before it.
 ///
 /// # Errors
 ///
@@ -87,10 +87,10 @@ pub(crate) fn copy_block<I: Input, O: Output>(
     }
 }
 
-/// How many bytes an input is taken ahead of a block.
+/// How many bytes may be taken beyond a block.
 const AHEAD: usize = 65_536;
 
-/// Takes the next block whole, after a number of others, and packs its data; nothing if the input ends before it.
+/// Takes the whole next block, given the number of earlier ones, and packs its data; `None` if the input ends before it.
 ///
 /// # Errors
 ///

@@ -28,15 +28,15 @@ pub struct Copier<'a> {
     pub(crate) opened: Option<Opened<'a>>,
     pub(crate) blocks: u64,
     pub(crate) store: Store,
-    // the plain encoding of what a datum without bytes is for the reader, if one was read
+    // the plain encoding that a datum without bytes is copied as, if one was read
     pub(crate) empty: Option<Vec<u8>>,
     pub(crate) ended: bool,
     pub(crate) failed: bool,
     ghost near: { length (held store.buffer) ≤ task.limits.block + 36 },
-    // nothing is ahead of the header
+    // nothing is held before the header
     ghost none_yet: { opened ≡ None → held store.buffer ≡ [] },
     ghost known: { ForSome opened (λ o. ForSome empty (λ unit. ∥ PacksNoBytes (reading_of (job_of task) task.limits (header_value o.0)) unit.items ∥₁)) },
-    // the data are read for the reader of the task
+    // the data are read for the task's reader
     ghost same: { ForSome opened (λ o. o.1 ≡ option_copied task.reader) } by { Prim.hlevel (codes, datum.the_row.coded) },
 }
 
@@ -52,8 +52,8 @@ impl<'a> Copier<'a> {
     ghost use Rattle.avro_copy.specs.Steps.{GoesOn, fresh, most_ahead};
     ghost use Rattle.avro_copy.specs.TaskSeen.{job_from};
 
-    /// A copier of a file of which nothing was taken yet: into a reader's schema, if there is one, and with a marker, or else
-    /// with the file's.
+    /// A copier of a file of which nothing was taken yet: for a reader's schema, if given, and with this marker, or the file's
+    /// if none is given.
     pub fn new(
         alloc: Global,
         reader: Option<&'a ReaderText>,
@@ -80,7 +80,7 @@ impl<'a> Copier<'a> {
         }
     }
 
-    /// The bytes that were taken and belong to no part that a step has returned.
+    /// The bytes that were taken beyond the parts that steps have returned.
     pub fn ahead(&self) -> &[u8]
         ensures ahead { result.now ≡ (stored_of self.now).ahead }
         ensures bounded { length result.now ≤ most_ahead (limits_in self.now) }
@@ -88,11 +88,12 @@ impl<'a> Copier<'a> {
         self.store.buffer.bytes()
     }
 
-    /// Reads the header or the next block, and puts its copy. Once the input has reported its end, it stays so.
+    /// Reads the header or the next block, and puts its copy. Once the input has reported its end, each later step returns the
+    /// end.
     ///
     /// # Errors
     ///
-    /// The first fault of the part; `InputFailed`, `OutputFailed`, `OutOfMemory`. After an error `FailedBefore`.
+    /// The first fault of the part; `InputFailed`, `OutputFailed`, `OutOfMemory`. After an error, `FailedBefore`.
     pub fn step<I: Input, O: Output>(
         &mut self,
         input: &mut I,

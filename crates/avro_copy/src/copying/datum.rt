@@ -1,4 +1,4 @@
-//! Packing data one after another.
+//! Packing data one by one.
 
 ghost use Rattle.std.specs.Prelude.{◌≡◌, ◌++◌, ◌<◌, ◌≤◌, None, Some, IfOk, IfNone, length, take, [], option_map, IfSome};
 ghost use Rattle.std.specs.Option.{option_copied};
@@ -22,7 +22,7 @@ use avro_resolve::{PlanRef, ReadResolveError};
 use avro_schema::{Limits, Schema};
 use std::alloc::Global;
 
-/// Reads a datum from the front of bytes, by a plan if there is one, and adds the plain encoding of what it is to the earlier
+/// Reads a datum from the start of some bytes, by a plan if there is one, and appends its plain encoding to the earlier
 /// ones.
 fn pack_datum(
     alloc: Global,
@@ -45,7 +45,7 @@ fn pack_datum(
     }
 }
 
-/// Reads a datum from the front of bytes by a plan, and adds the plain encoding of what it is for the reader.
+/// Reads a datum from the start of some bytes by a plan, and appends the plain encoding of what it resolves to.
 fn pack_resolved(
     alloc: Global,
     plan: &PlanRef<'_>,
@@ -62,9 +62,9 @@ fn pack_resolved(
     }
 }
 
-/// Reads the data of a block one by one, and keeps the plain encodings of what they are for the reader, one after another. It
-/// ends after a datum without bytes, and returns its plain encoding: each further datum begins at
-/// the same byte, and is the same. It returns how many data and bytes it read, too.
+/// Reads the data of a block one by one, resolves them for the reader, and packs their plain encodings. It stops after a
+/// datum without bytes and returns its plain encoding, since each further datum starts at the same byte and is the same.
+/// It also returns the number of data and bytes that it read.
 ///
 /// # Errors
 ///

@@ -70,7 +70,7 @@ pub(crate) fn copy_header<'a, I: Input, O: Output>(
     }
 }
 
-/// Finds what the data of a file are read for, and puts the copy of its header.
+/// Prepares reading a file's data for the reader, and puts the copy of its header.
 ///
 /// # Errors
 ///
@@ -97,10 +97,10 @@ fn put_opened<'a, O: Output>(
     Ok(opened)
 }
 
-/// Where the metadata keeps the schema.
+/// The metadata key of the schema.
 const SCHEMA: &str = "avro.schema";
 
-/// The marker of a copy: the one that is asked for, or the file's.
+/// The marker of a copy: the one given, or the file's.
 pub(crate) fn marker(task: &Task, header: &Header) -> [u8; 16]
     ensures { result ≡ or_else task.now.sync header.now.sync }
 {
@@ -135,7 +135,7 @@ pub(crate) fn put_header<O: Output>(
     Ok(())
 }
 
-/// The metadata, with the reader's text in place of the schema's if there is one.
+/// The metadata, with the reader's text, if any, in place of the schema's.
 fn copied_metadata(
     alloc: Global,
     metadata: &[(String, Vec<u8>)],
@@ -150,7 +150,7 @@ fn copied_metadata(
     Ok(all)
 }
 
-/// An entry of the metadata, with the reader's text in place of the schema's if there is one.
+/// An entry of the metadata, with the reader's text, if any, in place of the schema's.
 fn copied_entry(
     alloc: Global,
     entry: &(String, Vec<u8>),
@@ -172,7 +172,7 @@ fn copied_entry(
     Ok((String::from_str(alloc, name)?, content.to_vec(alloc)?))
 }
 
-/// Whether an entry of this name is the schema.
+/// Whether the entry with this name is the schema.
 fn is_schema(name: &str) -> bool
     ensures { result ≡ bytes_eq name.now (codes "avro.schema") }
 {

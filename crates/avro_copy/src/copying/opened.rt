@@ -1,4 +1,4 @@
-//! The header of a file that is copied, with what reading its data for a reader needs.
+//! The header of the file to copy, with what is needed to read its data for a reader.
 
 use avro_container::Header;
 use avro_resolve::{PlanRef, PlanTable};
@@ -7,15 +7,15 @@ use avro_schema_json::ReaderText;
 use std::alloc::Global;
 use std::marker::Model;
 
-/// A reader's text, and what resolution asks of the nodes of a file's schema and the reader's.
+/// A reader's text, and the plan table of the file's schema and the reader's.
 #[derive(Drop)]
 struct Target<'a> {
     reader: &'a ReaderText,
     table: PlanTable,
 }
 
-/// A header that was read, and what its data are read for. Contracts see the header, and the reader's text and schema if
-/// there is one.
+/// A header that was read, and the reader of its data. Contracts see the header, and the reader's text and schema if there
+/// is a reader.
 #[derive(Drop)]
 pub(crate) struct Opened<'a> {
     header: Header,
@@ -46,7 +46,7 @@ impl<'a> Opened<'a> {
     ghost use Rattle.std.specs.Option.{IfSome, option_copied};
     ghost use Rattle.avro_schema.specs.SeenSchema.{schema_nodes};
 
-    /// A header whose data are read for this reader, if there is one, or else as they are.
+    /// A header whose data are read for this reader, or as they are if there is none.
     ///
     /// # Errors
     ///

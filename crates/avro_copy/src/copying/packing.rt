@@ -1,4 +1,4 @@
-//! Packing the data of a block, when a datum without bytes may be known from a block before.
+//! Packing the data of a block, where a datum without bytes may be known from an earlier block.
 
 ghost use Rattle.std.specs.Prelude.{◌≡◌, ◌<◌, ◌≤◌, None, Some, OnOk, IfOk, IfNone, length, take, option_map, IfSome};
 ghost use Rattle.std.specs.Option.{option_copied, ForSome};
@@ -20,7 +20,7 @@ use avro_binary::laws::{plain_encodes, prefix};
 use avro_container::{CopyError, Header, LimitPlace};
 use avro_resolve::PlanRef;
 
-/// Keeps the plain encoding of what a datum without bytes is for the reader, once for each further datum of a block.
+/// Appends `unit`, the plain encoding of a resolved datum without bytes, once for each further datum of a block.
 ///
 /// # Errors
 ///
@@ -59,7 +59,7 @@ fn pack_again(
     Ok(())
 }
 
-/// Packs the rest of the data of a block, if they have no bytes.
+/// Packs the rest of a block's data, if they have no bytes.
 ///
 /// # Errors
 ///
@@ -90,7 +90,7 @@ fn pack_rest(
     }
 }
 
-/// Packs the data of a block up to the first without bytes, and none if such a datum is known.
+/// Packs the data of a block up to the first without bytes; packs nothing if such a datum is known.
 ///
 /// # Errors
 ///
@@ -126,8 +126,8 @@ fn pack_front(
     Ok((done, start))
 }
 
-/// Reads the data of a block, and keeps the plain encodings of what they are for the reader, one after another. `empty` keeps
-/// that of a datum without bytes, if one was read: it is read once.
+/// Reads the data of a block, resolves them for the reader, and packs their plain encodings. `empty` keeps the encoding of
+/// a datum without bytes, so that such a datum is read only once.
 ///
 /// # Errors
 ///
@@ -161,8 +161,8 @@ pub(crate) fn pack_data(
     Ok(())
 }
 
-/// Reads the data of a block, and keeps the plain encodings of what they are for the reader, one after another. `empty` keeps
-/// that of a datum without bytes from block to block, if one was read.
+/// Reads the data of a block, resolves them for the reader, and packs their plain encodings. `empty` keeps the encoding of
+/// a datum without bytes from block to block.
 ///
 /// # Errors
 ///
@@ -188,7 +188,7 @@ pub(crate) fn pack_known(
 {
     prefix();
     plain_encodes();
-    // Its nodes are known to be a schema.
+    // Only the contract of this call matters here: the schema is well formed.
     let _ = header.schema().len();
     pack_data(task, header, plan, number, count, body, empty, packed)
 }

@@ -1,10 +1,10 @@
-//! What is asked of a copy, and what is kept from block to block.
+//! What a copier is to do, and what it keeps from block to block.
 
 use avro_container::{Buffer, FileLimits};
 use avro_schema_json::ReaderText;
 use std::alloc::Global;
 
-/// What is asked of a copy: the reader's text and the marker, if they are given, and the limits.
+/// What a copier is to do: the reader's text and the marker, if given, and the limits.
 #[derive(Clone, Copy)]
 pub(crate) struct Task<'a> {
     pub(crate) reader: Option<&'a ReaderText>,
@@ -12,7 +12,7 @@ pub(crate) struct Task<'a> {
     pub(crate) limits: FileLimits,
 }
 
-/// What is kept from block to block: what was taken, the data that are packed, and the block that is put.
+/// The buffers kept from block to block: the bytes taken, the data packed, and the block to put.
 #[derive(Drop)]
 pub(crate) struct Store {
     pub(crate) buffer: Buffer,
@@ -35,7 +35,7 @@ impl Store {
         }
     }
 
-    /// Drops what was taken.
+    /// Drops the bytes taken.
     pub(crate) fn forget(&mut self)
         ensures { held self.new.buffer ≡ [] }
     {

@@ -11,8 +11,8 @@ use crate::error::ReadError;
 use avro_zigzag::read_long;
 
 impl<'a> Cursor<'a> {
-    /// Whether the count of a block at the front is negative, its magnitude after its tests, and how
-    /// many bytes it takes.
+    /// Reads and checks a block's count; returns whether it is negative, its magnitude, and the number of
+    /// bytes it takes.
     fn block_count(&self) -> Result<(bool, u32, usize), ReadError>
         ensures inside { IfOk result (λ r. r.2 ≤ length self.now.bytes) }
         ensures within { IfOk result (λ r. r.1 ≤ self.now.nodes) }
@@ -38,7 +38,7 @@ impl<'a> Cursor<'a> {
         }
     }
 
-    /// The size that follows a block's count, after its test, and how many bytes the two take.
+    /// Reads and checks the size after a block's count; returns it and the number of bytes the two take.
     fn block_size(&self, len: usize) -> Result<(u64, usize), ReadError>
         requires { len ≤ length self.now.bytes }
         ensures inside { IfOk result (λ r. (len ≤ r.1) × (r.1 ≤ length self.now.bytes)) }
@@ -59,13 +59,13 @@ impl<'a> Cursor<'a> {
         }
     }
 
-    /// Reads the head of a block, or the 0 that ends the blocks: nothing.
+    /// Reads the head of a block, or returns `None` for the 0 that ends the blocks.
     ///
     /// # Errors
     ///
-    /// Of the count: `EndOfInput`, `InvalidNumber`, then `InvalidLength` where it is the smallest
-    /// long, then `LimitExceeded` where it is more than the nodes left; then of the size:
-    /// `EndOfInput`, `InvalidNumber`, `InvalidLength` where it is negative.
+    /// For the count: `EndOfInput` or `InvalidNumber`, then `InvalidLength` if it is the smallest long,
+    /// then `LimitExceeded` if it exceeds the nodes left; then for the size: `EndOfInput` or
+    /// `InvalidNumber`, then `InvalidLength` if it is negative.
     #[inline(always)]
     pub fn block(&mut self) -> Result<Option<Block>, ReadError>
         ensures { ReadsHead self.old self.new result }
@@ -87,7 +87,7 @@ impl<'a> Cursor<'a> {
         !rest.is_empty() && rest[0] == 0
     }
 
-    /// Reads the head of a block, or the end of the blocks in any spelling of 0.
+    /// Like `block`, where 0 may be padded.
     fn head(&mut self) -> Result<Option<Block>, ReadError>
         ensures { ReadsHead self.old self.new result }
     {
@@ -102,7 +102,7 @@ impl<'a> Cursor<'a> {
         Ok(Some(Block { count, size: None }))
     }
 
-    /// Reads a block's head that has a size after its count, which takes `len` bytes.
+    /// Reads the rest of a block's head, in which a size follows the count of `len` bytes.
     fn sized_block(&mut self, count: u32, len: usize) -> Result<Option<Block>, ReadError>
         requires inside { len ≤ length self.old.bytes }
         requires some { 0 < count }
@@ -126,8 +126,8 @@ impl<'a> Cursor<'a> {
         }))
     }
 
-    /// Compares the size that a block's head gave, if any, with where the cursor is after the
-    /// block's items.
+    /// Checks the size given in a block's head, if any, against the cursor's offset after the block's
+    /// items.
     ///
     /// # Errors
     ///

@@ -78,7 +78,7 @@ impl<'a> Cursor<'a> {
     ///
     /// # Errors
     ///
-    /// `LimitExceeded` where the size is over the limit, else `EndOfInput`.
+    /// `LimitExceeded` if the size is over the limit, otherwise `EndOfInput`.
     pub fn fixed(&mut self, size: u32) -> Result<&'a [u8], ReadError>
         ensures { ReadsElement (λ content. content.now) (IsFixed size self.old.blob) (FixedBreaks size self.old.blob) self.old self.new result }
     {
@@ -94,7 +94,7 @@ impl<'a> Cursor<'a> {
         Ok(self.pass(size))
     }
 
-    /// Reads the index of a branch or a symbol, below their count.
+    /// Reads the index of a branch or a symbol, which must be below `choices`.
     ///
     /// # Errors
     ///
@@ -116,7 +116,7 @@ impl<'a> Cursor<'a> {
         }
     }
 
-    /// The length of the content at the front, after its tests, and how many bytes it takes.
+    /// Reads and checks the length before some content; returns it and the number of bytes it takes.
     #[inline(always)]
     fn content_length(&self) -> Result<(usize, usize), ReadError>
         ensures inside { IfOk result (λ r. r.1 ≤ length self.now.bytes) }
@@ -140,7 +140,7 @@ impl<'a> Cursor<'a> {
         }
     }
 
-    /// The content at the front after its length, and how many bytes the two take.
+    /// Reads a length and the content after it; returns the content and the number of bytes the two take.
     #[inline(always)]
     fn content(&self) -> Result<(&'a [u8], usize), ReadError>
         ensures stands { IfOk result (λ r. ContentStands self.now.blob self.now.bytes r.0.now r.1) }
@@ -157,7 +157,7 @@ impl<'a> Cursor<'a> {
         Ok((content, len + count))
     }
 
-    /// The text at the front after its length, and how many bytes the two take.
+    /// Reads a length and the text after it; returns the text and the number of bytes the two take.
     #[inline(always)]
     fn text(&self) -> Result<(&'a str, usize), ReadError>
         ensures stands { IfOk result (λ r. ContentStands self.now.blob self.now.bytes r.0.now r.1) }
@@ -173,12 +173,12 @@ impl<'a> Cursor<'a> {
         }
     }
 
-    /// Reads bytes after their length.
+    /// Reads bytes, preceded by their length.
     ///
     /// # Errors
     ///
-    /// Of the length: `EndOfInput`, `InvalidNumber`, then `InvalidLength` where it is negative, then `LimitExceeded`; then
-    /// `EndOfInput` of the content.
+    /// For the length: `EndOfInput` or `InvalidNumber`, then `InvalidLength` if it is negative, then `LimitExceeded`; then
+    /// `EndOfInput` for the content.
     pub fn bytes(&mut self) -> Result<&'a [u8], ReadError>
         ensures { ReadsElement (λ content. content.now) (IsBytes self.old.blob) (BytesBreaks self.old.blob) self.old self.new result }
     {
@@ -187,11 +187,11 @@ impl<'a> Cursor<'a> {
         Ok(content)
     }
 
-    /// Reads a string after its length.
+    /// Reads a string, preceded by its length.
     ///
     /// # Errors
     ///
-    /// As for bytes, and then `InvalidText`.
+    /// As for `bytes`, then `InvalidText`.
     #[inline(always)]
     pub fn string(&mut self) -> Result<&'a str, ReadError>
         ensures { ReadsElement (λ text. text.now) (IsString self.old.blob) (StringBreaks self.old.blob) self.old self.new result }
@@ -201,11 +201,11 @@ impl<'a> Cursor<'a> {
         Ok(text)
     }
 
-    /// Reads a key that isn't among those before it in its map, and adds it to them.
+    /// Reads a map's next key, which must be new, and adds it to those seen.
     ///
     /// # Errors
     ///
-    /// As for a string, then `DuplicateKey`; `OutOfMemory`.
+    /// As for `string`, then `DuplicateKey`; `OutOfMemory`.
     pub fn key(&mut self, seen: &mut Keys<'a>) -> Result<&'a str, ReadError>
         ensures depth { self.new.depth ≡ self.old.depth }
         ensures read { (keys : List (List ℕ)) → seen.old ≡ key_set keys → ReadsKey (λ text. text.now) keys self.old self.new seen.old seen.new result }
@@ -222,7 +222,7 @@ impl<'a> Cursor<'a> {
     }
 }
 
-/// The index that a number names, below a count.
+/// `value` as an index, if it is one of `choices`.
 fn index_of(value: i32, choices: usize) -> Option<usize>
     ensures some { IfSome result (λ index. (value ≡ pos index) × (index < choices)) }
     ensures none { IfNone result (is_index choices value ≡ false) }
@@ -234,9 +234,9 @@ fn index_of(value: i32, choices: usize) -> Option<usize>
     if index < choices { Some(index) } else { None }
 }
 
-/// Bytes as text, if they are UTF-8.
+/// The content as text, if it is UTF-8.
 ///
-/// Most texts are short, and the test of the long ones takes longer to begin than they need.
+/// Most texts are short: for those, the check for long texts takes longer to start than the plain one takes in all.
 #[inline(always)]
 fn text_of(content: &[u8]) -> Option<&str>
     ensures some { IfSome result (λ text. (text.now ≡ content.now) × (is_utf8 content.now ≡ true)) }
