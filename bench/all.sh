@@ -1,10 +1,10 @@
 #!/usr/bin/env bash
-# Runs every measure, and prints one table with the machine, the kit and the program at its head:
+# Runs every measurement, and prints one table, headed by the machine, the kit and the program:
 #
 #     bench/all.sh [PROGRAM [MEASURE..]]
 #
-# PROGRAM is crates/avro/out/avro where none is named; a MEASURE is texts, forms, verdicts, pairs, inputs, answers, containers, pipes,
-# walks or drafts. A measure that fails is told on standard error, the others are run, and the status is then 1.
+# PROGRAM is crates/avro/out/avro by default; a MEASURE is texts, forms, verdicts, pairs, inputs, answers, containers, pipes, walks
+# or drafts. If one fails, that is reported on standard error, the others are still run, and the status is 1.
 set -uo pipefail
 
 here=$(cd "$(dirname "$0")" && pwd)

@@ -1,8 +1,8 @@
 #!/usr/bin/env python3
-"""Measures what a canonical form takes beside reading the schema.
+"""Measures the cost of canonical forms, compared with reading the schema alone.
 
     canonical.py PROGRAM    prints, for each kind and number of nodes, the bytes of the canonical form and the least
-                            processor time of nine runs, in milliseconds, of `PROGRAM schema FILE` without and with
+                            processor time of nine runs of `PROGRAM schema FILE`, in milliseconds, without and with
                             `--canonical`
 """
 import json

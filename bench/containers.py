@@ -1,16 +1,16 @@
 #!/usr/bin/env python3
-"""Writes container files, and measures a program that checks and copies them against one in C.
+"""Writes container files, and measures a program that checks and copies them against C.
 
     containers.py write narrow|wide|strings FILE [MEGABYTES]
     containers.py measure PROGRAM [FOLDER [KIND..]]
     containers.py instructions PROGRAM [FOLDER [KIND..]]
     containers.py large PROGRAM [FOLDER]
 
-`measure` writes files of 100 MB, runs PROGRAM and `c/copy.c` on them in turn, and prints for each command the least processor time
-of five runs, the peak of resident memory, the peak of PROGRAM's heap, and whether the two copies are the same bytes. `instructions`
-counts the instructions of one run each for files of 4 MB, by valgrind, which other work on the machine doesn't change. `large` measures
-once with a file of 1 GB of narrow records, where 12 GB of the disk stay free. The files go into FOLDER, or into a folder that is
-removed.
+`measure` writes files of 100 MB, runs PROGRAM and `c/copy.c` on them in turn, and prints for each command the least processor
+time of five runs, the peak of resident memory, the peak of PROGRAM's heap, and whether the two copies have the same bytes.
+`instructions` counts the instructions of one run each for files of 4 MB with valgrind, which other work on the machine does not
+change. `large` measures a file of 1 GB of narrow records once, if 12 GB of the disk stay free. The files go to FOLDER, or to a
+temporary folder.
 """
 
 import filecmp

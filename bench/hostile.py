@@ -1,5 +1,5 @@
 #!/usr/bin/env python3
-"""Writes texts of schemas that are made to cost more than their length.
+"""Writes schema texts that are made to cost more than their length.
 
     hostile.py KIND SIZE FILE     writes the text of a kind, at most SIZE bytes long
     hostile.py measure PROGRAM    prints the time and the peak memory of `PROGRAM schema FILE` for each kind and size

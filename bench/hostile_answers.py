@@ -1,11 +1,11 @@
 #!/usr/bin/env python3
-"""Writes inputs whose answers, faults, data or pairs are far more than they are long, and measures a program on them.
+"""Writes inputs with far more output, faults, data or pairs than their length, and measures a program on them.
 
     hostile_answers.py PROGRAM [ROW..]         all rows, or those whose names begin with one of the words
     hostile_answers.py write FOLDER [ROW..]    their files, at their greatest lengths
 
-The rows, runs and columns are like those of `hostile_files.py`; the greatest lengths are those at which a run ends within its limits, and are
-not what a text may have.
+Rows, runs and columns are like those of `hostile_files.py`; the greatest lengths are those at which a run ends within its
+limits, less than what a text may have.
 """
 
 import os

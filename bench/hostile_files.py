@@ -1,12 +1,12 @@
 #!/usr/bin/env python3
-"""Writes container files, texts of schemas and pairs of them that are made to cost more than their length, and measures a program on them.
+"""Writes container files, schema texts and pairs of them that are made to cost more than their length, and measures them.
 
     hostile_files.py PROGRAM [ROW..]         all rows, or those whose names begin with one of the words
     hostile_files.py write FOLDER [ROW..]    their files, at their greatest lengths
 
-Each row is run at its greatest length and at about an eighth of it. It prints the command, the bytes of what is read, seconds of the
-processor and the peak of memory in MB of both, how often as long the greatest took, and the answer. A run ends after 60 seconds of the
-processor or 4 GB; where the eighth does, the greatest is not run. A peak of up to 40 MB may be that of the script, which starts the program.
+Each row is run at its greatest length and at about an eighth of it. It prints the command, the bytes read, the processor seconds
+and the peak of memory in MB of both runs, the ratio of their times, and the answer. A run ends after 60 seconds of processor time
+or 4 GB; if the eighth does, the greatest is not run. A peak of up to 40 MB may be that of the script, which starts the program.
 """
 
 import itertools

@@ -4,9 +4,9 @@
     hostile_pairs.py write FOLDER
     hostile_pairs.py measure PROGRAM
 
-`measure` runs `PROGRAM judge WRITER READER` on each pair, and `PROGRAM show FILE --reader READER` on files of the writer's schema: one without a
-block, and one of 100,000 blocks of one null each. It prints the lengths of the two texts, seconds of the processor and the peak of memory
-in MB of each, and the answer of the first. A run ends after 60 seconds of the processor or 8 GB.
+`measure` runs `PROGRAM judge WRITER READER` on each pair, and `PROGRAM show FILE --reader READER` on files with the writer's
+schema: one without a block, and one of 100,000 blocks of one null each. It prints the lengths of the two texts, the processor
+seconds and the peak of memory in MB of each, and the answer of the first. A run ends after 60 seconds of processor time or 8 GB.
 """
 
 import itertools

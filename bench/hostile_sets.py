@@ -1,4 +1,4 @@
-"""Schemas whose defaults make the sets of nodes that places of a default have many, or far apart: kinds of `hostile.py`."""
+"""Kinds of `hostile.py`: schemas whose defaults lead to many sets of nodes, or very different ones."""
 import json
 import random
 

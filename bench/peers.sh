@@ -1,12 +1,12 @@
 #!/usr/bin/env bash
-# Says which other programs for container files there are, and measures those beside this one:
+# Says which other programs for container files are installed, and measures them and this one:
 #
 #     bench/peers.sh [PROGRAM [MEGABYTES]]
 #
-# PROGRAM is crates/avro/out/avro where none is named. Looked for are the programs of avro-c (`avrocat`, `avromod`: Debian's avro-bin), its headers
-# (libavro-dev, which nothing here is built with) and Java's avro-tools (`java`, and the file that AVRO_TOOLS names). They are run on the files of
-# `containers.py`, of 10 MB where no other number is named: `show` beside `avrocat` and `tojson`, `copy` beside `avromod` and `recodec`. It prints
-# the least processor time of five runs, and whether the program reads what the others wrote.
+# PROGRAM is crates/avro/out/avro by default. The script looks for the programs of avro-c (`avrocat`, `avromod`: Debian's avro-bin),
+# its headers (libavro-dev, which nothing here is built with) and Java's avro-tools (`java`, and the file that AVRO_TOOLS names). It
+# runs them on the files of `containers.py`, of 10 MB by default: `show` against `avrocat` and `tojson`, `copy` against `avromod` and
+# `recodec`. It prints the least processor time of five runs, and whether the program reads what the others wrote.
 set -euo pipefail
 
 here=$(cd "$(dirname "$0")" && pwd)

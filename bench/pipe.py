@@ -3,12 +3,12 @@
 
     pipe.py [PROGRAM] [--megabytes N] [--compared N] [--blocks N] [--kinds KIND..] [--peak MB] [--runs N]
 
-PROGRAM is $AVRO where it is not given, and else avro on the PATH. A container is a header and --blocks blocks (64) of about 64 KiB, again and again; its kind is
-narrow, wide or strings, as in `containers.py`. First `copy` and `pipe` take one file of --compared megabytes (100) in turn, --runs times (3), and the
-rows have the least times. Then `pipe` reads --megabytes (5,000) from one pipe and writes into another; no file is as long. Sizes are rounded up to whole turns
-of the blocks. Whatever is written is compared byte for byte with what
-`copy` makes of the header and of one turn of the blocks, put together again. The peak of resident memory must be under --peak megabytes (4). All of this is done
-without a reader's schema and with one. The status is 1 where an output differs, or a peak is too high.
+The default PROGRAM is $AVRO, or avro on the PATH. A container is a header and --blocks blocks (64) of about 64 KiB, repeated;
+its kind is narrow, wide or strings, as in `containers.py`. First `copy` and `pipe` take one file of --compared megabytes (100)
+in turn, --runs times (3), and the rows have the least times. Then `pipe` reads --megabytes (5,000) from one pipe and writes to
+another; no file is that long. Sizes are rounded up to whole repetitions of the blocks. All output is compared byte for byte with
+what `copy` makes of the header and of one repetition, put together again. The peak of resident memory must be under --peak
+megabytes (4). All of this is done without and with a reader's schema. The status is 1 if an output differs or a peak is too high.
 """
 
 import argparse

@@ -1,11 +1,11 @@
 #!/usr/bin/env python3
 """Measures how the program walks over large data, and how it reads large schemas.
 
-    reading.py walks PROGRAM     `PROGRAM check` of files of 100 MB in which each block is one large datum, beside `c/walk.c` over the
-                                 same data without a container, but for keys
-    reading.py drafts PROGRAM    `PROGRAM schema` of texts with many small definitions, with long lists, and of many types in one another
+    reading.py walks PROGRAM     `PROGRAM check` of files of 100 MB in which each block is one large datum, and `c/walk.c` over the
+                                 same data without a container, except for keys
+    reading.py drafts PROGRAM    `PROGRAM schema` of texts with many small definitions, long lists, and many nested types
 
-A row has the least processor time of five runs, reading the file included, and what was found.
+A row has the least processor time of five runs, including reading the file, and the result.
 """
 
 import json

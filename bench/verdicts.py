@@ -4,9 +4,9 @@
     verdicts.py write FOLDER
     verdicts.py measure PROGRAM [FOLDER]
 
-`measure` runs `PROGRAM judge WRITER READER` on each pair, then with a certificate asked for, after a yes `PROGRAM confirm` with that
-certificate, and `PROGRAM explain`. It prints the least processor time of five runs each in milliseconds, the peak of memory in MB, and the
-answers. A run ends after 60 seconds of the processor.
+`measure` runs `PROGRAM judge WRITER READER` on each pair, again with `--certificate`, after a yes `PROGRAM confirm` with that
+certificate, and `PROGRAM explain`. It prints the least processor time of five runs each in milliseconds, the peak of memory in
+MB, and the answers. A run ends after 60 seconds of processor time.
 """
 
 import json

@@ -70,7 +70,7 @@ fn explain_schemas(
     }
 }
 
-/// What is answered of two schemas without a fault.
+/// The answer for two schemas without a fault.
 pub fn no_fault(form: Form) -> &'static str
     ensures { form ≡ Form.Text → result.now ≡ codes "yes\n" }
 {
@@ -80,7 +80,7 @@ pub fn no_fault(form: Form) -> &'static str
     }
 }
 
-/// What is answered of two schemas whose roots lead to more pairs than the limit.
+/// The answer for two schemas whose roots lead to more pairs than the limit.
 pub fn over_pairs(form: Form) -> &'static str
     ensures { form ≡ Form.Text → result.now ≡ codes "undecided Pairs\n" }
 {

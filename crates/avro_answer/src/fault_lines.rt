@@ -15,7 +15,7 @@ use avro_explain::{Explanation, Finding, Place};
 use avro_schema::{Memory, Schema};
 use std::alloc::{AllocError, Global};
 
-/// A text that is longer is put in several pieces.
+/// A longer text is put in several pieces.
 const PIECE: usize = 1_048_576;
 
 /// Why the faults were not put.
@@ -121,7 +121,7 @@ fn append_faults(
     Ok(())
 }
 
-/// Puts all faults by names, but for what is left in the text.
+/// Puts all faults by name, except for what stays in the text.
 fn put_lines<O: Output>(
     out: &mut O,
     text: &mut String,
@@ -148,7 +148,7 @@ fn put_lines<O: Output>(
     Ok(())
 }
 
-/// Puts a text that is long and clears it, and nothing of one that is short.
+/// Puts and clears a text if it is long.
 fn put_piece<O: Output>(out: &mut O, text: &mut String) -> Result<(), PutError>
     ensures put { OnOk result ((put : List ℕ) × O.keeps out.old put out.new × (string_bytes text.old ≡ put ++ string_bytes text.new)) }
     ensures works { OnOk result (O.failures out.new ≡ O.failures out.old) }
@@ -163,7 +163,7 @@ fn put_piece<O: Output>(out: &mut O, text: &mut String) -> Result<(), PutError>
     Ok(())
 }
 
-/// Puts a text by one call, if the output takes it whole.
+/// Puts a text, in one call if the output takes all of it.
 fn put_text<O: Output>(out: &mut O, text: &str) -> Result<(), PutError>
     ensures put { OnOk result (O.keeps out.old text.now out.new) }
     ensures works { OnOk result (O.failures out.new ≡ O.failures out.old) }
@@ -175,7 +175,7 @@ fn put_text<O: Output>(out: &mut O, text: &str) -> Result<(), PutError>
     Ok(())
 }
 
-/// What is before the faults, of which there are some.
+/// The start of the text, before the faults.
 fn begin_faults(alloc: Global, count: usize, form: Form) -> Result<String, AllocError>
     ensures { IfOk result (λ begun. form ≡ Form.Text → string_bytes begun ≡ no_line count) }
 {
@@ -258,7 +258,7 @@ fn append_json(
     Ok(())
 }
 
-/// What is after the faults.
+/// The end of the text, after the faults.
 fn end_of_faults(form: Form) -> &'static str
     ensures { form ≡ Form.Text → result.now ≡ [] }
 {

@@ -10,7 +10,7 @@ use std::alloc::{AllocError, Global};
 /// Where a fault is, and what is missing there.
 #[derive(Drop)]
 pub(crate) struct FaultPlace<'a> {
-    /// The way down the writer's schema: `$`, then the name of a field, the position of an item or of an
+    /// The path down the writer's schema: `$`, then the name of a field, the position of an item or of an
     /// entry, or the branch of a union.
     pub(crate) at: String,
     /// The name of the reader's field, or of the writer's symbol, that is missing.

@@ -21,7 +21,7 @@ use avro_judge::{JudgeLimits, Verdict};
 use avro_schema::{Memory, Schema};
 use std::alloc::Global;
 
-/// Judges two schemas, and answers a line that begins with a word.
+/// Judges two schemas, and returns a line that begins with a word.
 ///
 /// # Errors
 ///
@@ -57,7 +57,7 @@ fn line_of(alloc: Global, word: &str, verdict: &Verdict<'_>) -> Result<Vec<u8>, 
     Ok(line)
 }
 
-/// Judges two schemas, and answers a line of JSON, with the name of a file, and a mode if there is one.
+/// Judges two schemas, and returns a line of JSON, with the name of a file, and a mode if there is one.
 ///
 /// # Errors
 ///
@@ -85,9 +85,9 @@ pub fn judge_json_line<'a>(
     })
 }
 
-/// Judges the schema of each text but the last with that of the last, and answers a line for each, which begins with
-/// its number, from 0. A no of one outranks an undecided, which outranks a yes. The texts follow one another; their
-/// lengths are given, and a length past the end is that of what is left.
+/// Judges the schema of each text but the last against that of the last, and returns a line for each, which begins with
+/// its number, from 0. A no outranks an undecided, which outranks a yes. The texts are concatenated and given with their
+/// lengths; a length past the end stands for what is left.
 ///
 /// # Errors
 ///

@@ -15,7 +15,7 @@ use crate::refusal::Refusal;
 use avro_schema::Schema;
 use std::alloc::Global;
 
-/// The schemas of texts that follow one another.
+/// The schemas of concatenated texts.
 pub(crate) fn read_texts(
     alloc: Global,
     texts: &[u8],
@@ -36,7 +36,7 @@ pub(crate) fn read_texts(
     Ok(schemas)
 }
 
-/// The front of a length, or all if there is less, and what is left.
+/// Splits off a prefix of this length, or everything if there is less.
 fn cut(texts: &[u8], length: usize) -> (&[u8], &[u8])
     ensures front { result.0.now ≡ take length texts.now }
     ensures back { result.1.now ≡ drop length texts.now }

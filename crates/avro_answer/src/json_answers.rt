@@ -36,7 +36,7 @@ pub(crate) fn judged_line(
     Ok(answer.line()?)
 }
 
-/// The line of a verdict in a history: on which file, in which mode if there are two, and what it is.
+/// The line of a verdict in a history: the file, the mode if there are two, and the verdict.
 pub(crate) fn history_line(
     alloc: Global,
     file: &str,
@@ -70,7 +70,7 @@ fn put_verdict(
     Ok(())
 }
 
-/// The line that says whether a certificate confirms what it is for.
+/// The line that says whether a certificate confirms its schemas.
 pub(crate) fn confirmed_line(alloc: Global, is_confirmed: bool) -> Result<String, AllocError> {
     let mut answer = JsonObject::new(alloc);
     answer.put("confirmed", &Value::Bool(is_confirmed))?;

@@ -1,10 +1,10 @@
-//! Objects of JSON with their members in the order in which they are put.
+//! JSON objects whose members keep the order in which they are added.
 
 use serde_json::Value;
 use std::alloc::{AllocError, Global};
 
-/// An object of JSON that takes members. A `serde_json::Map` has its keys in the order of their bytes; here
-/// each key and each value is the text of a `serde_json::Value`.
+/// A JSON object under construction. The keys of a `serde_json::Map` would be in byte order; here each key
+/// and each value is the text of a `serde_json::Value`, in the order added.
 #[derive(Drop)]
 pub(crate) struct JsonObject {
     alloc: Global,

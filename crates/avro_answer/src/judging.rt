@@ -19,12 +19,12 @@ use avro_judge::{JudgeLimits, Verdict};
 use avro_schema::{Memory, Schema};
 use std::alloc::Global;
 
-/// A verdict, and what is answered of it.
+/// A verdict, and the answer for it.
 #[derive(Drop)]
 pub struct Judged<'a> {
     /// The verdict.
     pub verdict: Verdict<'a>,
-    /// What is answered.
+    /// The answer.
     pub answer: Answer,
 }
 
@@ -46,7 +46,7 @@ pub fn judge_schemas<'a>(
         → SchemasAnswer (schema_nodes writer.now) (schema_nodes reader.now) limits.now j.answer.text.items j.answer.status) }
     ensures status { IfOk result (λ j. StatusAnswer (schema_nodes writer.now) (schema_nodes reader.now) limits.now j.answer.status) }
 {
-    // The contract of this call tells that the limit is in its range, which the proof needs.
+    // Only the contract of this call matters here: the limit is in its range.
     let _ = limits.size();
     let verdict = judge_is_right(alloc, writer, reader, limits)?;
     let text = text_of(alloc, writer, reader, &verdict, form)?;

@@ -1,7 +1,7 @@
-//! What the program answers of the bytes of schemas and certificates: the bytes of a text, and an exit status.
+//! The program's answers about the bytes of schemas and certificates: the bytes of a text, and an exit status.
 //!
 //! [`judge_text`], [`explain_text`], [`confirm_text`], [`history_text`] and [`schema_text`] are for bytes; the other
-//! calls are for what is read already. Nothing here opens a file or prints.
+//! calls take what was already read. Nothing here opens a file or prints.
 #![tactic(auto)]
 
 mod answer;

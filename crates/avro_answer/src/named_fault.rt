@@ -1,4 +1,4 @@
-//! A fault of two schemas, with the names of what it speaks of.
+//! A fault of two schemas, with the names of what it is about.
 
 ghost use Rattle.std.specs.Prelude.{◌≡◌, ◌<◌, ◌++◌, None, length, slice_get, string_bytes, option_map, OnOk, IfOk};
 ghost use Rattle.std.specs.Option.{IfSome};
@@ -13,7 +13,7 @@ use avro_explain::{Detail, Finding, Place, way_to};
 use avro_schema::{Memory, NodeId, Schema};
 use std::alloc::{AllocError, Global};
 
-/// A fault, with both nodes by names.
+/// A fault, with both nodes by name.
 #[derive(Drop)]
 pub(crate) struct NamedFault<'a> {
     detail: Detail,
@@ -23,8 +23,8 @@ pub(crate) struct NamedFault<'a> {
     reader: NamedPlace,
 }
 
-/// A fault by names; there is none where its place is not among those that were found, which no fault of
-/// `explain` is.
+/// A fault by name, or `None` if its place is not among those found, which never happens for a fault of
+/// `explain`.
 pub(crate) fn name_fault<'a>(
     alloc: Global,
     writer: &'a Schema,
@@ -151,7 +151,7 @@ impl<'a> NamedFault<'a> {
         }
     }
 
-    /// Appends what is wrong, in words.
+    /// Appends an explanation of the fault.
     fn put_reason(&self, text: &mut String) -> Result<(), AllocError>
         ensures { OnOk result (string_bytes text.new ≡ string_bytes text.old
             ++ reason_text self.now.detail (missing_seen self.now) (string_bytes self.now.writer.type_text) (string_bytes self.now.reader.type_text)) }

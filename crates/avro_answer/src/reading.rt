@@ -1,4 +1,4 @@
-//! Reading the texts that an answer is of.
+//! Reading the texts that an answer is about.
 
 ghost use Rattle.std.specs.Prelude.{◌≡◌, ◌<◌, true, length, IfOk, IsErrOf};
 ghost use Rattle.std.specs.Result.{IfErr};
@@ -45,7 +45,7 @@ pub(crate) fn read_reader(alloc: Global, text: &[u8]) -> Result<Schema, Refusal>
     }
 }
 
-/// A refusal, unless it is that memory ran out.
+/// The refusal, or that memory ran out.
 fn unless_memory(e: SchemaError, refusal: Refusal) -> Refusal
     ensures memory { e ≡ SchemaError.OutOfMemory → result ≡ OutOfMemory }
     ensures other { (e ≡ SchemaError.OutOfMemory → ⊥) → result ≡ refusal }

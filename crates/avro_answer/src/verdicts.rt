@@ -44,7 +44,7 @@ pub(crate) fn status_of(verdict: &Verdict<'_>) -> u8
     }
 }
 
-/// What is answered of a verdict.
+/// The answer for a verdict.
 pub(crate) fn text_of(
     alloc: Global,
     writer: &Schema,
@@ -62,7 +62,7 @@ pub(crate) fn text_of(
     }
 }
 
-/// What is answered of a verdict, as text.
+/// The answer for a verdict, as text.
 fn plain_text_of(alloc: Global, writer: &Schema, verdict: &Verdict<'_>) -> Result<Vec<u8>, Memory>
     requires fitting { IfRefuted verdict.now (λ r. fits (schema_nodes writer.now) (root_of (schema_nodes writer.now)) (value_of r.datum) ≡ true) }
     requires small { IfRefuted verdict.now (λ r. value_size (value_of r.datum) ≤ 2 ^ 64 - 1) }

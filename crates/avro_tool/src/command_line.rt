@@ -1,4 +1,4 @@
-//! The request that the words of a command line are.
+//! From the words of a command line to a request.
 
 use crate::failure::Failure;
 use crate::grammar::{history_command, program};
@@ -10,7 +10,7 @@ use clap::error::ErrorKind;
 use clap::{ArgMatches, Command};
 use std::alloc::{AllocError, Global};
 
-/// The request that the words are.
+/// The request that the words make.
 pub(crate) fn request_of<'a>(
     alloc: Global,
     words: &'a [String],
@@ -19,7 +19,7 @@ pub(crate) fn request_of<'a>(
     request_by(alloc, &mut command, words)
 }
 
-/// The request that the words are for a command.
+/// The request that the words make, parsed with a command.
 fn request_by<'a>(
     alloc: Global,
     command: &mut Command<'a>,
@@ -51,7 +51,7 @@ fn request_found<'a>(
     }
 }
 
-/// What is reported where no command is among the words.
+/// What is reported if the words have no command.
 fn no_command<'a>(command: &mut Command<'_>) -> Result<Failure<'a>, AllocError> {
     let error = command.error(ErrorKind::MissingSubcommand, "a command is required")?;
     Ok(Failure::Usage(error))
@@ -188,7 +188,7 @@ fn checking_in<'a>(alloc: Global, check: &ArgMatches<'a>) -> Result<Request<'a>,
     })
 }
 
-/// The request of the words of a history, if they go together.
+/// The request of the words of a history, if they are consistent.
 fn history_in<'a>(alloc: Global, history: &ArgMatches<'a>) -> Result<Request<'a>, Failure<'a>> {
     refuse_history(alloc, history)?;
     let limits = limits_in(history)?;
@@ -196,8 +196,8 @@ fn history_in<'a>(alloc: Global, history: &ArgMatches<'a>) -> Result<Request<'a>
     history_of(alloc, history, limits, files)
 }
 
-/// Refuses the words of a history of one schema, and those that ask for certificates of others than the last
-/// schema as the reader's.
+/// Refuses a history of one schema, and a request for certificates with any reader's schema but the last
+/// one.
 fn refuse_history<'a>(alloc: Global, history: &ArgMatches<'a>) -> Result<(), Failure<'a>> {
     if !matches!(history.get_strs("files"), Some(files) if files.len() > 1) {
         return Err(too_few_schemas(alloc)?);

@@ -1,4 +1,4 @@
-//! The line of a container file that is refused.
+//! The line of a refused container file.
 
 ghost use Rattle.std.specs.Prelude.{◌≡◌, ◌++◌, OnOk, IfOk};
 ghost use Rattle.avro_certificate.specs.CertificateText.{decimal};
@@ -58,7 +58,7 @@ fn append_datum(text: &mut Vec<u8>, block: u64, datum: u32) -> Result<(), AllocE
     append_decimal(text, u64::from(datum))
 }
 
-/// Appends what is told of an error besides, after a colon.
+/// Appends the reason of an error, if any, after a colon.
 fn append_reason(text: &mut Vec<u8>, error: &CopyError) -> Result<(), AllocError>
     ensures { OnOk result (text.new.items ≡ text.old.items ++ reason_text error.now) }
 {

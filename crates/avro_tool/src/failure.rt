@@ -39,7 +39,7 @@ pub(crate) enum Failure<'a> {
     NotText,
     /// A file was to be copied into itself.
     OneWord,
-    /// The digits of a marker are not those of 16 bytes.
+    /// The word for a marker is not the digits of 16 bytes.
     NoMarker,
     /// A file was to be copied into itself, by another name.
     OneFile,
@@ -51,9 +51,9 @@ pub(crate) enum Failure<'a> {
     IsRead(&'a str),
     /// A file that is to be written holds a schema.
     IsSchema(&'a str),
-    /// The word after an option is no number that it takes.
+    /// The word after an option is not a number in its range.
     OutOfRange(NumberOption),
-    /// The word after the option of a number of lines is none.
+    /// The word after the option for a number of lines is not a number.
     NoLimit,
 }
 
@@ -151,7 +151,7 @@ impl<'a> Failure<'a> {
         }
     }
 
-    /// The line of a failure that is no refusal.
+    /// The line of a failure other than a refusal.
     fn other_line(&self, alloc: Global) -> Result<String, AllocError> {
         match self {
             Failure::CannotRead(word) => format!(in alloc; "avro: {word}: cannot read\n"),
@@ -166,7 +166,7 @@ impl<'a> Failure<'a> {
         }
     }
 
-    /// The line of a failure that names no word, which takes no memory; other failures have no text here.
+    /// The line of a failure that names no word, which allocates nothing; empty for other failures.
     pub(crate) fn fixed_line(&self) -> &'static str {
         match self {
             Failure::CannotPrint => "avro: output: cannot write\n",
@@ -183,7 +183,7 @@ impl<'a> Failure<'a> {
     }
 }
 
-/// The line of a word that is no number that an option takes.
+/// The line for a word that is not a number in an option's range.
 fn range_line(alloc: Global, option: NumberOption) -> Result<String, AllocError> {
     let word = option.word();
     let most = option.most();

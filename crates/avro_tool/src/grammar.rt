@@ -12,13 +12,13 @@ const MODES: [&str; 3] = ["backward", "forward", "full"];
 enum Takes {
     /// A word that must be there, of this name in the usage.
     Word(&'static str),
-    /// Such words, one at least.
+    /// One or more such words.
     Words(&'static str),
     /// A word after the option, of this name in the usage.
     Option(&'static str),
     /// A number after the option.
     Number,
-    /// A number after the option, which is this one where it is not given.
+    /// A number after the option, with this default.
     NumberOr(&'static str),
     /// A mode after the option.
     Mode,
@@ -309,7 +309,7 @@ fn argument_of<'a>(alloc: Global, argument: &Argument) -> Result<Arg<'a>, AllocE
     }
 }
 
-/// The option that is not given beside this one.
+/// The option that conflicts with this one.
 fn rival_of(id: &str) -> Option<&'static str> {
     match id {
         "canonical" => Some("fingerprint"),
@@ -318,7 +318,7 @@ fn rival_of(id: &str) -> Option<&'static str> {
     }
 }
 
-/// The argument, as one that takes this.
+/// The argument with what it takes.
 fn taking<'a>(arg: Arg<'a>, id: &'static str, takes: Takes) -> Arg<'a> {
     match takes {
         Takes::Word(name) => arg.value_name(name).required(true).action(ArgAction::Set),

@@ -34,7 +34,7 @@ enum Finding {
 }
 
 impl Finding {
-    /// What a verdict of this status is.
+    /// The finding for a verdict with this status.
     fn of_verdict(status: u8) -> Finding {
         match status {
             0 => Finding::Yes,
@@ -52,7 +52,7 @@ impl Finding {
         }
     }
 
-    /// What was found of several, of which one more failed with a status.
+    /// The finding for several, after one more failed with a status.
     fn or_failed(self, status: u8) -> Finding {
         match self {
             Finding::Failed(first) => Finding::Failed(first),
@@ -60,7 +60,7 @@ impl Finding {
         }
     }
 
-    /// What was found of several: a no outranks an undecided, which outranks a yes.
+    /// The finding for both: a no outranks an undecided, which outranks a yes.
     fn and(self, other: Finding) -> Finding {
         if self == Finding::No || other == Finding::No {
             Finding::No
@@ -80,9 +80,8 @@ pub fn refuse_words<E: Write>(error: &io::Error, err: &mut E) -> u8 {
 }
 
 /// Runs the program on its words, without its name, and returns its exit status: 0 good or yes, 1
-/// no, 2 undecided, 3 refused input, 4 a file's fault, 5 out of memory, 64 usage. What it finds
-/// goes to `out`; faults and the texts of usage go to `err`. `input` is read by the command that
-/// copies it alone.
+/// no, 2 undecided, 3 refused input, 4 a file's fault, 5 out of memory, 64 usage. Answers go to
+/// `out`, errors and usage texts to `err`. Only the command that copies `input` reads it.
 pub fn run<R: Files + AllocGlobal, I: Read, O: Write, E: Write>(
     rt: &R,
     words: &[String],
@@ -109,7 +108,7 @@ fn report<E: Write>(alloc: Global, failure: &Failure<'_>, err: &mut E) -> u8 {
     }
 }
 
-/// Reports that memory ran out, which takes none.
+/// Reports that memory ran out, without allocating.
 fn report_memory<E: Write>(err: &mut E) -> u8 {
     let failure = Failure::OutOfMemory;
     let _ = err.write_all(failure.fixed_line().as_bytes());

@@ -5,10 +5,10 @@ use avro_judge::JudgeLimits;
 use avro_schema::Limits;
 use clap::ArgMatches;
 
-/// An option that takes a number, and the greatest one that it takes; the least is 1.
+/// An option that takes a number from 1 to a greatest one.
 #[derive(Clone, Copy)]
 pub(crate) enum NumberOption {
-    /// The greatest product of the two numbers of nodes.
+    /// The greatest product of the two node counts.
     MaxPairs,
     /// The greatest number of nodes of a datum that refutes.
     MaxSize,
@@ -69,7 +69,7 @@ fn number_in<'a>(matches: &ArgMatches<'a>, option: NumberOption) -> Result<u32, 
     }
 }
 
-/// The greatest number of lines that the words ask for, if they name one.
+/// The greatest number of lines that the words ask for, if any.
 pub(crate) fn lines_in<'a>(matches: &ArgMatches<'a>) -> Result<Option<u64>, Failure<'a>> {
     let Some(word) = matches.get_str("limit") else {
         return Ok(None);

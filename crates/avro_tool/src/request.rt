@@ -6,11 +6,11 @@ use avro_judge::JudgeLimits;
 /// What the words ask for.
 #[derive(Drop)]
 pub(crate) enum Request<'a> {
-    /// Whether the reader's schema takes all data of the writer's.
+    /// Whether the reader's schema reads all data of the writer's.
     Judge(Judging<'a>),
     /// All faults of a reader's schema with a writer's.
     Explain(Explaining<'a>),
-    /// Whether a certificate shows that a reader's schema takes all data of the writer's.
+    /// Whether a certificate shows that a reader's schema reads all data of the writer's.
     Confirm {
         writer: &'a str,
         reader: &'a str,
@@ -29,23 +29,23 @@ pub(crate) enum Request<'a> {
         files: Vec<&'a str>,
         form: Form,
     },
-    /// The data of a container, as what they are for a reader's schema if there is one, and how many
-    /// there may be at the most.
+    /// The data of a container, resolved to a reader's schema if there is one, and how many to show at
+    /// most.
     Show {
         file: &'a str,
         reader: Option<&'a str>,
         limit: Option<u64>,
     },
-    /// A copy of a container, whose data are what they are for a reader's schema if there is one, and
-    /// the digits of its marker if they are given.
+    /// A copy of a container, resolved to a reader's schema if there is one, with the digits of its marker
+    /// if given.
     Copy {
         source: &'a str,
         output: &'a str,
         reader: Option<&'a str>,
         sync: Option<&'a str>,
     },
-    /// A copy of the container on standard input, likewise, on standard output; and whether its numbers of
-    /// data and blocks are reported.
+    /// The same from standard input to standard output, and whether its numbers of data and blocks are
+    /// reported.
     Pipe {
         reader: Option<&'a str>,
         sync: Option<&'a str>,
@@ -87,7 +87,7 @@ pub(crate) struct History<'a> {
     pub(crate) reader: &'a str,
     pub(crate) evidence: Evidence<'a>,
     pub(crate) mode: Mode,
-    /// Each schema is judged with the next one alone, and not with the last one.
+    /// Each schema is judged with the next one instead of the last one.
     pub(crate) is_next: bool,
     pub(crate) limits: JudgeLimits,
     pub(crate) form: Form,
@@ -111,6 +111,6 @@ pub(crate) enum Evidence<'a> {
     Left,
     /// Those of a yes for each writer's schema go into a file.
     Written(&'a str),
-    /// Those of a file are to show that the reader's schema takes all data.
+    /// Those of a file are to show that the reader's schema reads all data.
     Given(&'a str),
 }

@@ -9,8 +9,8 @@ use std::alloc::Global;
 use std::io::Write;
 use std::rt::Files;
 
-/// Reads the containers in files, and prints how many data and blocks each has. The fault of one is reported,
-/// and the others are read all the same; the status is that of the first fault.
+/// Reads the containers in files, and prints how many data and blocks each has. If one has a fault, it is
+/// reported and the others are still read; the status is that of the first fault.
 pub(crate) fn check_files<'a, R: Files + AllocGlobal, O: Write, E: Write>(
     rt: &R,
     words: &[&'a str],

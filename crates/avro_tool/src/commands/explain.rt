@@ -1,4 +1,4 @@
-//! All faults of two schemas, told by names.
+//! All faults of two schemas, by name.
 
 use crate::Finding;
 use crate::failure::Failure;

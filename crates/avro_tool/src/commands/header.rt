@@ -1,4 +1,4 @@
-//! What the header of a container says.
+//! Printing what the header of a container contains.
 
 use crate::Finding;
 use crate::failure::Failure;
@@ -27,7 +27,7 @@ pub(crate) fn show_header<'a, R: Files + AllocGlobal, O: Write>(
     Ok(Finding::Good)
 }
 
-/// The line that is shown of a header.
+/// The line to print for a header.
 fn header_line<I: Input>(
     alloc: Global,
     input: &mut I,

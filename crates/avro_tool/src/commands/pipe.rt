@@ -17,8 +17,8 @@ use std::rt::Files;
 /// The word for the standard input.
 const INPUT: &str = "-";
 
-/// Copies a container from a reader to a writer, and reports of a whole copy how many data and blocks it has, if
-/// that is asked for.
+/// Copies a container from a reader to a writer, and, if asked for, reports how many data and blocks a whole copy
+/// has.
 pub(crate) fn pipe_streams<'a, R: Files + AllocGlobal, I: Read, O: Write, E: Write>(
     rt: &R,
     reader: Option<&'a str>,
@@ -34,7 +34,7 @@ pub(crate) fn pipe_streams<'a, R: Files + AllocGlobal, I: Read, O: Write, E: Wri
     }
     let counts = pipe_container(rt, reader, sync, input, out)?;
     if is_counted {
-        // If the standard error fails, the copy is whole all the same.
+        // If standard error fails, the copy is still whole.
         let _ = print_counts(err, counts);
     }
     Ok(Finding::Good)

@@ -22,8 +22,8 @@ use std::alloc::Global;
 use std::io::{BufWriter, Write};
 use std::rt::Files;
 
-/// Prints a line for each datum of the container in a file, as what it is for a reader's schema if a
-/// file is named for it; no more lines than the limit, if there is one.
+/// Prints a line for each datum of the container in a file, resolved to a reader's schema if a file is
+/// named for it, and no more lines than the limit, if there is one.
 pub(crate) fn show_file<'a, R: Files + AllocGlobal, O: Write>(
     rt: &R,
     word: &'a str,
@@ -152,7 +152,7 @@ fn plan_for<'a>(
     }
 }
 
-/// The next block, where there is one. All of its data were walked over, so that a block with a fault is not shown in part.
+/// The next block, if there is one, after a walk over all of its data, so that a block with a fault is not shown in part.
 fn next_block<'a, I: Input>(
     blocks: &mut Blocks<'a>,
     input: &mut I,
@@ -170,8 +170,7 @@ fn next_block<'a, I: Input>(
     Ok(Some(block))
 }
 
-/// Prints the first data of a block that was walked over, as many as it has at the most, each once it was read
-/// by itself.
+/// Prints the first data of a block that was walked over, up to a number, each as soon as it was read.
 fn show_block<'a, O: Write>(
     alloc: Global,
     block: &Block<'_>,
@@ -209,8 +208,8 @@ fn shown_schema<'a>(schema: &'a Schema, plan: &'a Option<Plan<'_>>) -> &'a Schem
     }
 }
 
-/// Reads a datum from the front of bytes, as what it is for a reader where there is one, and
-/// returns it with the length of its encoding.
+/// Reads a datum from the start of some bytes, resolved for the reader if there is one, and returns it
+/// with the length of its encoding.
 fn read_datum(
     alloc: Global,
     schema: &Schema,
@@ -225,7 +224,7 @@ fn read_datum(
     resolved_fits();
     match plan {
         Some(plan) => {
-            // The reader's nodes are known to be a schema.
+            // Only the contract of this call matters here: the reader's schema is well formed.
             let _ = plan.by_ref().reader().len();
             plan.read(alloc, bytes, limits, &mut Tree)
         }

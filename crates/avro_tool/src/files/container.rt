@@ -12,7 +12,7 @@ use std::{fs, io};
 /// How many bytes are read or written at once.
 pub(crate) const ROOM: usize = 65_536;
 
-/// How many bytes the line of two counts has at the most.
+/// The most bytes in a line of two counts.
 const ROOM_OF_COUNTS: usize = 54;
 
 /// The container in a file, of which nothing is read yet.

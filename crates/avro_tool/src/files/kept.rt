@@ -15,7 +15,7 @@ pub(crate) const STANDARD_INPUT: &str = "/dev/stdin";
 /// The file that the standard output is.
 pub(crate) const STANDARD_OUTPUT: &str = "/dev/stdout";
 
-/// What is known of the file that a word names, if it is a regular file.
+/// The metadata of the file that a word names, if it is a regular file.
 fn regular_file<'a, R: Files>(rt: &R, word: &'a str) -> Result<Option<Metadata>, Failure<'a>> {
     match fs::metadata(rt, word) {
         Ok(found) if found.is_file() => Ok(Some(found)),
@@ -63,8 +63,8 @@ pub(crate) fn refuse_read_file<'a, R: Files>(
     Ok(())
 }
 
-/// Refuses a file that is to be written if its text declares a schema. A file that is not regular, or
-/// that may not be read, is not looked at.
+/// Refuses a file that is to be written if its text declares a schema. A file that is not regular or not
+/// readable is not checked.
 pub(crate) fn refuse_schema_file<'a, R: Files + AllocGlobal>(
     rt: &R,
     output: Option<&'a str>,
