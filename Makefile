@@ -62,6 +62,8 @@ install: $(PROGRAM) ## installs the proved program, its man page and its complet
 
 quick: words ## runs all tests without any proof (thirteen minutes of processor time)
 	@for crate in $(TESTS); do echo "== $$crate"; (cd crates/$$crate && rt try --test) || exit 1; done
+	@echo "== avro_runs"; cd crates/avro_runs && \
+	rt try --steps 1 --seconds 600 $$(sed 's/.*/--data &=data\/&/' args) -- $$(cat args) | diff - stdout
 
 test: ## the gate: each proof, test, program and must-fail edit, from scratch (three and a half processor hours)
 	rt ci
