@@ -4,7 +4,7 @@ use crate::resolving_parts::{FIELDS, PARTS};
 use crate::resolving_rows::{BRANCHES, Row};
 use avro_binary::{Nothing, Tree, append_plain, decode};
 use avro_display::show;
-use avro_packed::{Packed, Pieces, append};
+use avro_packed::Packed;
 use avro_resolve::{Plan, ReadResolveError, decode_resolved, read_resolved, resolve};
 use avro_schema::{Datum, Limits, NodeId, Schema, fits};
 use avro_schema_json::read_schema;
@@ -64,13 +64,6 @@ fn is_tree(alloc: Global, reader: &Schema, read: &Read<Datum>, row: &Row) -> Res
     Ok(text.as_str() == row.3)
 }
 
-/// Whether what is packed are these bytes.
-fn is_flat(alloc: Global, pieces: &Pieces, plain: &[u8]) -> Result<bool, AllocError> {
-    let mut flat = Vec::new(alloc);
-    append(pieces, &mut flat)?;
-    Ok(flat.as_slice() == plain)
-}
-
 /// Whether the plain encoding of a datum are these bytes.
 fn is_encoded(alloc: Global, datum: &Datum, plain: &[u8]) -> Result<bool, AllocError> {
     let mut encoded = Vec::new(alloc);
@@ -82,14 +75,14 @@ fn is_encoded(alloc: Global, datum: &Datum, plain: &[u8]) -> Result<bool, AllocE
 fn are_alike(
     alloc: Global,
     tree: &Read<Datum>,
-    packed: &Read<Pieces>,
+    packed: &Read<Vec<u8>>,
     walked: &Read<()>,
     plain: &[u8],
 ) -> Result<bool, AllocError> {
     match (tree, packed, walked) {
-        (Ok((datum, len)), Ok((pieces, packed_len)), Ok((_, walked_len))) => {
-            let is_plain = is_encoded(alloc, datum, plain)?;
-            Ok(is_plain && len == packed_len && len == walked_len && is_flat(alloc, pieces, plain)?)
+        (Ok((datum, len)), Ok((packed, packed_len)), Ok((_, walked_len))) => {
+            let is_plain = is_encoded(alloc, datum, plain)? && packed.as_slice() == plain;
+            Ok(is_plain && len == packed_len && len == walked_len)
         }
         (Err(read), Err(packed), Err(walked)) => Ok(read == packed && read == walked),
         _ => Ok(false),
@@ -101,7 +94,7 @@ fn is_answer(
     alloc: Global,
     reader: &Schema,
     row: &Row,
-    readings: (&Read<Datum>, &Read<Pieces>, &Read<()>),
+    readings: (&Read<Datum>, &Read<Vec<u8>>, &Read<()>),
 ) -> Result<bool, Fail> {
     let (tree, packed, walked) = readings;
     let is_row = is_tree(alloc, reader, tree, row)?;

@@ -16,7 +16,8 @@ pub(crate) fn read_null<M: Make>(
     maker: &mut M,
     at: M::At,
 ) -> Result<M::Out, ReadError>
-    ensures { (nodes : List SeenNode) → ReadsNode (Made M.keeps (λ m. M.stands_for m nodes SeenNode.null at) maker.old maker.new) nodes SeenNode.null cursor.old cursor.new result }
+    ensures reads { (nodes : List SeenNode) → ReadsNode (Made M.keeps (λ m. M.stands_for m nodes SeenNode.null at) maker.old maker.new) nodes SeenNode.null cursor.old cursor.new result }
+    ensures stays { (front : List ℕ) → M.begins maker.old front → M.begins maker.new front }
 {
     cursor.count()?;
     Ok(maker.null(alloc, at)?)
@@ -30,7 +31,8 @@ pub(crate) fn read_boolean<M: Make>(
     maker: &mut M,
     at: M::At,
 ) -> Result<M::Out, ReadError>
-    ensures { (nodes : List SeenNode) → ReadsNode (Made M.keeps (λ m. M.stands_for m nodes SeenNode.boolean at) maker.old maker.new) nodes SeenNode.boolean cursor.old cursor.new result }
+    ensures reads { (nodes : List SeenNode) → ReadsNode (Made M.keeps (λ m. M.stands_for m nodes SeenNode.boolean at) maker.old maker.new) nodes SeenNode.boolean cursor.old cursor.new result }
+    ensures stays { (front : List ℕ) → M.begins maker.old front → M.begins maker.new front }
 {
     cursor.count()?;
     let value = cursor.boolean()?;
@@ -45,7 +47,8 @@ pub(crate) fn read_int<M: Make>(
     maker: &mut M,
     at: M::At,
 ) -> Result<M::Out, ReadError>
-    ensures { (nodes : List SeenNode) → ReadsNode (Made M.keeps (λ m. M.stands_for m nodes SeenNode.int at) maker.old maker.new) nodes SeenNode.int cursor.old cursor.new result }
+    ensures reads { (nodes : List SeenNode) → ReadsNode (Made M.keeps (λ m. M.stands_for m nodes SeenNode.int at) maker.old maker.new) nodes SeenNode.int cursor.old cursor.new result }
+    ensures stays { (front : List ℕ) → M.begins maker.old front → M.begins maker.new front }
 {
     cursor.count()?;
     let value = cursor.int()?;
@@ -60,7 +63,8 @@ pub(crate) fn read_long<M: Make>(
     maker: &mut M,
     at: M::At,
 ) -> Result<M::Out, ReadError>
-    ensures { (nodes : List SeenNode) → ReadsNode (Made M.keeps (λ m. M.stands_for m nodes SeenNode.long at) maker.old maker.new) nodes SeenNode.long cursor.old cursor.new result }
+    ensures reads { (nodes : List SeenNode) → ReadsNode (Made M.keeps (λ m. M.stands_for m nodes SeenNode.long at) maker.old maker.new) nodes SeenNode.long cursor.old cursor.new result }
+    ensures stays { (front : List ℕ) → M.begins maker.old front → M.begins maker.new front }
 {
     cursor.count()?;
     let value = cursor.long()?;
@@ -75,7 +79,8 @@ pub(crate) fn read_bytes<M: Make>(
     maker: &mut M,
     at: M::At,
 ) -> Result<M::Out, ReadError>
-    ensures { (nodes : List SeenNode) → ReadsNode (Made M.keeps (λ m. M.stands_for m nodes SeenNode.bytes at) maker.old maker.new) nodes SeenNode.bytes cursor.old cursor.new result }
+    ensures reads { (nodes : List SeenNode) → ReadsNode (Made M.keeps (λ m. M.stands_for m nodes SeenNode.bytes at) maker.old maker.new) nodes SeenNode.bytes cursor.old cursor.new result }
+    ensures stays { (front : List ℕ) → M.begins maker.old front → M.begins maker.new front }
 {
     cursor.count()?;
     let content = cursor.bytes()?;
@@ -91,7 +96,8 @@ pub(crate) fn read_text<M: Make>(
     maker: &mut M,
     at: M::At,
 ) -> Result<M::Out, ReadError>
-    ensures { (nodes : List SeenNode) → ReadsNode (Made M.keeps (λ m. M.stands_for m nodes SeenNode.string at) maker.old maker.new) nodes SeenNode.string cursor.old cursor.new result }
+    ensures reads { (nodes : List SeenNode) → ReadsNode (Made M.keeps (λ m. M.stands_for m nodes SeenNode.string at) maker.old maker.new) nodes SeenNode.string cursor.old cursor.new result }
+    ensures stays { (front : List ℕ) → M.begins maker.old front → M.begins maker.new front }
 {
     cursor.count()?;
     let text = cursor.string()?;
@@ -107,8 +113,9 @@ pub(crate) fn read_symbol<M: Make>(
     maker: &mut M,
     at: M::At,
 ) -> Result<M::Out, ReadError>
-    ensures { (nodes : List SeenNode) (name : Name) (aliases : List Name) (texts : List (List ℕ)) (default : Option ℕ) → symbols ≡ length texts
+    ensures reads { (nodes : List SeenNode) (name : Name) (aliases : List Name) (texts : List (List ℕ)) (default : Option ℕ) → symbols ≡ length texts
         → ReadsNode (Made M.keeps (λ m. M.stands_for m nodes (SeenNode.enum name aliases texts default) at) maker.old maker.new) nodes (SeenNode.enum name aliases texts default) cursor.old cursor.new result }
+    ensures stays { (front : List ℕ) → M.begins maker.old front → M.begins maker.new front }
 {
     cursor.count()?;
     let index = cursor.index(symbols)?;
@@ -124,7 +131,8 @@ pub(crate) fn read_fixed<M: Make>(
     maker: &mut M,
     at: M::At,
 ) -> Result<M::Out, ReadError>
-    ensures { (nodes : List SeenNode) (name : Name) (aliases : List Name) → ReadsNode (Made M.keeps (λ m. M.stands_for m nodes (SeenNode.fixed name aliases size) at) maker.old maker.new) nodes (SeenNode.fixed name aliases size) cursor.old cursor.new result }
+    ensures reads { (nodes : List SeenNode) (name : Name) (aliases : List Name) → ReadsNode (Made M.keeps (λ m. M.stands_for m nodes (SeenNode.fixed name aliases size) at) maker.old maker.new) nodes (SeenNode.fixed name aliases size) cursor.old cursor.new result }
+    ensures stays { (front : List ℕ) → M.begins maker.old front → M.begins maker.new front }
 {
     cursor.count()?;
     let content = cursor.fixed(size)?;

@@ -31,6 +31,9 @@ pub trait Make {
     /// Which later makers keep what one has made.
     ghost keeps: { Self → Self → Type 0 };
 
+    /// With which bytes a maker begins. It does so for good, whether a call returns something or fails.
+    ghost begins: { Self → List ℕ → Type 0 };
+
     /// Which datum of a node a result stands for, by what it is for.
     ghost stands_for: { Self → List Node → Node → Self.At → Self.Out → Value → Type 0 };
 
@@ -58,12 +61,14 @@ pub trait Make {
     /// Makes at once what a datum without bytes is made into, or `None` where its parts are needed for that.
     fn empty(&mut self, alloc: Global, at: Self::At) -> Result<Option<Self::Out>, AllocError>
         ensures kept { OnOk result (keeps self.old self.new) }
+        ensures stays { (front : List ℕ) → begins self.old front → begins self.new front }
         ensures stands { (nodes : List Node) (n : Node) (v : Value) → fits nodes n v ≡ true → is_empty v ≡ true → IfOk result (λ o. IfSome o (λ out. stands_for self.new nodes n at out v)) };
 
     /// A list for the ends of the encodings of a record's fields, where the record may be made from these, or `None` where its parts
     /// are needed.
     fn ends(&mut self, alloc: Global, at: Self::At) -> Option<Vec<usize>>
-        ensures kept { keeps self.old self.new };
+        ensures kept { keeps self.old self.new }
+        ensures stays { (front : List ℕ) → begins self.old front → begins self.new front };
 
     /// Makes a record from the encodings of its fields, each of which stands in the bytes from one end to the next, or `None` where its
     /// parts are needed for that. No field has parts.
@@ -75,27 +80,32 @@ pub trait Make {
         ends: Vec<usize>,
     ) -> Result<Option<Self::Out>, AllocError>
         ensures kept { OnOk result (keeps self.old self.new) }
+        ensures stays { (front : List ℕ) → begins self.old front → begins self.new front }
         ensures stands { (nodes : List Node) (name : Name) (aliases : List Name) (fs : List FieldNode) (vs : List Value) → ArePieces vs bytes.now ends.items
             → fields_fit nodes (field_ids fs) (values_from vs) ≡ true → IfOk result (λ o. IfSome o (λ out. stands_for self.new nodes (Node.record_of name aliases fs) at out (Value.record_of (values_from vs)))) };
 
     /// Makes null.
     fn null(&mut self, alloc: Global, at: Self::At) -> Result<Self::Out, AllocError>
         ensures kept { OnOk result (keeps self.old self.new) }
+        ensures stays { (front : List ℕ) → begins self.old front → begins self.new front }
         ensures stands { (nodes : List Node) → IfOk result (λ out. stands_for self.new nodes Node.null at out Value.null) };
 
     /// Makes a boolean.
     fn boolean(&mut self, alloc: Global, at: Self::At, value: bool) -> Result<Self::Out, AllocError>
         ensures kept { OnOk result (keeps self.old self.new) }
+        ensures stays { (front : List ℕ) → begins self.old front → begins self.new front }
         ensures stands { (nodes : List Node) → IfOk result (λ out. stands_for self.new nodes Node.boolean at out (Value.boolean value)) };
 
     /// Makes an int.
     fn int(&mut self, alloc: Global, at: Self::At, value: i32) -> Result<Self::Out, AllocError>
         ensures kept { OnOk result (keeps self.old self.new) }
+        ensures stays { (front : List ℕ) → begins self.old front → begins self.new front }
         ensures stands { (nodes : List Node) → IfOk result (λ out. stands_for self.new nodes Node.int at out (Value.int value)) };
 
     /// Makes a long.
     fn long(&mut self, alloc: Global, at: Self::At, value: i64) -> Result<Self::Out, AllocError>
         ensures kept { OnOk result (keeps self.old self.new) }
+        ensures stays { (front : List ℕ) → begins self.old front → begins self.new front }
         ensures stands { (nodes : List Node) → IfOk result (λ out. stands_for self.new nodes Node.long at out (Value.long value)) };
 
     /// Makes bytes.
@@ -106,11 +116,13 @@ pub trait Make {
         content: &[u8],
     ) -> Result<Self::Out, AllocError>
         ensures kept { OnOk result (keeps self.old self.new) }
+        ensures stays { (front : List ℕ) → begins self.old front → begins self.new front }
         ensures stands { (nodes : List Node) → IfOk result (λ out. stands_for self.new nodes Node.bytes at out (Value.bytes content.now)) };
 
     /// Makes a string.
     fn string(&mut self, alloc: Global, at: Self::At, text: &str) -> Result<Self::Out, AllocError>
         ensures kept { OnOk result (keeps self.old self.new) }
+        ensures stays { (front : List ℕ) → begins self.old front → begins self.new front }
         ensures stands { (nodes : List Node) → IfOk result (λ out. stands_for self.new nodes Node.string at out (Value.string text.now)) };
 
     /// Makes a fixed.
@@ -121,11 +133,13 @@ pub trait Make {
         content: &[u8],
     ) -> Result<Self::Out, AllocError>
         ensures kept { OnOk result (keeps self.old self.new) }
+        ensures stays { (front : List ℕ) → begins self.old front → begins self.new front }
         ensures stands { (nodes : List Node) (name : Name) (aliases : List Name) (size : ℕ) → IfOk result (λ out. stands_for self.new nodes (Node.fixed name aliases size) at out (Value.fixed content.now)) };
 
     /// Makes an enum from the index of its symbol.
     fn symbol(&mut self, alloc: Global, at: Self::At, index: u32) -> Result<Self::Out, AllocError>
         ensures kept { OnOk result (keeps self.old self.new) }
+        ensures stays { (front : List ℕ) → begins self.old front → begins self.new front }
         ensures stands { (nodes : List Node) (name : Name) (aliases : List Name) (texts : List (List ℕ)) (default : Option ℕ) → index < length texts → IfOk result (λ out. stands_for self.new nodes (Node.enum name aliases texts default) at out (Value.enum index)) };
 
     /// What the value of a branch is for.
@@ -141,6 +155,7 @@ pub trait Make {
         value: Self::Out,
     ) -> Result<Self::Out, AllocError>
         ensures kept { OnOk result (keeps self.old self.new) }
+        ensures stays { (front : List ℕ) → begins self.old front → begins self.new front }
         ensures stands { (nodes : List Node) (ids : List ℕ) (id : ℕ) (v : Value) → slice_get ids branch ≡ Some id
             → stands_for self.old nodes (node_at nodes id) (branch_at self.old at branch) value v
             → IfOk result (λ out. stands_for self.new nodes (Node.union ids) at out (Value.union branch v)) };
@@ -148,6 +163,7 @@ pub trait Make {
     /// No items of an array.
     fn items(&mut self, alloc: Global, at: Self::At) -> Result<Self::Items, AllocError>
         ensures kept { OnOk result (keeps self.old self.new) }
+        ensures stays { (front : List ℕ) → begins self.old front → begins self.new front }
         ensures stands { (nodes : List Node) (id : ℕ) → IfOk result (λ items. items_stand_for self.new nodes id at items []) };
 
     /// What the next item is for.
@@ -162,6 +178,7 @@ pub trait Make {
         value: Self::Out,
     ) -> Result<(), AllocError>
         ensures kept { OnOk result (keeps self.old self.new) }
+        ensures stays { (front : List ℕ) → begins self.old front → begins self.new front }
         ensures stands { (nodes : List Node) (id : ℕ) (at : Self.At) (vs : List Value) (v : Value) → items_stand_for self.old nodes id at items.old vs
             → stands_for self.old nodes (node_at nodes id) (item_at self.old items.old) value v
             → OnOk result (items_stand_for self.new nodes id at items.new (vs ++ v ∷ [])) };
@@ -179,12 +196,14 @@ pub trait Make {
     /// Makes an array from its items.
     fn array(&mut self, alloc: Global, items: Self::Items) -> Result<Self::Out, AllocError>
         ensures kept { OnOk result (keeps self.old self.new) }
+        ensures stays { (front : List ℕ) → begins self.old front → begins self.new front }
         ensures stands { (nodes : List Node) (id : ℕ) (at : Self.At) (vs : List Value) → items_stand_for self.old nodes id at items vs
             → IfOk result (λ out. stands_for self.new nodes (Node.array id) at out (Value.array (values_from vs))) };
 
     /// No entries of a map.
     fn entries(&mut self, alloc: Global, at: Self::At) -> Result<Self::Entries, AllocError>
         ensures kept { OnOk result (keeps self.old self.new) }
+        ensures stays { (front : List ℕ) → begins self.old front → begins self.new front }
         ensures stands { (nodes : List Node) (id : ℕ) → IfOk result (λ entries. entries_stand_for self.new nodes id at entries []) };
 
     /// What the value of the next entry is for.
@@ -200,6 +219,7 @@ pub trait Make {
         value: Self::Out,
     ) -> Result<(), AllocError>
         ensures kept { OnOk result (keeps self.old self.new) }
+        ensures stays { (front : List ℕ) → begins self.old front → begins self.new front }
         ensures stands { (nodes : List Node) (id : ℕ) (at : Self.At) (es : List (List ℕ × Value)) (v : Value) → entries_stand_for self.old nodes id at entries.old es
             → stands_for self.old nodes (node_at nodes id) (entry_at self.old entries.old) value v
             → OnOk result (entries_stand_for self.new nodes id at entries.new (es ++ (key.now, v) ∷ [])) };
@@ -207,12 +227,14 @@ pub trait Make {
     /// Makes a map from its entries.
     fn map(&mut self, alloc: Global, entries: Self::Entries) -> Result<Self::Out, AllocError>
         ensures kept { OnOk result (keeps self.old self.new) }
+        ensures stays { (front : List ℕ) → begins self.old front → begins self.new front }
         ensures stands { (nodes : List Node) (id : ℕ) (at : Self.At) (es : List (List ℕ × Value)) → entries_stand_for self.old nodes id at entries es
             → IfOk result (λ out. stands_for self.new nodes (Node.map_of id) at out (Value.map_of (entries_from es))) };
 
     /// No fields of a record.
     fn fields(&mut self, alloc: Global, at: Self::At) -> Result<Self::Fields, AllocError>
         ensures kept { OnOk result (keeps self.old self.new) }
+        ensures stays { (front : List ℕ) → begins self.old front → begins self.new front }
         ensures stands { (nodes : List Node) (fs : List FieldNode) → IfOk result (λ fields. fields_stand_for self.new nodes fs at fields []) };
 
     /// What the value of the next field is for.
@@ -227,6 +249,7 @@ pub trait Make {
         value: Self::Out,
     ) -> Result<(), AllocError>
         ensures kept { OnOk result (keeps self.old self.new) }
+        ensures stays { (front : List ℕ) → begins self.old front → begins self.new front }
         ensures stands { (nodes : List Node) (fs : List FieldNode) (id : ℕ) (at : Self.At) (vs : List Value) (v : Value) → fields_stand_for self.old nodes fs at fields.old vs
             → slice_get (field_ids fs) (length vs) ≡ Some id → stands_for self.old nodes (node_at nodes id) (field_at self.old fields.old) value v
             → OnOk result (fields_stand_for self.new nodes fs at fields.new (vs ++ v ∷ [])) };
@@ -241,6 +264,7 @@ pub trait Make {
     /// Makes a record from the values of its fields.
     fn record(&mut self, alloc: Global, fields: Self::Fields) -> Result<Self::Out, AllocError>
         ensures kept { OnOk result (keeps self.old self.new) }
+        ensures stays { (front : List ℕ) → begins self.old front → begins self.new front }
         ensures stands { (nodes : List Node) (name : Name) (aliases : List Name) (fs : List FieldNode) (at : Self.At) (vs : List Value) → fields_stand_for self.old nodes fs at fields vs
             → fields_fit nodes (field_ids fs) (values_from vs) ≡ true → IfOk result (λ out. stands_for self.new nodes (Node.record_of name aliases fs) at out (Value.record_of (values_from vs))) };
 

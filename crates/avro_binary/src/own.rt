@@ -33,6 +33,8 @@ impl<'b, B: Build> Make for Own<'b, B> {
 
     ghost keeps = { λ _ _. Unit {0} };
 
+    ghost begins = { λ _ _. Unit {0} };
+
     ghost stands_for = { λ _ nodes n at out v. B.stands_for out v };
 
     ghost items_stand_for = { λ _ nodes id at items vs. B.items_stand_for items vs };

@@ -1,4 +1,4 @@
-ghost use Rattle.std.specs.Prelude.{◌≡◌, ◌<◌, length};
+ghost use Rattle.std.specs.Prelude.{◌≡◌, ◌<◌, ℕ, List, length};
 ghost use Rattle.avro_schema.specs.Node.{node_at};
 ghost use Rattle.avro_schema.specs.SeenSchema.{schema_nodes};
 ghost use Rattle.avro_binary.specs.Making.{Made};
@@ -83,7 +83,8 @@ pub fn read_made<M: Make>(
     maker: &mut M,
     at: M::At,
 ) -> Result<(M::Out, usize), ReadError>
-    ensures { BuildsExactly (Made M.keeps (λ m. M.stands_for m (schema_nodes schema.now) (node_at (schema_nodes schema.now) node.0) at) maker.old maker.new) (schema_nodes schema.now) (node_at (schema_nodes schema.now) node.0) limits.now bytes.now result }
+    ensures reads { BuildsExactly (Made M.keeps (λ m. M.stands_for m (schema_nodes schema.now) (node_at (schema_nodes schema.now) node.0) at) maker.old maker.new) (schema_nodes schema.now) (node_at (schema_nodes schema.now) node.0) limits.now bytes.now result }
+    ensures stays { (front : List ℕ) → M.begins maker.old front → M.begins maker.new front }
 {
     // Its contract says that the schema is well formed, which the laws of faults ask for.
     let _count = schema.len();

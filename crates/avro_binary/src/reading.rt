@@ -39,7 +39,8 @@ pub fn read_at<M: Make>(
     maker: &mut M,
     at: M::At,
 ) -> Result<M::Out, ReadError>
-    ensures { ReadsNode (Made M.keeps (λ m. M.stands_for m (schema_nodes schema.now) (node_at (schema_nodes schema.now) id.0) at) maker.old maker.new) (schema_nodes schema.now) (node_at (schema_nodes schema.now) id.0) cursor.old cursor.new result }
+    ensures reads { ReadsNode (Made M.keeps (λ m. M.stands_for m (schema_nodes schema.now) (node_at (schema_nodes schema.now) id.0) at) maker.old maker.new) (schema_nodes schema.now) (node_at (schema_nodes schema.now) id.0) cursor.old cursor.new result }
+    ensures stays { (front : List ℕ) → M.begins maker.old front → M.begins maker.new front }
 {
     if !schema.has(id) {
         return read_null(alloc, cursor, maker, at);
@@ -71,7 +72,8 @@ fn read_array<M: Make>(
     maker: &mut M,
     at: M::At,
 ) -> Result<M::Out, ReadError>
-    ensures { ReadsNode (Made M.keeps (λ m. M.stands_for m (schema_nodes schema.now) (SeenNode.array id.0) at) maker.old maker.new) (schema_nodes schema.now) (SeenNode.array id.0) cursor.old cursor.new result }
+    ensures reads { ReadsNode (Made M.keeps (λ m. M.stands_for m (schema_nodes schema.now) (SeenNode.array id.0) at) maker.old maker.new) (schema_nodes schema.now) (SeenNode.array id.0) cursor.old cursor.new result }
+    ensures stays { (front : List ℕ) → M.begins maker.old front → M.begins maker.new front }
 {
     cursor.enter()?;
     let out = read_item_blocks(alloc, schema, id, cursor, maker, at)?;
@@ -90,7 +92,8 @@ fn read_item_blocks<M: Make>(
     maker: &mut M,
     at: M::At,
 ) -> Result<M::Out, ReadError>
-    ensures { ReadsNode (Made M.keeps (λ m. M.stands_for m (schema_nodes schema.now) (SeenNode.array id.0) at) maker.old maker.new) (schema_nodes schema.now) (SeenNode.array id.0) (outside cursor.old) (left_node cursor.new) result }
+    ensures reads { ReadsNode (Made M.keeps (λ m. M.stands_for m (schema_nodes schema.now) (SeenNode.array id.0) at) maker.old maker.new) (schema_nodes schema.now) (SeenNode.array id.0) (outside cursor.old) (left_node cursor.new) result }
+    ensures stays { (front : List ℕ) → M.begins maker.old front → M.begins maker.new front }
 {
     // Its contract says that fewer than 2^32 nodes are left, so that no count of parts is too large.
     let _nodes = cursor.nodes();
@@ -113,9 +116,10 @@ fn read_items<M: Make>(
     maker: &mut M,
     items: &mut M::Items,
 ) -> Result<(), ReadError>
-    ensures { (limits : LimitValues) → limits.depth ≡ cursor.old.depth → limits.blob ≡ cursor.old.blob → (let nodes = schema_nodes schema.now in let n = node_at nodes id.0 in
+    ensures reads { (limits : LimitValues) → limits.depth ≡ cursor.old.depth → limits.blob ≡ cursor.old.blob → (let nodes = schema_nodes schema.now in let n = node_at nodes id.0 in
         ReadsRun (ValuesRun nodes limits n) (value_breaks nodes limits n)
         (λ vs after. M.keeps maker.old maker.new × ((at : M.At) (us : List Value) → M.items_stand_for maker.old nodes id.0 at items.old us → M.items_stand_for maker.new nodes id.0 at items.new (us ++ vs))) count [] cursor.old cursor.new result) }
+    ensures stays { (front : List ℕ) → M.begins maker.old front → M.begins maker.new front }
 {
     // Its contract says that the schema is well formed, which the laws of faults ask for.
     let _count = schema.len();
@@ -169,7 +173,8 @@ fn read_union<M: Make>(
     maker: &mut M,
     at: M::At,
 ) -> Result<M::Out, ReadError>
-    ensures { ReadsNode (Made M.keeps (λ m. M.stands_for m (schema_nodes schema.now) (SeenNode.union (ids_of branches.now)) at) maker.old maker.new) (schema_nodes schema.now) (SeenNode.union (ids_of branches.now)) cursor.old cursor.new result }
+    ensures reads { ReadsNode (Made M.keeps (λ m. M.stands_for m (schema_nodes schema.now) (SeenNode.union (ids_of branches.now)) at) maker.old maker.new) (schema_nodes schema.now) (SeenNode.union (ids_of branches.now)) cursor.old cursor.new result }
+    ensures stays { (front : List ℕ) → M.begins maker.old front → M.begins maker.new front }
 {
     cursor.enter()?;
     let out = read_branch(alloc, schema, branches, cursor, maker, at)?;
@@ -188,7 +193,8 @@ fn read_branch<M: Make>(
     maker: &mut M,
     at: M::At,
 ) -> Result<M::Out, ReadError>
-    ensures { ReadsNode (Made M.keeps (λ m. M.stands_for m (schema_nodes schema.now) (SeenNode.union (ids_of branches.now)) at) maker.old maker.new) (schema_nodes schema.now) (SeenNode.union (ids_of branches.now)) (outside cursor.old) (left_node cursor.new) result }
+    ensures reads { ReadsNode (Made M.keeps (λ m. M.stands_for m (schema_nodes schema.now) (SeenNode.union (ids_of branches.now)) at) maker.old maker.new) (schema_nodes schema.now) (SeenNode.union (ids_of branches.now)) (outside cursor.old) (left_node cursor.new) result }
+    ensures stays { (front : List ℕ) → M.begins maker.old front → M.begins maker.new front }
 {
     let index = cursor.index(branches.len())?;
     let part = maker.branch_at(at, index as u32);
@@ -208,8 +214,9 @@ fn enter_record<M: Make>(
     maker: &mut M,
     at: M::At,
 ) -> Result<M::Out, ReadError>
-    ensures { (name : Name) (aliases : List Name) → node_at (schema_nodes schema.now) id.0 ≡ SeenNode.record_of name aliases (seen_fields fields.now)
+    ensures reads { (name : Name) (aliases : List Name) → node_at (schema_nodes schema.now) id.0 ≡ SeenNode.record_of name aliases (seen_fields fields.now)
         → ReadsNode (Made M.keeps (λ m. M.stands_for m (schema_nodes schema.now) (SeenNode.record_of name aliases (seen_fields fields.now)) at) maker.old maker.new) (schema_nodes schema.now) (SeenNode.record_of name aliases (seen_fields fields.now)) cursor.old cursor.new result }
+    ensures stays { (front : List ℕ) → M.begins maker.old front → M.begins maker.new front }
 {
     cursor.enter()?;
     let out = read_parts(alloc, schema, id, fields, cursor, maker, at)?;

@@ -1,7 +1,7 @@
 //! Plain encodings that are built while data are read.
 
 use avro_binary::{Build, read_own};
-use avro_packed::{Packed, Pieces, append};
+use avro_packed::Packed;
 use avro_schema::{Datum, Limits, Schema};
 use avro_schema_json::read_schema;
 use std::alloc::{AllocError, Global};
@@ -57,18 +57,10 @@ const ROWS: [(&str, &[u8], &[u8]); 21] = [
     (LIST, b"\x36\x02\x06\x00", b"\x36\x02\x06\x00"),
 ];
 
-/// Whether what is packed is appended as these bytes, twice.
-fn is_appended(alloc: Global, pieces: &Pieces, plain: &[u8]) -> Result<bool, AllocError> {
-    let mut out = Vec::new(alloc);
-    append(pieces, &mut out)?;
-    append(pieces, &mut out)?;
-    Ok(out.split_at_checked(plain.len()) == Some((plain, plain)))
-}
-
 /// Whether all of the bytes are read, and packed as these.
 fn packs(alloc: Global, schema: &Schema, bytes: &[u8], plain: &[u8]) -> Result<bool, Fail> {
-    let (pieces, len) = read_own(alloc, schema, bytes, &Limits::default(), &mut Packed)?;
-    Ok(is_appended(alloc, &pieces, plain)? && len == bytes.len())
+    let (packed, len) = read_own(alloc, schema, bytes, &Limits::default(), &mut Packed)?;
+    Ok(packed.as_slice() == plain && len == bytes.len())
 }
 
 /// The bytes of the first row, if any, that is packed as something else.
@@ -92,20 +84,15 @@ fn data_are_packed(rt: HostRuntime) -> Result<(), Fail> {
 }
 
 /// What is packed of a default.
-fn default_packed(alloc: Global) -> Result<Pieces, AllocError> {
+fn default_packed(alloc: Global) -> Result<Vec<u8>, AllocError> {
     let text = Datum::Str(String::from_str(alloc, "foo")?);
     let datum = Datum::Union(1, Box::new(alloc, text)?);
     Packed.default(alloc, &datum)
 }
 
-/// Whether it is appended as these bytes.
-fn is_default(alloc: Global, plain: &[u8]) -> Result<bool, AllocError> {
-    let pieces = default_packed(alloc)?;
-    is_appended(alloc, &pieces, plain)
-}
-
 #[test]
 fn defaults_are_packed(rt: HostRuntime) -> Result<(), Fail> {
-    assert!(rt; is_default(rt.alloc(), b"\x02\x06foo")?);
+    let packed = default_packed(rt.alloc())?;
+    assert_eq!(rt; packed.as_slice(), b"\x02\x06foo".as_slice());
     Ok(())
 }

@@ -5,9 +5,9 @@ ghost use Rattle.avro_zigzag.specs.Number.{number_bytes};
 ghost use Rattle.avro_cursor.specs.Encoding.{plain_bytes, plain_blocks};
 ghost use Rattle.avro_packed.specs.Appended.{Grows, Holds, branch_bytes};
 
-use crate::flatten::{append_byte, append_number};
 use crate::gathered::Gathered;
 use crate::moving::{append_written, give_back, in_room, is_nothing, join, join_key};
+use crate::numbers::{append_byte, append_number};
 use crate::written::{Apart, Written};
 use avro_binary::Make;
 use std::alloc::{AllocError, Global};
@@ -85,6 +85,7 @@ impl Appending {
     pub(crate) fn begin(&mut self, branch: Option<u32>) -> Result<usize, AllocError>
         ensures begun { OnOk result (self.new ≡ self.old ++ branch_bytes branch) }
         ensures start { IfOk result (λ start. start ≡ length self.old) }
+        ensures stays { (front : List ℕ) → Grows front self.old → Grows front self.new }
     {
         let start = self.out.len();
         match branch {
@@ -107,6 +108,7 @@ impl Appending {
     pub(crate) fn number(&mut self, branch: Option<u32>, value: i64) -> Result<Written, AllocError>
         ensures kept { OnOk result (Grows self.old self.new) }
         ensures holds { IfOk result (λ out. Holds self.new out (branch_bytes branch ++ number_bytes value)) }
+        ensures stays { (front : List ℕ) → Grows front self.old → Grows front self.new }
     {
         let start = self.begin(branch)?;
         append_number(value, &mut self.out)?;
@@ -118,6 +120,7 @@ impl Appending {
     fn measured(&mut self, branch: Option<u32>, content: &[u8]) -> Result<Written, AllocError>
         ensures kept { OnOk result (Grows self.old self.new) }
         ensures holds { IfOk result (λ out. Holds self.new out (branch_bytes branch ++ plain_bytes content.now)) }
+        ensures stays { (front : List ℕ) → Grows front self.old → Grows front self.new }
     {
         let start = self.begin(branch)?;
         append_number(content.len() as i64, &mut self.out)?;
@@ -145,6 +148,7 @@ impl Appending {
         ensures kept { OnOk result (Grows self.old self.new) }
         ensures holds { (bytes : List ℕ) → Holds self.old gathered.written bytes
             → IfOk result (λ out. Holds self.new out (branch_bytes gathered.branch ++ plain_blocks gathered.count bytes)) }
+        ensures stays { (front : List ℕ) → Grows front self.old → Grows front self.new }
     {
         if gathered.count == 0 {
             let start = self.begin(gathered.branch)?;
@@ -186,6 +190,8 @@ impl Make for Appending {
     type Fields = Written;
 
     ghost keeps = { Grows };
+
+    ghost begins = { λ m front. Grows front m };
 
     ghost stands_for = { λ m nodes n at out v. Holds m out (branch_bytes at ++ plain v) };
 

@@ -4,7 +4,7 @@ ghost use Rattle.std.specs.Prelude.{◌≡◌, ◌++◌, ◌≤◌, [], List, �
 ghost use Rattle.avro_cursor.specs.Encoding.{plain_bytes};
 ghost use Rattle.avro_packed.specs.Appended.{Grows, Holds, StandsAt};
 
-use crate::flatten::append_number;
+use crate::numbers::append_number;
 use crate::spares::{give, room};
 use crate::written::{Apart, Written};
 use std::alloc::{AllocError, Global};
@@ -238,7 +238,7 @@ pub(crate) fn join_key(
 
 /// Appends a length, and the bytes.
 #[inline(always)]
-fn append_measured(content: &[u8], to: &mut Vec<u8>) -> Result<(), AllocError>
+pub(crate) fn append_measured(content: &[u8], to: &mut Vec<u8>) -> Result<(), AllocError>
     ensures { OnOk result (to.new.items ≡ to.old.items ++ plain_bytes content.now) }
 {
     append_number(content.len() as i64, to)?;

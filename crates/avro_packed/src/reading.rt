@@ -1,6 +1,6 @@
 //! Reading a datum, and appending its plain encoding.
 
-ghost use Rattle.std.specs.Prelude.{◌≡◌, ◌++◌, ◌≤◌, true, length, take, IfOk};
+ghost use Rattle.std.specs.Prelude.{◌≡◌, ◌++◌, ◌≤◌, true, length, take, IfOk, OnErr};
 ghost use Rattle.std.specs.Result.{IfErr};
 ghost use Rattle.std.specs.Option.{IfSome};
 ghost use Rattle.avro_schema.specs.Fits.{is_within};
@@ -23,7 +23,7 @@ use std::alloc::Global;
 ///
 /// # Errors
 ///
-/// Those of [`avro_binary::decode`].
+/// Those of [`avro_binary::decode`]; the output is as it was.
 pub fn append_read(
     alloc: Global,
     schema: &Schema,
@@ -34,6 +34,7 @@ pub fn append_read(
 ) -> Result<usize, ReadError>
     ensures found { IfOk result (λ len. (v : Value) × (out.new.items ≡ out.old.items ++ plain v) × (len ≤ length bytes.now)
         × Encodes (schema_nodes schema.now) (node_at (schema_nodes schema.now) 0) v (take len bytes.now) × (is_within limits.now v ≡ true)) }
+    ensures unchanged { OnErr result (out.new.items ≡ out.old.items) }
     ensures refused { IfErr result (λ e. IfSome (read_fault e) (Breaks (schema_nodes schema.now) limits.now (node_at (schema_nodes schema.now) 0) bytes.now)) }
 {
     let end = out.len();

@@ -64,6 +64,8 @@ impl<'p, 'a, 'b, P: Put> Make for Resolving<'p, 'a, 'b, P> {
 
     ghost keeps = { λ s t. AreKept (P.keeps s.builder.now t.builder.now × (t.builder.ghost_name ≡ s.builder.ghost_name)) (schema_nodes s.plan.now.0) (schema_nodes s.plan.now.1) (schema_nodes t.plan.now.0) (schema_nodes t.plan.now.1) };
 
+    ghost begins = { λ _ _. Unit {0} };
+
     ghost stands_for = { λ m nodes n at out v. StandsAs (P.stands_for m.builder.now) (schema_nodes m.plan.now.0) (schema_nodes m.plan.now.1) nodes n at.at out v };
 
     ghost items_stand_for = { λ m nodes id at items vs. ItemsStandAs (P.items_stand_for m.builder.now) (schema_nodes m.plan.now.0) (schema_nodes m.plan.now.1) nodes id at.at items.0 vs };

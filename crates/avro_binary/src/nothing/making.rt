@@ -22,6 +22,8 @@ impl Make for Nothing {
 
     ghost keeps = { λ _ _. Unit {0} };
 
+    ghost begins = { λ _ _. Unit {0} };
+
     ghost stands_for = { λ _ nodes n at out v. Unit {0} };
 
     ghost items_stand_for = { λ _ nodes id at items vs. Unit {0} };

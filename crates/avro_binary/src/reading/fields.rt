@@ -30,8 +30,9 @@ pub(crate) fn read_parts<M: Make>(
     maker: &mut M,
     at: M::At,
 ) -> Result<M::Out, ReadError>
-    ensures { (name : Name) (aliases : List Name) → node_at (schema_nodes schema.now) id.0 ≡ SeenNode.record_of name aliases (seen_fields fields.now)
+    ensures reads { (name : Name) (aliases : List Name) → node_at (schema_nodes schema.now) id.0 ≡ SeenNode.record_of name aliases (seen_fields fields.now)
         → ReadsNode (Made M.keeps (λ m. M.stands_for m (schema_nodes schema.now) (SeenNode.record_of name aliases (seen_fields fields.now)) at) maker.old maker.new) (schema_nodes schema.now) (SeenNode.record_of name aliases (seen_fields fields.now)) (outside cursor.old) (left_node cursor.new) result }
+    ensures stays { (front : List ℕ) → M.begins maker.old front → M.begins maker.new front }
 {
     let runs = schema.empty_fields(id);
     if runs.is_empty() {
@@ -51,7 +52,8 @@ fn read_fields<M: Make>(
     maker: &mut M,
     at: M::At,
 ) -> Result<M::Out, ReadError>
-    ensures { (name : Name) (aliases : List Name) → ReadsNode (Made M.keeps (λ m. M.stands_for m (schema_nodes schema.now) (SeenNode.record_of name aliases (seen_fields fields.now)) at) maker.old maker.new) (schema_nodes schema.now) (SeenNode.record_of name aliases (seen_fields fields.now)) (outside cursor.old) (left_node cursor.new) result }
+    ensures reads { (name : Name) (aliases : List Name) → ReadsNode (Made M.keeps (λ m. M.stands_for m (schema_nodes schema.now) (SeenNode.record_of name aliases (seen_fields fields.now)) at) maker.old maker.new) (schema_nodes schema.now) (SeenNode.record_of name aliases (seen_fields fields.now)) (outside cursor.old) (left_node cursor.new) result }
+    ensures stays { (front : List ℕ) → M.begins maker.old front → M.begins maker.new front }
 {
     let mut values = maker.fields(alloc, at)?;
     for field in fields {
@@ -74,8 +76,9 @@ fn read_runs<M: Make>(
     maker: &mut M,
     at: M::At,
 ) -> Result<M::Out, ReadError>
-    ensures { (name : Name) (aliases : List Name) → TellOfRuns (schema_nodes schema.now) (field_ids (seen_fields fields.now)) runs.now
+    ensures reads { (name : Name) (aliases : List Name) → TellOfRuns (schema_nodes schema.now) (field_ids (seen_fields fields.now)) runs.now
         → ReadsNode (Made M.keeps (λ m. M.stands_for m (schema_nodes schema.now) (SeenNode.record_of name aliases (seen_fields fields.now)) at) maker.old maker.new) (schema_nodes schema.now) (SeenNode.record_of name aliases (seen_fields fields.now)) (outside cursor.old) (left_node cursor.new) result }
+    ensures stays { (front : List ℕ) → M.begins maker.old front → M.begins maker.new front }
 {
     // Its contract says that the schema is well formed, which the laws of data without bytes ask for.
     let _count = schema.len();
@@ -114,7 +117,8 @@ fn read_apart<M: Make>(
     maker: &mut M,
     at: M::At,
 ) -> Result<M::Out, ReadError>
-    ensures { ReadsNode (Made M.keeps (λ m. M.stands_for m (schema_nodes schema.now) (node_at (schema_nodes schema.now) id.0) at) maker.old maker.new) (schema_nodes schema.now) (node_at (schema_nodes schema.now) id.0) cursor.old cursor.new result }
+    ensures reads { ReadsNode (Made M.keeps (λ m. M.stands_for m (schema_nodes schema.now) (node_at (schema_nodes schema.now) id.0) at) maker.old maker.new) (schema_nodes schema.now) (node_at (schema_nodes schema.now) id.0) cursor.old cursor.new result }
+    ensures stays { (front : List ℕ) → M.begins maker.old front → M.begins maker.new front }
 {
     read_at(alloc, schema, id, cursor, maker, at)
 }

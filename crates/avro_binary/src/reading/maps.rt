@@ -27,7 +27,8 @@ pub(crate) fn read_map<M: Make>(
     maker: &mut M,
     at: M::At,
 ) -> Result<M::Out, ReadError>
-    ensures { ReadsNode (Made M.keeps (λ m. M.stands_for m (schema_nodes schema.now) (SeenNode.map_of id.0) at) maker.old maker.new) (schema_nodes schema.now) (SeenNode.map_of id.0) cursor.old cursor.new result }
+    ensures reads { ReadsNode (Made M.keeps (λ m. M.stands_for m (schema_nodes schema.now) (SeenNode.map_of id.0) at) maker.old maker.new) (schema_nodes schema.now) (SeenNode.map_of id.0) cursor.old cursor.new result }
+    ensures stays { (front : List ℕ) → M.begins maker.old front → M.begins maker.new front }
 {
     cursor.enter()?;
     let out = read_entry_blocks(alloc, schema, id, cursor, maker, at)?;
@@ -46,7 +47,8 @@ fn read_entry_blocks<M: Make>(
     maker: &mut M,
     at: M::At,
 ) -> Result<M::Out, ReadError>
-    ensures { ReadsNode (Made M.keeps (λ m. M.stands_for m (schema_nodes schema.now) (SeenNode.map_of id.0) at) maker.old maker.new) (schema_nodes schema.now) (SeenNode.map_of id.0) (outside cursor.old) (left_node cursor.new) result }
+    ensures reads { ReadsNode (Made M.keeps (λ m. M.stands_for m (schema_nodes schema.now) (SeenNode.map_of id.0) at) maker.old maker.new) (schema_nodes schema.now) (SeenNode.map_of id.0) (outside cursor.old) (left_node cursor.new) result }
+    ensures stays { (front : List ℕ) → M.begins maker.old front → M.begins maker.new front }
 {
     // Its contract says that fewer than 2^32 nodes are left, so that no count of parts is too large.
     let _nodes = cursor.nodes();
@@ -81,11 +83,12 @@ fn read_entries<'a, M: Make>(
     maker: &mut M,
     entries: &mut M::Entries,
 ) -> Result<(), ReadError>
-    ensures { (limits : LimitValues) (before : List (List ℕ)) → limits.depth ≡ cursor.old.depth → limits.blob ≡ cursor.old.blob → keys.old ≡ key_set before
+    ensures reads { (limits : LimitValues) (before : List (List ℕ)) → limits.depth ≡ cursor.old.depth → limits.blob ≡ cursor.old.blob → keys.old ≡ key_set before
         → are_distinct bytes_eq before ≡ true → (let nodes = schema_nodes schema.now in let n = node_at nodes id.0 in
         ReadsRun (EntriesRun nodes limits n) (entry_breaks nodes limits n)
         (λ es after. (keys.new ≡ key_set after) × M.keeps maker.old maker.new × ((at : M.At) (fs : List (List ℕ × Value)) → M.entries_stand_for maker.old nodes id.0 at entries.old fs → M.entries_stand_for maker.new nodes id.0 at entries.new (fs ++ es)))
         count before cursor.old cursor.new result) }
+    ensures stays { (front : List ℕ) → M.begins maker.old front → M.begins maker.new front }
 {
     for _done in 0..count {
         let key = cursor.key(keys)?;

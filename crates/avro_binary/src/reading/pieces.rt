@@ -1,6 +1,6 @@
 //! Passing records whose makers take the encodings of their fields.
 
-ghost use Rattle.std.specs.Prelude.{◌≡◌, IfOk, List, None, true};
+ghost use Rattle.std.specs.Prelude.{◌≡◌, ℕ, IfOk, List, None, true};
 ghost use Rattle.avro_name.specs.Name.{Name};
 ghost use Rattle.avro_schema.specs.Node.{Node as SeenNode, node_at};
 ghost use Rattle.avro_schema.specs.Seen.{seen_fields, values_from};
@@ -31,6 +31,7 @@ pub(crate) fn take_pieces<'c, M: Make>(
 ) -> Result<Option<M::Out>, ReadError>
     ensures level { IfOk result (λ o. o ≡ None → cursor.new.depth ≡ cursor.old.depth) }
     ensures passes { (name : Name) (aliases : List Name) → PassesAtOnce M.keeps (λ m. M.stands_for m (schema_nodes schema.now) (SeenNode.record_of name aliases (seen_fields fields.now)) at) (schema_nodes schema.now) (SeenNode.record_of name aliases (seen_fields fields.now)) maker.old maker.new cursor.old cursor.new result }
+    ensures stays { (front : List ℕ) → M.begins maker.old front → M.begins maker.new front }
 {
     match maker.ends(alloc, at) {
         Some(ends) => make_of_pieces(alloc, schema, fields, ends, cursor, maker, at),
@@ -51,6 +52,7 @@ fn make_of_pieces<'c, M: Make>(
 ) -> Result<Option<M::Out>, ReadError>
     ensures level { IfOk result (λ o. o ≡ None → cursor.new.depth ≡ cursor.old.depth) }
     ensures passes { (name : Name) (aliases : List Name) → PassesAtOnce M.keeps (λ m. M.stands_for m (schema_nodes schema.now) (SeenNode.record_of name aliases (seen_fields fields.now)) at) (schema_nodes schema.now) (SeenNode.record_of name aliases (seen_fields fields.now)) maker.old maker.new cursor.old cursor.new result }
+    ensures stays { (front : List ℕ) → M.begins maker.old front → M.begins maker.new front }
 {
     let mut ends = ends;
     let mut ahead = cursor.ahead();

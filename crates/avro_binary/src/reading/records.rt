@@ -1,6 +1,6 @@
 //! Reading records, within the cycle that reads a node.
 
-ghost use Rattle.std.specs.Prelude.{◌≡◌, IfOk, List, None};
+ghost use Rattle.std.specs.Prelude.{◌≡◌, ℕ, IfOk, List, None};
 ghost use Rattle.avro_name.specs.Name.{Name};
 ghost use Rattle.avro_schema.specs.Empty.{IsEmptyDatum};
 ghost use Rattle.avro_schema.specs.Node.{Node as SeenNode, node_at};
@@ -29,8 +29,9 @@ pub(crate) fn read_record<M: Make>(
     maker: &mut M,
     at: M::At,
 ) -> Result<M::Out, ReadError>
-    ensures { (name : Name) (aliases : List Name) → node_at (schema_nodes schema.now) id.0 ≡ SeenNode.record_of name aliases (seen_fields fields.now)
+    ensures reads { (name : Name) (aliases : List Name) → node_at (schema_nodes schema.now) id.0 ≡ SeenNode.record_of name aliases (seen_fields fields.now)
         → ReadsNode (Made M.keeps (λ m. M.stands_for m (schema_nodes schema.now) (node_at (schema_nodes schema.now) id.0) at) maker.old maker.new) (schema_nodes schema.now) (node_at (schema_nodes schema.now) id.0) cursor.old cursor.new result }
+    ensures stays { (front : List ℕ) → M.begins maker.old front → M.begins maker.new front }
 {
     match pass_at_once(alloc, schema, id, fields, cursor, maker, at)? {
         Some(out) => Ok(out),
@@ -52,6 +53,7 @@ fn pass_at_once<M: Make>(
     ensures level { IfOk result (λ o. o ≡ None → cursor.new.depth ≡ cursor.old.depth) }
     ensures passes { (name : Name) (aliases : List Name) → node_at (schema_nodes schema.now) id.0 ≡ SeenNode.record_of name aliases (seen_fields fields.now)
         → PassesAtOnce M.keeps (λ m. M.stands_for m (schema_nodes schema.now) (node_at (schema_nodes schema.now) id.0) at) (schema_nodes schema.now) (node_at (schema_nodes schema.now) id.0) maker.old maker.new cursor.old cursor.new result }
+    ensures stays { (front : List ℕ) → M.begins maker.old front → M.begins maker.new front }
 {
     match pass_empty(alloc, schema, id, cursor, maker, at)? {
         Some(out) => Ok(Some(out)),
@@ -69,7 +71,8 @@ fn pass_empty<M: Make>(
     maker: &mut M,
     at: M::At,
 ) -> Result<Option<M::Out>, ReadError>
-    ensures { PassesAtOnce M.keeps (λ m. M.stands_for m (schema_nodes schema.now) (node_at (schema_nodes schema.now) id.0) at) (schema_nodes schema.now) (node_at (schema_nodes schema.now) id.0) maker.old maker.new cursor.old cursor.new result }
+    ensures passes { PassesAtOnce M.keeps (λ m. M.stands_for m (schema_nodes schema.now) (node_at (schema_nodes schema.now) id.0) at) (schema_nodes schema.now) (node_at (schema_nodes schema.now) id.0) maker.old maker.new cursor.old cursor.new result }
+    ensures stays { (front : List ℕ) → M.begins maker.old front → M.begins maker.new front }
 {
     match schema.empty(id) {
         Some(empty) => make_empty(alloc, schema, id, empty, cursor, maker, at),
@@ -88,8 +91,9 @@ fn make_empty<M: Make>(
     maker: &mut M,
     at: M::At,
 ) -> Result<Option<M::Out>, ReadError>
-    ensures { IsEmptyDatum (schema_nodes schema.now) (node_at (schema_nodes schema.now) id.0) empty.nodes empty.depth
+    ensures passes { IsEmptyDatum (schema_nodes schema.now) (node_at (schema_nodes schema.now) id.0) empty.nodes empty.depth
         → PassesAtOnce M.keeps (λ m. M.stands_for m (schema_nodes schema.now) (node_at (schema_nodes schema.now) id.0) at) (schema_nodes schema.now) (node_at (schema_nodes schema.now) id.0) maker.old maker.new cursor.old cursor.new result }
+    ensures stays { (front : List ℕ) → M.begins maker.old front → M.begins maker.new front }
 {
     // Its contract says that the schema is well formed, which the laws of faults ask for.
     let _count = schema.len();

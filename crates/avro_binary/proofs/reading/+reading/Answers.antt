@@ -39,19 +39,19 @@ field_id_at (f ∷ fields) (suc k) d h = field_id_at fields k d (omega arith)
 pub read_item_blocks-loop-items-init : goal.read_item_blocks-loop-items-init
 read_item_blocks-loop-items-init g t c =
     let nodes = schema_nodes c.args.schema.now in
-    ([], blocks_none (values_kind nodes (limits_at c.args.cursor.now) (node_at nodes c.args.id.0)) c.args.cursor.now tt, c.in_ok-items.ensures.kept, c.in_ok-items.ensures.stands nodes c.args.id.0)
+    ([], blocks_none (values_kind nodes (limits_at c.args.cursor.now) (node_at nodes c.args.id.0)) c.args.cursor.now tt, c.in_ok-items.ensures.kept, c.in_ok-items.ensures.stands nodes c.args.id.0, c.in_ok-items.ensures.stays)
 
-pub read_item_blocks-returns-in_err-block : goal.read_item_blocks-returns-in_err-block
-read_item_blocks-returns-in_err-block g t c =
+pub read_item_blocks-returns-in_err-block-clause-reads : goal.read_item_blocks-returns-in_err-block-clause-reads
+read_item_blocks-returns-in_err-block-clause-reads g t c =
     let p = err_from_is_err_and c.from_residual-in_err-block.result c.from_residual-in_err-block.ensures.1 in
     rw (p.1, p.2) (record { found = tt; refused = head_refused c.loop-items.invariant.1 c.in_err-block.field-0.0 c.in_err-block.ensures.refused })
 
-pub read_item_blocks-returns-in_err-read_items : goal.read_item_blocks-returns-in_err-read_items
-read_item_blocks-returns-in_err-read_items g t c =
+pub read_item_blocks-returns-in_err-read_items-clause-reads : goal.read_item_blocks-returns-in_err-read_items-clause-reads
+read_item_blocks-returns-in_err-read_items-clause-reads g t c =
     let inv = c.loop-items.invariant in
     let done = inv.1 in
     let head = head_read c.loop-items.cursor c.block.new.self c.in-Some.block (rw c.in-Some.is at c.in_ok-block.ensures.found) in
-    let read = c.in_err-read_items.ensures (limits_at c.args.cursor.now) (depth_kept done head) (blob_kept done head) in
+    let read = c.in_err-read_items.ensures.reads (limits_at c.args.cursor.now) (depth_kept done head) (blob_kept done head) in
     let p = err_from_is_err_and c.from_residual-in_err-read_items.result c.from_residual-in_err-read_items.ensures.1 in
     rw (p.1, p.2) (record { found = tt; refused = item_refused done head c.count.result c.in_err-read_items.field-0.0 c.count.ensures read.refused })
 
@@ -60,7 +60,7 @@ read_item_blocks-loop-items-smaller g t c =
     let inv = c.loop-items.invariant in
     let done = inv.1 in
     let head = head_read c.loop-items.cursor c.block.new.self c.in-Some.block (rw c.in-Some.is at c.in_ok-block.ensures.found) in
-    let read = c.in_ok-read_items.ensures (limits_at c.args.cursor.now) (depth_kept done head) (blob_kept done head) in
+    let read = c.in_ok-read_items.ensures.reads (limits_at c.args.cursor.now) (depth_kept done head) (blob_kept done head) in
     block_smaller done head read.found.3 (read.found.2 ∙ c.count.ensures)
 
 pub read_item_blocks-loop-items-preserved : goal.read_item_blocks-loop-items-preserved
@@ -68,27 +68,27 @@ read_item_blocks-loop-items-preserved g t c =
     let inv = c.loop-items.invariant in
     let done = inv.1 in
     let head = head_read c.loop-items.cursor c.block.new.self c.in-Some.block (rw c.in-Some.is at c.in_ok-block.ensures.found) in
-    let read = c.in_ok-read_items.ensures (limits_at c.args.cursor.now) (depth_kept done head) (blob_kept done head) in
+    let read = c.in_ok-read_items.ensures.reads (limits_at c.args.cursor.now) (depth_kept done head) (blob_kept done head) in
     let found = read.found.3 in
     let counted = read.found.2 ∙ c.count.ensures in
     let size = length (concat found.items) in
     let ends = c.in_ok-end_block.ensures c.loop-items.cursor.offset size head.head head.is_block (offset_is done head found counted) in
-    (inv.0 ++ read.found.0, subst (λ (keys : List (List ℕ)). ArrayDone (schema_nodes c.args.schema.now) c.args.id.0 c.args.cursor.now c.read_items.new.cursor keys (inv.0 ++ read.found.0)) found.stand.keys (blocks_push done head found counted (has_size tt c.loop-items.cursor.offset head.head size ends)), g.met.M.Make.keeps_on c.args.maker.now c.loop-items.maker c.read_items.new.maker inv.2 read.found.4.0, read.found.4.1 c.args.at inv.0 inv.3)
+    (inv.0 ++ read.found.0, subst (λ (keys : List (List ℕ)). ArrayDone (schema_nodes c.args.schema.now) c.args.id.0 c.args.cursor.now c.read_items.new.cursor keys (inv.0 ++ read.found.0)) found.stand.keys (blocks_push done head found counted (has_size tt c.loop-items.cursor.offset head.head size ends)), g.met.M.Make.keeps_on c.args.maker.now c.loop-items.maker c.read_items.new.maker inv.2 read.found.4.0, read.found.4.1 c.args.at inv.0 inv.3, λ front h. c.in_ok-read_items.ensures.stays front (inv.4 front h))
 
-pub read_item_blocks-returns-in_err-end_block : goal.read_item_blocks-returns-in_err-end_block
-read_item_blocks-returns-in_err-end_block g t c =
+pub read_item_blocks-returns-in_err-end_block-clause-reads : goal.read_item_blocks-returns-in_err-end_block-clause-reads
+read_item_blocks-returns-in_err-end_block-clause-reads g t c =
     let inv = c.loop-items.invariant in
     let done = inv.1 in
     let head = head_read c.loop-items.cursor c.block.new.self c.in-Some.block (rw c.in-Some.is at c.in_ok-block.ensures.found) in
-    let read = c.in_ok-read_items.ensures (limits_at c.args.cursor.now) (depth_kept done head) (blob_kept done head) in
+    let read = c.in_ok-read_items.ensures.reads (limits_at c.args.cursor.now) (depth_kept done head) (blob_kept done head) in
     let found = read.found.3 in
     let counted = read.found.2 ∙ c.count.ensures in
     let p = err_from_is_err_and c.from_residual-in_err-end_block.result c.from_residual-in_err-end_block.ensures.1 in
     let ends = c.in_err-end_block.ensures c.loop-items.cursor.offset (length (concat found.items)) head.head head.is_block (offset_is done head found counted) in
     rw (p.1, p.2) (record { found = tt; refused = size_refused done head found counted (Unit {0}) c.in_err-end_block.field-0.0 ends })
 
-pub read_item_blocks-returns : goal.read_item_blocks-returns
-read_item_blocks-returns g t c =
+pub read_item_blocks-returns-clause-reads : goal.read_item_blocks-returns-clause-reads
+read_item_blocks-returns-clause-reads g t c =
     let inv = c.loop-items.invariant in
     let nodes = schema_nodes c.args.schema.now in
     let end = end_read c.loop-items.cursor c.block.new.self (rw c.in_default.is at c.in_ok-block.ensures.found) in
@@ -99,26 +99,26 @@ read_item_blocks-returns g t c =
 pub maps::read_entry_blocks-loop-entries-init : goal.maps::read_entry_blocks-loop-entries-init
 maps::read_entry_blocks-loop-entries-init g t c =
     let nodes = schema_nodes c.args.schema.now in
-    ([], [], c.new-keys.ensures, blocks_none (entries_kind nodes (limits_at c.args.cursor.now) (node_at nodes c.args.id.0)) c.args.cursor.now refl, c.in_ok-entries.ensures.kept, c.in_ok-entries.ensures.stands nodes c.args.id.0)
+    ([], [], c.new-keys.ensures, blocks_none (entries_kind nodes (limits_at c.args.cursor.now) (node_at nodes c.args.id.0)) c.args.cursor.now refl, c.in_ok-entries.ensures.kept, c.in_ok-entries.ensures.stands nodes c.args.id.0, c.in_ok-entries.ensures.stays)
 
-pub maps::read_entry_blocks-returns-in_err-head : goal.maps::read_entry_blocks-returns-in_err-head
-maps::read_entry_blocks-returns-in_err-head g t c =
+pub maps::read_entry_blocks-returns-in_err-head-clause-reads : goal.maps::read_entry_blocks-returns-in_err-head-clause-reads
+maps::read_entry_blocks-returns-in_err-head-clause-reads g t c =
     let p = err_from_is_err_and c.from_residual-in_err-head.result c.from_residual-in_err-head.ensures.1 in
     rw (p.1, p.2) (record { found = tt; refused = head_refused c.loop-entries.invariant.3 c.in_err-head.field-0.0 c.in_err-head.ensures.refused })
 
-pub maps::read_entry_blocks-returns : goal.maps::read_entry_blocks-returns
-maps::read_entry_blocks-returns g t c =
+pub maps::read_entry_blocks-returns-clause-reads : goal.maps::read_entry_blocks-returns-clause-reads
+maps::read_entry_blocks-returns-clause-reads g t c =
     let inv = c.loop-entries.invariant in
     let nodes = schema_nodes c.args.schema.now in
     let end = end_read c.loop-entries.cursor c.block.new.self (rw c.in_default.is at c.in_ok-head.ensures.found) in
     map_found nodes c.args.id.0 inv.3 end c.in_ok-map.field-0 c.nodes-nodes.ensures.in_range (g.met.M.Make.keeps_on c.args.maker.now c.loop-entries.maker c.map.new.self inv.4 c.in_ok-map.ensures.kept, c.in_ok-map.ensures.stands nodes c.args.id.0 c.args.at inv.0 inv.5)
 
-pub maps::read_entry_blocks-returns-in_err-read_entries : goal.maps::read_entry_blocks-returns-in_err-read_entries
-maps::read_entry_blocks-returns-in_err-read_entries g t c =
+pub maps::read_entry_blocks-returns-in_err-read_entries-clause-reads : goal.maps::read_entry_blocks-returns-in_err-read_entries-clause-reads
+maps::read_entry_blocks-returns-in_err-read_entries-clause-reads g t c =
     let inv = c.loop-entries.invariant in
     let done = inv.3 in
     let head = head_read c.loop-entries.cursor c.block.new.self c.in-Some.head (rw c.in-Some.is at c.in_ok-head.ensures.found) in
-    let read = c.in_err-read_entries.ensures (limits_at c.args.cursor.now) inv.1 (depth_kept done head) (blob_kept done head) inv.2 done.stand.distinct in
+    let read = c.in_err-read_entries.ensures.reads (limits_at c.args.cursor.now) inv.1 (depth_kept done head) (blob_kept done head) inv.2 done.stand.distinct in
     let p = err_from_is_err_and c.from_residual-in_err-read_entries.result c.from_residual-in_err-read_entries.ensures.1 in
     rw (p.1, p.2) (record { found = tt; refused = item_refused done head c.count-count.result c.in_err-read_entries.field-0.0 c.count-count.ensures read.refused })
 
@@ -127,7 +127,7 @@ maps::read_entry_blocks-loop-entries-smaller g t c =
     let inv = c.loop-entries.invariant in
     let done = inv.3 in
     let head = head_read c.loop-entries.cursor c.block.new.self c.in-Some.head (rw c.in-Some.is at c.in_ok-head.ensures.found) in
-    let read = c.in_ok-read_entries.ensures (limits_at c.args.cursor.now) inv.1 (depth_kept done head) (blob_kept done head) inv.2 done.stand.distinct in
+    let read = c.in_ok-read_entries.ensures.reads (limits_at c.args.cursor.now) inv.1 (depth_kept done head) (blob_kept done head) inv.2 done.stand.distinct in
     block_smaller done head read.found.3 (read.found.2 ∙ c.count-count.ensures)
 
 pub maps::read_entry_blocks-loop-entries-preserved : goal.maps::read_entry_blocks-loop-entries-preserved
@@ -135,19 +135,19 @@ maps::read_entry_blocks-loop-entries-preserved g t c =
     let inv = c.loop-entries.invariant in
     let done = inv.3 in
     let head = head_read c.loop-entries.cursor c.block.new.self c.in-Some.head (rw c.in-Some.is at c.in_ok-head.ensures.found) in
-    let read = c.in_ok-read_entries.ensures (limits_at c.args.cursor.now) inv.1 (depth_kept done head) (blob_kept done head) inv.2 done.stand.distinct in
+    let read = c.in_ok-read_entries.ensures.reads (limits_at c.args.cursor.now) inv.1 (depth_kept done head) (blob_kept done head) inv.2 done.stand.distinct in
     let found = read.found.3 in
     let counted = read.found.2 ∙ c.count-count.ensures in
     let size = length (concat found.items) in
     let ends = c.in_ok-end_block.ensures c.loop-entries.cursor.offset size head.head head.is_block (offset_is done head found counted) in
-    (inv.0 ++ read.found.0, read.found.1, read.found.4.0, blocks_push done head found counted (has_size tt c.loop-entries.cursor.offset head.head size ends), g.met.M.Make.keeps_on c.args.maker.now c.loop-entries.maker c.read_entries.new.maker inv.4 read.found.4.1, read.found.4.2 c.args.at inv.0 inv.5)
+    (inv.0 ++ read.found.0, read.found.1, read.found.4.0, blocks_push done head found counted (has_size tt c.loop-entries.cursor.offset head.head size ends), g.met.M.Make.keeps_on c.args.maker.now c.loop-entries.maker c.read_entries.new.maker inv.4 read.found.4.1, read.found.4.2 c.args.at inv.0 inv.5, λ front h. c.in_ok-read_entries.ensures.stays front (inv.6 front h))
 
-pub maps::read_entry_blocks-returns-in_err-end_block : goal.maps::read_entry_blocks-returns-in_err-end_block
-maps::read_entry_blocks-returns-in_err-end_block g t c =
+pub maps::read_entry_blocks-returns-in_err-end_block-clause-reads : goal.maps::read_entry_blocks-returns-in_err-end_block-clause-reads
+maps::read_entry_blocks-returns-in_err-end_block-clause-reads g t c =
     let inv = c.loop-entries.invariant in
     let done = inv.3 in
     let head = head_read c.loop-entries.cursor c.block.new.self c.in-Some.head (rw c.in-Some.is at c.in_ok-head.ensures.found) in
-    let read = c.in_ok-read_entries.ensures (limits_at c.args.cursor.now) inv.1 (depth_kept done head) (blob_kept done head) inv.2 done.stand.distinct in
+    let read = c.in_ok-read_entries.ensures.reads (limits_at c.args.cursor.now) inv.1 (depth_kept done head) (blob_kept done head) inv.2 done.stand.distinct in
     let found = read.found.3 in
     let counted = read.found.2 ∙ c.count-count.ensures in
     let p = err_from_is_err_and c.from_residual-in_err-end_block.result c.from_residual-in_err-end_block.ensures.1 in
@@ -156,8 +156,8 @@ maps::read_entry_blocks-returns-in_err-end_block g t c =
 
 -- ---- Entries
 
-pub maps::read_entries-returns-in_err-key : goal.maps::read_entries-returns-in_err-key
-maps::read_entries-returns-in_err-key g t c = λ limits before d b are distinct.
+pub maps::read_entries-returns-in_err-key-clause-reads : goal.maps::read_entries-returns-in_err-key-clause-reads
+maps::read_entries-returns-in_err-key-clause-reads g t c = λ limits before d b are distinct.
     let nodes = schema_nodes c.args.schema.now in
     let n = node_at nodes c.args.id.0 in
     let now = c.loop-done.cursor in
@@ -174,8 +174,8 @@ maps::read_entries-returns-in_err-key g t c = λ limits before d b are distinct.
     let read = c.in_err-key.ensures.read keys so_far.3 in
     rw (p.1, p.2) (record { found = tt; refused = run_breaks (entries_kind nodes limits n) run c.args.count e few (key_report nodes limits n now keys e long read.refused) })
 
-pub maps::read_entries-returns-in_err-value : goal.maps::read_entries-returns-in_err-value
-maps::read_entries-returns-in_err-value g t c = λ limits before d b are distinct.
+pub maps::read_entries-returns-in_err-value-clause-reads : goal.maps::read_entries-returns-in_err-value-clause-reads
+maps::read_entries-returns-in_err-value-clause-reads g t c = λ limits before d b are distinct.
     let nodes = schema_nodes c.args.schema.now in
     let n = node_at nodes c.args.id.0 in
     let now = c.loop-done.cursor in
@@ -192,12 +192,12 @@ maps::read_entries-returns-in_err-value g t c = λ limits before d b are distinc
     let read = c.in_ok-key.ensures.read keys so_far.3 in
     let p = err_from_is_err_and c.from_residual-in_err-value.result c.from_residual-in_err-value.ensures.1 in
     let e = c.in_err-value.field-0.0 in
-    let reported = entry_report nodes limits n now mid keys c.in_ok-key.key.now read.found.0 e read.found.1 read.found.2 deep long c.in_err-value.ensures.refused in
+    let reported = entry_report nodes limits n now mid keys c.in_ok-key.key.now read.found.0 e read.found.1 read.found.2 deep long c.in_err-value.ensures.reads.refused in
     rw (p.1, p.2) (record { found = tt; refused = run_breaks (entries_kind nodes limits n) run c.args.count e few reported })
 
 pub maps::read_entries-loop-done-preserved : goal.maps::read_entries-loop-done-preserved
 maps::read_entries-loop-done-preserved g t c = (
-  let found = c.in_ok-value.ensures.found in found.1.moves.depth ∙ c.in_ok-key.ensures.depth ∙ c.loop-done.invariant.0,
+  let found = c.in_ok-value.ensures.reads.found in found.1.moves.depth ∙ c.in_ok-key.ensures.depth ∙ c.loop-done.invariant.0,
   λ limits before d b are distinct.
       let nodes = schema_nodes c.args.schema.now in
       let n = node_at nodes c.args.id.0 in
@@ -214,7 +214,7 @@ maps::read_entries-loop-done-preserved g t c = (
       let front = read.found.0 in
       let is = read.found.1 in
       let passes = read.found.2 in
-      let found = c.in_ok-value.ensures.found in
+      let found = c.in_ok-value.ensures.reads.found in
       let after = c.read_at.new.cursor in
       let v = found.0 in
       let value = found.1 in
@@ -231,10 +231,11 @@ maps::read_entries-loop-done-preserved g t c = (
       subst (λ (es : List (List ℕ × Value)). g.M.Make.entries_stand_for c.entry.new.self nodes c.args.id.0 at c.entry.new.entries es) (append_assoc fs xs ((key, v) ∷ []))
       (c.in_ok-entry.ensures.stands nodes c.args.id.0 at (fs ++ xs) v (g.met.M.Make.entries_kept maker made nodes c.args.id.0 at entries (fs ++ xs) found.2.0 (so_far.6 at fs h)) is_for) in
       (xs ++ (key, v) ∷ [], keys ++ key ∷ [], omega (arith, length-append xs ((key, v) ∷ [])), read.added, more, kept, stand),
+  λ front h. c.in_ok-entry.ensures.stays front (c.in_ok-value.ensures.stays front (c.loop-done.invariant.2 front h)),
 )
 
-pub maps::read_entries-returns : goal.maps::read_entries-returns
-maps::read_entries-returns g t c = λ limits before d b are distinct.
+pub maps::read_entries-returns-clause-reads : goal.maps::read_entries-returns-clause-reads
+maps::read_entries-returns-clause-reads g t c = λ limits before d b are distinct.
     let so_far = c.loop-done.invariant.1 limits before d b are distinct in
     let xs = so_far.0 in
     let keys = so_far.1 in
@@ -247,8 +248,8 @@ maps::read_entries-returns g t c = λ limits before d b are distinct.
 
 -- ---- Items
 
-pub read_items-returns-in_err-value : goal.read_items-returns-in_err-value
-read_items-returns-in_err-value g t c = λ limits d b.
+pub read_items-returns-in_err-value-clause-reads : goal.read_items-returns-in_err-value-clause-reads
+read_items-returns-in_err-value-clause-reads g t c = λ limits d b.
     let p = err_from_is_err_and c.from_residual.result c.from_residual.ensures.1 in
     let nodes = schema_nodes c.args.schema.now in
     let n = node_at nodes c.args.id.0 in
@@ -258,12 +259,12 @@ read_items-returns-in_err-value g t c = λ limits d b.
     let before_end = c.loop-done-test.true in
     let few : length so_far.0 < c.args.count = omega arith in
     let e = c.in_err-value.field-0.0 in
-    let reported = value_report nodes limits n now [] e (d ∙ sym so_far.2.moves.depth) (b ∙ sym so_far.2.moves.blob) c.in_err-value.ensures.refused in
+    let reported = value_report nodes limits n now [] e (d ∙ sym so_far.2.moves.depth) (b ∙ sym so_far.2.moves.blob) c.in_err-value.ensures.reads.refused in
     rw (p.1, p.2) (record { found = tt; refused = run_breaks (values_kind nodes limits n) so_far.2 c.args.count e few reported })
 
 pub read_items-loop-done-preserved : goal.read_items-loop-done-preserved
 read_items-loop-done-preserved g t c =
-    let found = c.in_ok-value.ensures.found in
+    let found = c.in_ok-value.ensures.reads.found in
     let nodes = schema_nodes c.args.schema.now in
     let n = node_at nodes c.args.id.0 in
     let now = c.loop-done.cursor in
@@ -288,11 +289,12 @@ read_items-loop-done-preserved g t c =
           subst (λ (vs : List Value). g.M.Make.items_stand_for c.item.new.self nodes c.args.id.0 at c.item.new.items vs) (append_assoc us xs (v ∷ []))
           (c.in_ok-item.ensures.stands nodes c.args.id.0 at (us ++ xs) v before is_for) in
           (xs ++ v ∷ [], omega (arith, length-append xs (v ∷ [])), more, kept, stand),
+      λ front h. c.in_ok-item.ensures.stays front (c.in_ok-value.ensures.stays front (c.loop-done.invariant.2 front h)),
     )
 
-pub read_items-returns-then-alike : goal.read_items-returns-then-alike
-read_items-returns-then-alike g t c = λ limits d b.
-    let found = c.in_ok-value.ensures.found in
+pub read_items-returns-then-alike-clause-reads : goal.read_items-returns-then-alike-clause-reads
+read_items-returns-then-alike-clause-reads g t c = λ limits d b.
+    let found = c.in_ok-value.ensures.reads.found in
     let nodes = schema_nodes c.args.schema.now in
     let n = node_at nodes c.args.id.0 in
     let now = c.loop-done.cursor in
@@ -325,8 +327,8 @@ read_items-returns-then-alike g t c = λ limits d b.
     (subst (λ (s : ℕ). OnOk c.count_again.result (CountsAgain after (s * others) c.count_again.new.self)) sized c.count_again.ensures.counted)
     (subst (λ (s : ℕ). IfErr c.count_again.result (λ e. (read_fault e ≡ Some limit_exceeded) × (after.nodes < s * others))) sized c.count_again.ensures.refused) (kept, stand)
 
-pub read_items-returns : goal.read_items-returns
-read_items-returns g t c = λ limits d b.
+pub read_items-returns-clause-reads : goal.read_items-returns-clause-reads
+read_items-returns-clause-reads g t c = λ limits d b.
     let so_far = c.loop-done.invariant.1 limits d b in
     let counted = so_far.1 in
     let ended = c.loop-done-test.false in
@@ -336,103 +338,103 @@ read_items-returns g t c = λ limits d b.
 
 -- ---- Nodes
 
-pub read_at-returns-then-not-has : goal.read_at-returns-then-not-has
-read_at-returns-then-not-has g t c =
+pub read_at-returns-then-not-has-clause-reads : goal.read_at-returns-then-not-has-clause-reads
+read_at-returns-then-not-has-clause-reads g t c =
     let nodes = schema_nodes c.args.schema.now in
     let none = c.if-not-has.true in
     let has = c.has.ensures in
     let past : length nodes ≤ c.args.id.0 = not-below c.args.id.0 (length nodes) c.has.result none has.1 in
-    rw (null_past nodes c.args.id.0 past) (c.read_null.ensures nodes)
+    rw (null_past nodes c.args.id.0 past) (c.read_null.ensures.reads nodes)
 
-pub read_at-returns-in-Null : goal.read_at-returns-in-Null
-read_at-returns-in-Null g t c =
-    rw (sym c.node.ensures ∙ ap node_of c.in-Null.is) (c.read_null-in-Null.ensures (schema_nodes c.args.schema.now))
+pub read_at-returns-in-Null-clause-reads : goal.read_at-returns-in-Null-clause-reads
+read_at-returns-in-Null-clause-reads g t c =
+    rw (sym c.node.ensures ∙ ap node_of c.in-Null.is) (c.read_null-in-Null.ensures.reads (schema_nodes c.args.schema.now))
 
-pub read_at-returns-in-Boolean : goal.read_at-returns-in-Boolean
-read_at-returns-in-Boolean g t c =
-    rw (sym c.node.ensures ∙ ap node_of c.in-Boolean.is) (c.read_boolean.ensures (schema_nodes c.args.schema.now))
+pub read_at-returns-in-Boolean-clause-reads : goal.read_at-returns-in-Boolean-clause-reads
+read_at-returns-in-Boolean-clause-reads g t c =
+    rw (sym c.node.ensures ∙ ap node_of c.in-Boolean.is) (c.read_boolean.ensures.reads (schema_nodes c.args.schema.now))
 
-pub read_at-returns-in-Int : goal.read_at-returns-in-Int
-read_at-returns-in-Int g t c =
-    rw (sym c.node.ensures ∙ ap node_of c.in-Int.is) (c.read_int.ensures (schema_nodes c.args.schema.now))
+pub read_at-returns-in-Int-clause-reads : goal.read_at-returns-in-Int-clause-reads
+read_at-returns-in-Int-clause-reads g t c =
+    rw (sym c.node.ensures ∙ ap node_of c.in-Int.is) (c.read_int.ensures.reads (schema_nodes c.args.schema.now))
 
-pub read_at-returns-in-Long : goal.read_at-returns-in-Long
-read_at-returns-in-Long g t c =
-    rw (sym c.node.ensures ∙ ap node_of c.in-Long.is) (c.read_long.ensures (schema_nodes c.args.schema.now))
+pub read_at-returns-in-Long-clause-reads : goal.read_at-returns-in-Long-clause-reads
+read_at-returns-in-Long-clause-reads g t c =
+    rw (sym c.node.ensures ∙ ap node_of c.in-Long.is) (c.read_long.ensures.reads (schema_nodes c.args.schema.now))
 
-pub read_at-returns-in-Bytes : goal.read_at-returns-in-Bytes
-read_at-returns-in-Bytes g t c =
-    rw (sym c.node.ensures ∙ ap node_of c.in-Bytes.is) (c.read_bytes.ensures (schema_nodes c.args.schema.now))
+pub read_at-returns-in-Bytes-clause-reads : goal.read_at-returns-in-Bytes-clause-reads
+read_at-returns-in-Bytes-clause-reads g t c =
+    rw (sym c.node.ensures ∙ ap node_of c.in-Bytes.is) (c.read_bytes.ensures.reads (schema_nodes c.args.schema.now))
 
-pub read_at-returns-in-Str : goal.read_at-returns-in-Str
-read_at-returns-in-Str g t c =
-    rw (sym c.node.ensures ∙ ap node_of c.in-Str.is) (c.read_text.ensures (schema_nodes c.args.schema.now))
+pub read_at-returns-in-Str-clause-reads : goal.read_at-returns-in-Str-clause-reads
+read_at-returns-in-Str-clause-reads g t c =
+    rw (sym c.node.ensures ∙ ap node_of c.in-Str.is) (c.read_text.ensures.reads (schema_nodes c.args.schema.now))
 
-pub read_at-returns-in-Record : goal.read_at-returns-in-Record
-read_at-returns-in-Record g t c =
+pub read_at-returns-in-Record-clause-reads : goal.read_at-returns-in-Record-clause-reads
+read_at-returns-in-Record-clause-reads g t c =
     let record_is = c.in-Record.record in
-    c.read_record.ensures record_is.name record_is.aliases.items (rw c.deref-in-Record.ensures.value (sym c.node.ensures ∙ ap node_of c.in-Record.is))
+    c.read_record.ensures.reads record_is.name record_is.aliases.items (rw c.deref-in-Record.ensures.value (sym c.node.ensures ∙ ap node_of c.in-Record.is))
 
-pub read_at-returns-in-Enum : goal.read_at-returns-in-Enum
-read_at-returns-in-Enum g t c =
+pub read_at-returns-in-Enum-clause-reads : goal.read_at-returns-in-Enum-clause-reads
+read_at-returns-in-Enum-clause-reads g t c =
     let enum_is = c.in-Enum.enumeration in
-    rw (sym c.node.ensures ∙ ap node_of c.in-Enum.is) (c.read_symbol.ensures (schema_nodes c.args.schema.now) enum_is.name enum_is.aliases.items (texts_of enum_is.symbols.items) enum_is.default
+    rw (sym c.node.ensures ∙ ap node_of c.in-Enum.is) (c.read_symbol.ensures.reads (schema_nodes c.args.schema.now) enum_is.name enum_is.aliases.items (texts_of enum_is.symbols.items) enum_is.default
     (c.len.ensures ∙ enum_is.symbols.ok.0 ∙ sym (texts-length enum_is.symbols.items)))
 
-pub read_at-returns-in-Fixed : goal.read_at-returns-in-Fixed
-read_at-returns-in-Fixed g t c =
+pub read_at-returns-in-Fixed-clause-reads : goal.read_at-returns-in-Fixed-clause-reads
+read_at-returns-in-Fixed-clause-reads g t c =
     let fixed_is = c.in-Fixed.fixed in
-    rw (sym c.node.ensures ∙ ap node_of c.in-Fixed.is) (c.read_fixed.ensures (schema_nodes c.args.schema.now) fixed_is.name fixed_is.aliases.items)
+    rw (sym c.node.ensures ∙ ap node_of c.in-Fixed.is) (c.read_fixed.ensures.reads (schema_nodes c.args.schema.now) fixed_is.name fixed_is.aliases.items)
 
 -- ---- Nodes with parts
 
-pub read_array-returns-in_err-enter : goal.read_array-returns-in_err-enter
-read_array-returns-in_err-enter g t c =
+pub read_array-returns-in_err-enter-clause-reads : goal.read_array-returns-in_err-enter-clause-reads
+read_array-returns-in_err-enter-clause-reads g t c =
     let p = err_from_is_err_and c.from_residual.result c.from_residual.ensures.1 in
     rw (p.1, p.2) (enter_refused (schema_nodes c.args.schema.now) (Node.array c.args.id.0) c.args.cursor.now c.enter.new.self c.in_err-enter.field-0.0 c.in_err-enter.ensures.refused)
 
-pub read_array-returns-in_err-out : goal.read_array-returns-in_err-out
-read_array-returns-in_err-out g t c =
+pub read_array-returns-in_err-out-clause-reads : goal.read_array-returns-in_err-out-clause-reads
+read_array-returns-in_err-out-clause-reads g t c =
     let p = err_from_is_err_and c.from_residual-in_err-out.result c.from_residual-in_err-out.ensures.1 in
     rw (p.1, p.2) (node_refused (schema_nodes c.args.schema.now) (Node.array c.args.id.0) c.args.cursor.now c.enter.new.self c.read_item_blocks.new.cursor c.read_item_blocks.new.cursor
-    c.in_err-out.field-0.0 c.in_ok-enter.ensures.entered c.in_err-out.ensures)
+    c.in_err-out.field-0.0 c.in_ok-enter.ensures.entered c.in_err-out.ensures.reads)
 
-pub maps::read_map-returns-in_err-enter : goal.maps::read_map-returns-in_err-enter
-maps::read_map-returns-in_err-enter g t c =
+pub maps::read_map-returns-in_err-enter-clause-reads : goal.maps::read_map-returns-in_err-enter-clause-reads
+maps::read_map-returns-in_err-enter-clause-reads g t c =
     let p = err_from_is_err_and c.from_residual.result c.from_residual.ensures.1 in
     rw (p.1, p.2) (enter_refused (schema_nodes c.args.schema.now) (Node.map_of c.args.id.0) c.args.cursor.now c.enter.new.self c.in_err-enter.field-0.0 c.in_err-enter.ensures.refused)
 
-pub maps::read_map-returns-in_err-out : goal.maps::read_map-returns-in_err-out
-maps::read_map-returns-in_err-out g t c =
+pub maps::read_map-returns-in_err-out-clause-reads : goal.maps::read_map-returns-in_err-out-clause-reads
+maps::read_map-returns-in_err-out-clause-reads g t c =
     let p = err_from_is_err_and c.from_residual-in_err-out.result c.from_residual-in_err-out.ensures.1 in
     rw (p.1, p.2) (node_refused (schema_nodes c.args.schema.now) (Node.map_of c.args.id.0) c.args.cursor.now c.enter.new.self c.read_entry_blocks.new.cursor c.read_entry_blocks.new.cursor
-    c.in_err-out.field-0.0 c.in_ok-enter.ensures.entered c.in_err-out.ensures)
+    c.in_err-out.field-0.0 c.in_ok-enter.ensures.entered c.in_err-out.ensures.reads)
 
-pub read_union-returns-in_err-enter : goal.read_union-returns-in_err-enter
-read_union-returns-in_err-enter g t c =
+pub read_union-returns-in_err-enter-clause-reads : goal.read_union-returns-in_err-enter-clause-reads
+read_union-returns-in_err-enter-clause-reads g t c =
     let p = err_from_is_err_and c.from_residual.result c.from_residual.ensures.1 in
     rw (p.1, p.2) (enter_refused (schema_nodes c.args.schema.now) (Node.union (ids_of c.args.branches.now)) c.args.cursor.now c.enter.new.self c.in_err-enter.field-0.0 c.in_err-enter.ensures.refused)
 
-pub read_union-returns-in_err-out : goal.read_union-returns-in_err-out
-read_union-returns-in_err-out g t c =
+pub read_union-returns-in_err-out-clause-reads : goal.read_union-returns-in_err-out-clause-reads
+read_union-returns-in_err-out-clause-reads g t c =
     let p = err_from_is_err_and c.from_residual-in_err-out.result c.from_residual-in_err-out.ensures.1 in
     rw (p.1, p.2) (node_refused (schema_nodes c.args.schema.now) (Node.union (ids_of c.args.branches.now)) c.args.cursor.now c.enter.new.self c.read_branch.new.cursor c.read_branch.new.cursor
-    c.in_err-out.field-0.0 c.in_ok-enter.ensures.entered c.in_err-out.ensures)
+    c.in_err-out.field-0.0 c.in_ok-enter.ensures.entered c.in_err-out.ensures.reads)
 
-pub enter_record-returns-in_err-enter : goal.enter_record-returns-in_err-enter
-enter_record-returns-in_err-enter g t c = λ name aliases is.
+pub enter_record-returns-in_err-enter-clause-reads : goal.enter_record-returns-in_err-enter-clause-reads
+enter_record-returns-in_err-enter-clause-reads g t c = λ name aliases is.
     let p = err_from_is_err_and c.from_residual.result c.from_residual.ensures.1 in
     rw (p.1, p.2) (enter_refused (schema_nodes c.args.schema.now) (Node.record_of name aliases (seen_fields c.args.fields.now)) c.args.cursor.now c.enter.new.self c.in_err-enter.field-0.0 c.in_err-enter.ensures.refused)
 
-pub enter_record-returns-in_err-out : goal.enter_record-returns-in_err-out
-enter_record-returns-in_err-out g t c = λ name aliases is.
+pub enter_record-returns-in_err-out-clause-reads : goal.enter_record-returns-in_err-out-clause-reads
+enter_record-returns-in_err-out-clause-reads g t c = λ name aliases is.
     let p = err_from_is_err_and c.from_residual-in_err-out.result c.from_residual-in_err-out.ensures.1 in
     rw (p.1, p.2) (node_refused (schema_nodes c.args.schema.now) (Node.record_of name aliases (seen_fields c.args.fields.now)) c.args.cursor.now c.enter.new.self c.read_parts.new.cursor c.read_parts.new.cursor
-    c.in_err-out.field-0.0 c.in_ok-enter.ensures.entered (c.in_err-out.ensures name aliases is))
+    c.in_err-out.field-0.0 c.in_ok-enter.ensures.entered (c.in_err-out.ensures.reads name aliases is))
 
-pub enter_record-returns : goal.enter_record-returns
-enter_record-returns g t c = λ name aliases is.
-    let read = c.in_ok-out.ensures name aliases is in
+pub enter_record-returns-clause-reads : goal.enter_record-returns-clause-reads
+enter_record-returns-clause-reads g t c = λ name aliases is.
+    let read = c.in_ok-out.ensures.reads name aliases is in
     let same = read.found.1.moves.depth in
     let entered = c.in_ok-enter.ensures.entered.depth in
     let shallow = c.in_ok-enter.ensures.shallow in
@@ -442,8 +444,8 @@ enter_record-returns g t c = λ name aliases is.
 
 -- ---- Records
 
-pub records::read_record-returns-in-None : goal.records::read_record-returns-in-None
-records::read_record-returns-in-None g t c = λ name aliases is.
+pub records::read_record-returns-in-None-clause-reads : goal.records::read_record-returns-in-None-clause-reads
+records::read_record-returns-in-None-clause-reads g t c = λ name aliases is.
     let nodes = schema_nodes c.args.schema.now in
     let n = node_at nodes c.args.id.0 in
     let maker = c.args.maker.now in
@@ -452,12 +454,12 @@ records::read_record-returns-in-None g t c = λ name aliases is.
     let after = c.enter_record.new.cursor in
     let result = c.enter_record.result in
     let passed = (c.in_ok-out.ensures.passes name aliases is).none c.in-None.is in
-    let at_node = subst (λ (m : Node). ReadsNode (Made g.M.Make.keeps (λ s. g.M.Make.stands_for s nodes m c.args.at) mid made) nodes m c.pass_at_once.new.cursor after result) (sym is) (c.enter_record.ensures name aliases is) in
+    let at_node = subst (λ (m : Node). ReadsNode (Made g.M.Make.keeps (λ s. g.M.Make.stands_for s nodes m c.args.at) mid made) nodes m c.pass_at_once.new.cursor after result) (sym is) (c.enter_record.ensures.reads name aliases is) in
     reads_kept g.M.Make.keeps (λ s. g.M.Make.stands_for s nodes n c.args.at) nodes n c.args.cursor.now after maker mid made (g.met.M.Make.keeps_on maker mid made passed.1) result
     (subst (λ (before : CursorValue). ReadsNode (Made g.M.Make.keeps (λ s. g.M.Make.stands_for s nodes n c.args.at) mid made) nodes n before after result) passed.0 at_node)
 
-pub fields::read_fields-returns-in_err-value : goal.fields::read_fields-returns-in_err-value
-fields::read_fields-returns-in_err-value g t c = λ name aliases.
+pub fields::read_fields-returns-in_err-value-clause-reads : goal.fields::read_fields-returns-in_err-value-clause-reads
+fields::read_fields-returns-in_err-value-clause-reads g t c = λ name aliases.
     let p = err_from_is_err_and c.from_residual-in_err-value.result c.from_residual-in_err-value.ensures.1 in
     let nodes = schema_nodes c.args.schema.now in
     let fields = c.args.fields.now in
@@ -469,7 +471,7 @@ fields::read_fields-returns-in_err-value g t c = λ name aliases.
     let e = c.in_err-value.field-0.0 in
     let are = ids_split fields i field below ∙ ap (λ (f : Field). take i ids ++ f.node.0 ∷ drop (suc i) ids) (sym c.field-item.is) in
     rw (p.1, p.2) (record_refused nodes name aliases (seen_fields fields) c.args.cursor.now c.read_at.new.cursor e
-    (field_breaks nodes (take i ids) c.args.cursor.now c.loop-field.cursor so_far.0 so_far.1 ids (drop (suc i) ids) field.node.0 are e c.in_err-value.ensures.refused))
+    (field_breaks nodes (take i ids) c.args.cursor.now c.loop-field.cursor so_far.0 so_far.1 ids (drop (suc i) ids) field.node.0 are e c.in_err-value.ensures.reads.refused))
 
 pub fields::read_fields-loop-field-preserved : goal.fields::read_fields-loop-field-preserved
 fields::read_fields-loop-field-preserved g t c =
@@ -480,7 +482,7 @@ fields::read_fields-loop-field-preserved g t c =
     let so_far = c.loop-field.invariant in
     let field = c.field-item.result in
     let below : i < length fields = c.loop-field-test.true in
-    let found = c.in_ok-value.ensures.found in
+    let found = c.in_ok-value.ensures.reads.found in
     let next : i + 1 ≡ suc i = omega arith in
     let maker = c.loop-field.maker in
     let made = c.read_at.new.maker in
@@ -496,10 +498,11 @@ fields::read_fields-loop-field-preserved g t c =
       g.met.M.Make.keeps_on c.args.maker.now maker c.field.new.self so_far.3 (g.met.M.Make.keeps_on maker made c.field.new.self found.2.0 c.in_ok-field.ensures.kept),
       c.in_ok-field.ensures.stands nodes (seen_fields fields) field.node.0 c.args.at so_far.0 found.0 (g.met.M.Make.fields_kept maker made nodes (seen_fields fields) c.args.at values so_far.0 found.2.0 so_far.4) at_field
           (subst (λ (a : g.row.M-At.Denot). g.M.Make.stands_for made nodes (node_at nodes field.node.0) a c.in_ok-value.value found.0) (c.field_at-part.ensures ∙ g.met.M.Make.field_at_kept maker made values found.2.0) found.2.1),
+      λ front h. c.in_ok-field.ensures.stays front (c.in_ok-value.ensures.stays front (so_far.5 front h)),
     )
 
-pub fields::read_fields-returns : goal.fields::read_fields-returns
-fields::read_fields-returns g t c = λ name aliases.
+pub fields::read_fields-returns-clause-reads : goal.fields::read_fields-returns-clause-reads
+fields::read_fields-returns-clause-reads g t c = λ name aliases.
     let nodes = schema_nodes c.args.schema.now in
     let fields = c.args.fields.now in
     let i = c.loop-field.field-index in
@@ -511,20 +514,20 @@ fields::read_fields-returns g t c = λ name aliases.
 
 -- ---- Fields, some of which are passed at once
 
-pub fields::read_parts-returns-then-is_empty : goal.fields::read_parts-returns-then-is_empty
-fields::read_parts-returns-then-is_empty g t c = λ name aliases is. c.read_fields.ensures name aliases
+pub fields::read_parts-returns-then-is_empty-clause-reads : goal.fields::read_parts-returns-then-is_empty-clause-reads
+fields::read_parts-returns-then-is_empty-clause-reads g t c = λ name aliases is. c.read_fields.ensures.reads name aliases
 
-pub fields::read_parts-returns : goal.fields::read_parts-returns
-fields::read_parts-returns g t c = λ name aliases is.
+pub fields::read_parts-returns-clause-reads : goal.fields::read_parts-returns-clause-reads
+fields::read_parts-returns-clause-reads g t c = λ name aliases is.
     let nodes = schema_nodes c.args.schema.now in
-    c.read_runs.ensures name aliases (λ k run at. subst (λ (n : Node). StartWithEmpties nodes (drop k (ids_at n)) run) is (c.empty_fields-runs.ensures k run at))
+    c.read_runs.ensures.reads name aliases (λ k run at. subst (λ (n : Node). StartWithEmpties nodes (drop k (ids_at n)) run) is (c.empty_fields-runs.ensures k run at))
 
 pub fields::read_runs-loop-index-init : goal.fields::read_runs-loop-index-init
 fields::read_runs-loop-index-init g t c =
-    (refl, c.in_ok-values.ensures.kept, λ tells. ([], fields_none (schema_nodes c.args.schema.now) c.args.cursor.now, refl, c.in_ok-values.ensures.stands (schema_nodes c.args.schema.now) (seen_fields c.args.fields.now)))
+    (refl, c.in_ok-values.ensures.kept, λ tells. ([], fields_none (schema_nodes c.args.schema.now) c.args.cursor.now, refl, c.in_ok-values.ensures.stands (schema_nodes c.args.schema.now) (seen_fields c.args.fields.now)), c.in_ok-values.ensures.stays)
 
-pub fields::read_runs-returns-in_err-passed : goal.fields::read_runs-returns-in_err-passed
-fields::read_runs-returns-in_err-passed g t c = λ name aliases tells.
+pub fields::read_runs-returns-in_err-passed-clause-reads : goal.fields::read_runs-returns-in_err-passed-clause-reads
+fields::read_runs-returns-in_err-passed-clause-reads g t c = λ name aliases tells.
     let p = err_from_is_err_and c.from_residual-in_err-passed.result c.from_residual-in_err-passed.ensures.1 in
     let nodes = schema_nodes c.args.schema.now in
     let ids = field_ids (seen_fields c.args.fields.now) in
@@ -535,8 +538,8 @@ fields::read_runs-returns-in_err-passed g t c = λ name aliases tells.
     rw (p.1, p.2) (record_refused nodes name aliases (seen_fields c.args.fields.now) c.args.cursor.now c.pass_run.new.cursor e
     (run_breaks_off nodes ids i c.args.cursor.now c.loop-index.cursor so_far.0 e c.len-count.ensures.formed so_far.1 refused))
 
-pub fields::read_runs-returns-in_err-value : goal.fields::read_runs-returns-in_err-value
-fields::read_runs-returns-in_err-value g t c = λ name aliases tells.
+pub fields::read_runs-returns-in_err-value-clause-reads : goal.fields::read_runs-returns-in_err-value-clause-reads
+fields::read_runs-returns-in_err-value-clause-reads g t c = λ name aliases tells.
     let p = err_from_is_err_and c.from_residual-in_err-value.result c.from_residual-in_err-value.ensures.1 in
     let nodes = schema_nodes c.args.schema.now in
     let fields = c.args.fields.now in
@@ -554,13 +557,13 @@ fields::read_runs-returns-in_err-value g t c = λ name aliases tells.
     let id = (get_or fields i field).node.0 in
     let e = c.in_err-value.field-0.0 in
     rw (p.1, p.2) (record_refused nodes name aliases (seen_fields fields) start c.read_apart.new.cursor e
-    (field_breaks nodes (take i ids) start now (so_far.0 ++ more.0) done ids (drop (suc i) ids) id (ids_split fields i field below) e c.in_err-value.ensures.refused))
+    (field_breaks nodes (take i ids) start now (so_far.0 ++ more.0) done ids (drop (suc i) ids) id (ids_split fields i field below) e c.in_err-value.ensures.reads.refused))
 
 pub fields::read_runs-loop-index-preserved-then-passed-eq0 : goal.fields::read_runs-loop-index-preserved-then-passed-eq0
 fields::read_runs-loop-index-preserved-then-passed-eq0 g t c =
     let maker = c.loop-index.maker in
     let made = c.read_apart.new.maker in
-    let found = c.in_ok-value.ensures.found in (
+    let found = c.in_ok-value.ensures.reads.found in (
       found.1.moves.depth ∙ c.in_ok-passed.ensures.level ∙ c.loop-index.invariant.0,
       g.met.M.Make.keeps_on c.args.maker.now maker c.field.new.self c.loop-index.invariant.1 (g.met.M.Make.keeps_on maker made c.field.new.self found.2.0 c.in_ok-field.ensures.kept),
       λ tells.
@@ -591,6 +594,7 @@ fields::read_runs-loop-index-preserved-then-passed-eq0 g t c =
             c.in_ok-field.ensures.stands nodes (seen_fields fields) id c.args.at xs found.0 (g.met.M.Make.fields_kept maker made nodes (seen_fields fields) c.args.at values xs found.2.0 more.3) at_field
                 (subst (λ (a : g.row.M-At.Denot). g.M.Make.stands_for made nodes (node_at nodes id) a c.in_ok-value.value found.0) (c.field_at-part.ensures ∙ g.met.M.Make.field_at_kept maker made values found.2.0) found.2.1),
           ),
+      λ front h. c.in_ok-field.ensures.stays front (c.in_ok-value.ensures.stays front (c.loop-index.invariant.3 front h)),
     )
 
 pub fields::read_runs-loop-index-preserved : goal.fields::read_runs-loop-index-preserved
@@ -609,10 +613,11 @@ fields::read_runs-loop-index-preserved g t c = (
         (let n = so_far.2 in let m = more.1 in omega (arith, length-append so_far.0 more.0, n, m)),
         more.3,
       ),
+  c.loop-index.invariant.3,
 )
 
-pub fields::read_runs-returns : goal.fields::read_runs-returns
-fields::read_runs-returns g t c = λ name aliases tells.
+pub fields::read_runs-returns-clause-reads : goal.fields::read_runs-returns-clause-reads
+fields::read_runs-returns-clause-reads g t c = λ name aliases tells.
     let nodes = schema_nodes c.args.schema.now in
     let fields = c.args.fields.now in
     let i = c.loop-index.index in
@@ -624,8 +629,8 @@ fields::read_runs-returns g t c = λ name aliases tells.
 
 -- ---- Unions
 
-pub read_branch-returns-in_err-index : goal.read_branch-returns-in_err-index
-read_branch-returns-in_err-index g t c =
+pub read_branch-returns-in_err-index-clause-reads : goal.read_branch-returns-in_err-index-clause-reads
+read_branch-returns-in_err-index-clause-reads g t c =
     let branches = c.args.branches.now in
     let start = c.args.cursor.now in
     let e = c.in_err-index.field-0.0 in
@@ -633,8 +638,8 @@ read_branch-returns-in_err-index g t c =
     let refused = subst (λ (n : ℕ). Refuses (IndexBreaks n) start e) (sym (ids-length branches)) c.in_err-index.ensures.refused in
     rw (p.1, p.2) (branch_unread (schema_nodes c.args.schema.now) (ids_of branches) start c.index.new.self c.index.new.self e refused)
 
-pub read_branch-returns-in_err-value : goal.read_branch-returns-in_err-value
-read_branch-returns-in_err-value g t c =
+pub read_branch-returns-in_err-value-clause-reads : goal.read_branch-returns-in_err-value-clause-reads
+read_branch-returns-in_err-value-clause-reads g t c =
     let nodes = schema_nodes c.args.schema.now in
     let branches = c.args.branches.now in
     let start = c.args.cursor.now in
@@ -646,10 +651,10 @@ read_branch-returns-in_err-value g t c =
     let branch = get_or branches k (record { 0 = 0 }) in
     let at = branch_at branches k (record { 0 = 0 }) found.1.0 in
     let p = err_from_is_err_and c.from_residual-in_err-value.result c.from_residual-in_err-value.ensures.1 in
-    rw (p.1, p.2) (branch_refused nodes (ids_of branches) start mid k branch.0 at among after after c.in_err-value.field-0.0 c.in_err-value.ensures)
+    rw (p.1, p.2) (branch_refused nodes (ids_of branches) start mid k branch.0 at among after after c.in_err-value.field-0.0 c.in_err-value.ensures.reads)
 
-pub read_branch-returns : goal.read_branch-returns
-read_branch-returns g t c =
+pub read_branch-returns-clause-reads : goal.read_branch-returns-clause-reads
+read_branch-returns-clause-reads g t c =
     let nodes = schema_nodes c.args.schema.now in
     let branches = c.args.branches.now in
     let start = c.args.cursor.now in
@@ -668,7 +673,7 @@ read_branch-returns g t c =
       g.met.M.Make.keeps_on maker made c.branch-maker.new.self is.0 c.in_ok-branch.ensures.kept,
       c.in_ok-branch.ensures.stands nodes (ids_of branches) branch.0 v at (subst (λ (a : g.row.M-At.Denot). g.M.Make.stands_for made nodes (node_at nodes branch.0) a c.in_ok-value.value v) part is.1),
     ) in whole in
-    union_found nodes (ids_of branches) start mid k branch.0 at among after c.in_ok-value.value c.in_ok-branch.field-0 c.in_ok-value.ensures step
+    union_found nodes (ids_of branches) start mid k branch.0 at among after c.in_ok-value.value c.in_ok-branch.field-0 c.in_ok-value.ensures.reads step
 
 -- ---- Loops that start
 
@@ -681,6 +686,7 @@ read_items-loop-done-init g t c = (
       let none = run_none (values_kind nodes limits n) c.args.cursor.now [] tt in
       let kept = λ (at : g.row.M-At.Denot) (us : List Value) (h : g.M.Make.items_stand_for c.args.maker.now nodes c.args.id.0 at c.args.items.now us). subst (λ (vs : List Value). g.M.Make.items_stand_for c.args.maker.now nodes c.args.id.0 at c.args.items.now vs) (sym (append-nil us)) h in
       ([], refl, none, g.met.M.Make.keeps_itself c.args.maker.now, kept),
+  λ front h. h,
 )
 
 pub maps::read_entries-loop-done-init : goal.maps::read_entries-loop-done-init
@@ -693,8 +699,9 @@ maps::read_entries-loop-done-init g t c = (
       let kept = λ (at : g.row.M-At.Denot) (fs : List (List ℕ × Value)) (h : g.M.Make.entries_stand_for c.args.maker.now nodes c.args.id.0 at c.args.entries.now fs).
       subst (λ (es : List (List ℕ × Value)). g.M.Make.entries_stand_for c.args.maker.now nodes c.args.id.0 at c.args.entries.now es) (sym (append-nil fs)) h in
       ([], before, refl, are, none, g.met.M.Make.keeps_itself c.args.maker.now, kept),
+  λ front h. h,
 )
 
 pub fields::read_fields-loop-field-init : goal.fields::read_fields-loop-field-init
 fields::read_fields-loop-field-init g t c =
-    ([], fields_none (schema_nodes c.args.schema.now) c.args.cursor.now, refl, c.in_ok-values.ensures.kept, c.in_ok-values.ensures.stands (schema_nodes c.args.schema.now) (seen_fields c.args.fields.now))
+    ([], fields_none (schema_nodes c.args.schema.now) c.args.cursor.now, refl, c.in_ok-values.ensures.kept, c.in_ok-values.ensures.stands (schema_nodes c.args.schema.now) (seen_fields c.args.fields.now), c.in_ok-values.ensures.stays)

@@ -60,6 +60,7 @@ decreases-maps::read_entries g l = 7 * l.cursor.now.depth + 5
 abbrev pub invariant-read_item_blocks-loop-items : goal.invariant-read_item_blocks-loop-items
 invariant-read_item_blocks-loop-items g l = (xs : List Value) × ArrayDone (schema_nodes l.schema) l.id.0 l.initial.cursor l.cursor [] xs
     × g.M.Make.keeps l.fn.maker l.maker × g.M.Make.items_stand_for l.maker (schema_nodes l.schema) l.id.0 l.fn.at l.items xs
+    × ((front : List ℕ) → g.M.Make.begins l.fn.maker front → g.M.Make.begins l.maker front)
 
 abbrev pub decreases-read_item_blocks-loop-items : goal.decreases-read_item_blocks-loop-items
 decreases-read_item_blocks-loop-items g l = l.cursor.nodes
@@ -68,6 +69,7 @@ abbrev pub invariant-maps::read_entry_blocks-loop-entries : goal.invariant-maps:
 invariant-maps::read_entry_blocks-loop-entries g l =
     (xs : List (List ℕ × Value)) × (keys : List (List ℕ)) × (l.keys ≡ key_set keys) × MapDone (schema_nodes l.schema) l.id.0 l.initial.cursor l.cursor keys xs
     × g.M.Make.keeps l.fn.maker l.maker × g.M.Make.entries_stand_for l.maker (schema_nodes l.schema) l.id.0 l.fn.at l.entries xs
+    × ((front : List ℕ) → g.M.Make.begins l.fn.maker front → g.M.Make.begins l.maker front)
 
 abbrev pub decreases-maps::read_entry_blocks-loop-entries : goal.decreases-maps::read_entry_blocks-loop-entries
 decreases-maps::read_entry_blocks-loop-entries g l = l.cursor.nodes
@@ -79,6 +81,7 @@ invariant-read_items-loop-done g l =
     → (xs : List Value) × (length xs ≡ l.done) × FindsRun (ValuesRun (schema_nodes l.schema) limits (node_at (schema_nodes l.schema) l.id.0)) l.initial.cursor l.cursor [] [] xs
     × g.M.Make.keeps l.initial.maker l.maker
     × ((at : _) (us : List Value) → g.M.Make.items_stand_for l.initial.maker (schema_nodes l.schema) l.id.0 at l.initial.items us → g.M.Make.items_stand_for l.maker (schema_nodes l.schema) l.id.0 at l.items (us ++ xs)))
+    × ((front : List ℕ) → g.M.Make.begins l.initial.maker front → g.M.Make.begins l.maker front)
 
 -- the entries that are done
 abbrev pub invariant-maps::read_entries-loop-done : goal.invariant-maps::read_entries-loop-done
@@ -89,12 +92,14 @@ invariant-maps::read_entries-loop-done g l =
     × FindsRun (EntriesRun (schema_nodes l.schema) limits (node_at (schema_nodes l.schema) l.id.0)) l.initial.cursor l.cursor before keys xs
     × g.M.Make.keeps l.initial.maker l.maker
     × ((at : _) (fs : List (List ℕ × Value)) → g.M.Make.entries_stand_for l.initial.maker (schema_nodes l.schema) l.id.0 at l.initial.entries fs → g.M.Make.entries_stand_for l.maker (schema_nodes l.schema) l.id.0 at l.entries (fs ++ xs)))
+    × ((front : List ℕ) → g.M.Make.begins l.initial.maker front → g.M.Make.begins l.maker front)
 
 -- the values of the fields before one
 abbrev pub invariant-fields::read_fields-loop-field : goal.invariant-fields::read_fields-loop-field
 invariant-fields::read_fields-loop-field g l =
     (xs : List Value) × FieldsDone (schema_nodes l.schema) (take l.field-index (field_ids (seen_fields l.fields))) l.initial.cursor l.cursor xs × (length xs ≡ l.field-index)
     × g.M.Make.keeps l.fn.maker l.maker × g.M.Make.fields_stand_for l.maker (schema_nodes l.schema) (seen_fields l.fields) l.fn.at l.values xs
+    × ((front : List ℕ) → g.M.Make.begins l.fn.maker front → g.M.Make.begins l.maker front)
 
 -- the values of the fields before an index, where the runs tell of the fields
 abbrev pub invariant-fields::read_runs-loop-index : goal.invariant-fields::read_runs-loop-index
@@ -102,6 +107,7 @@ invariant-fields::read_runs-loop-index g l = (l.cursor.depth ≡ l.initial.curso
     × (TellOfRuns (schema_nodes l.schema) (field_ids (seen_fields l.fields)) l.runs
     → (xs : List Value) × FieldsDone (schema_nodes l.schema) (take l.index (field_ids (seen_fields l.fields))) l.initial.cursor l.cursor xs × (length xs ≡ l.index)
     × g.M.Make.fields_stand_for l.maker (schema_nodes l.schema) (seen_fields l.fields) l.fn.at l.values xs)
+    × ((front : List ℕ) → g.M.Make.begins l.fn.maker front → g.M.Make.begins l.maker front)
 
 abbrev pub decreases-fields::read_runs-loop-index : goal.decreases-fields::read_runs-loop-index
 decreases-fields::read_runs-loop-index g l = length l.fields - l.index

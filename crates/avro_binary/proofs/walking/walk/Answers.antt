@@ -9,7 +9,7 @@ returns c =
     let nodes = schema_nodes c.args.schema.now in
     walked nodes (node_at nodes c.args.node.0) c.args.limits.now c.args.bytes.now tt c.offset.result
     (built nodes c.len-count.ensures.formed c.args.node.0 c.args.limits.now c.args.bytes.now c.new-cursor.result c.read_at.new.cursor c.new-cursor.ensures
-    tt c.offset.result c.offset.ensures c.in_ok-read_at.ensures)
+    tt c.offset.result c.offset.ensures c.in_ok-read_at.ensures.reads)
 
 pub returns-in_err-read_at : goal.returns-in_err-read_at
 returns-in_err-read_at c =
@@ -17,4 +17,4 @@ returns-in_err-read_at c =
     let p = err_from_is_err_and c.from_residual.result c.from_residual.ensures.1 in
     rw (p.1, p.2) (walk_refused nodes (node_at nodes c.args.node.0) c.args.limits.now c.args.bytes.now c.in_err-read_at.field-0.0
     (build_refused nodes c.len-count.ensures.formed c.args.node.0 c.args.limits.now c.args.bytes.now c.new-cursor.result c.read_at.new.cursor c.new-cursor.ensures
-    c.in_err-read_at.field-0.0 c.in_err-read_at.ensures))
+    c.in_err-read_at.field-0.0 c.in_err-read_at.ensures.reads))

@@ -5,8 +5,8 @@ use Rattle.avro_binary.proofs.EmptyReads.{empty_found, empty_refused}
 use Rattle.avro_cursor.proofs.public.Ranges.{bytes-below}
 use Rattle.avro_binary.proofs.reading.records.make_empty.Goals as goal
 
-pub returns-in_err-pass_empty-in-Some : goal.returns-in_err-pass_empty-in-Some
-returns-in_err-pass_empty-in-Some g c = λ known.
+pub returns-in_err-pass_empty-in-Some-clause-passes : goal.returns-in_err-pass_empty-in-Some-clause-passes
+returns-in_err-pass_empty-in-Some-clause-passes g c = λ known.
     let p = err_from_is_err_and c.from_residual-in_err-pass_empty-in-Some.result c.from_residual-in_err-pass_empty-in-Some.ensures.1 in
     let passed = c.in_err-pass_empty-in-Some.ensures in
     rw (p.1, p.2) (record {
@@ -16,8 +16,8 @@ returns-in_err-pass_empty-in-Some g c = λ known.
           (bytes-below c.args.cursor.now.bytes passed.are_bytes) passed.in_range.0 passed.in_range.1 passed.refused;
     })
 
-pub returns-in_ok-pass_empty-in-Some : goal.returns-in_ok-pass_empty-in-Some
-returns-in_ok-pass_empty-in-Some g c = λ known.
+pub returns-in_ok-pass_empty-in-Some-clause-passes : goal.returns-in_ok-pass_empty-in-Some-clause-passes
+returns-in_ok-pass_empty-in-Some-clause-passes g c = λ known.
     let nodes = schema_nodes c.args.schema.now in
     let passed = c.in_ok-pass_empty-in-Some.ensures in
     let stands = c.in_ok-out.ensures.stands nodes (node_at nodes c.args.id.0) known.datum known.fitting known.empty in record {

@@ -16,7 +16,7 @@ returns-in-None-clause-passes g c = λ name aliases is.
     let before = c.args.cursor.now in
     let after = c.take_pieces.new.cursor in
     let result = c.take_pieces.result in
-    let none = c.in_ok-out.ensures.none c.in-None.is in
+    let none = c.in_ok-out.ensures.passes.none c.in-None.is in
     let at_node = subst (λ (m : Node). PassesAtOnce g.M.Make.keeps (λ s. g.M.Make.stands_for s nodes m c.args.at) nodes m mid made c.pass_empty.new.cursor after result) (sym is) (c.take_pieces.ensures.passes name aliases) in
     passes_kept g.M.Make.keeps (λ s. g.M.Make.stands_for s nodes n c.args.at) nodes n maker mid made before after (g.met.M.Make.keeps_on maker mid made none.1) result
     (subst (λ (at : CursorValue). PassesAtOnce g.M.Make.keeps (λ s. g.M.Make.stands_for s nodes n c.args.at) nodes n mid made at after result) none.0 at_node)

@@ -1,12 +1,12 @@
-use Rattle.std.proofs.Common.{ap}
-use Rattle.avro_packed.specs.Pieces.{bytes_of_all}
+use Rattle.std.proofs.Common.{◌++◌, ◌∙◌, List, ℕ, ap}
+use Rattle.avro_schema.specs.Seen.{entries_from}
+use Rattle.avro_cursor.specs.Encoding.{plain_bytes, plain_entries}
 use Rattle.avro_packed.proofs.Joined.{entry_is_added}
 use Rattle.avro_packed.proofs.packed.PackedBuild.entry.Goals as goal
 
 pub returns : goal.returns
 returns c = λ es v are is.
-    let before = c.args.entries.now in
-    let named = c.push.new.self in
-    entry_is_added c.push-2.result before.count c.push-2.new.self.count before.pieces.items c.push-2.new.self.pieces.items (bytes_of_all named.pieces.items) c.args.key.now c.in_ok-key.key c.args.value es v
-    (cc (c.push-2.ensures.count, c.in_ok-push.ensures.count, c.in_ok-count_one.ensures.count)) are (cc (c.in_ok-key.ensures, c.as_bytes.ensures.value)) is
-    (cc (c.in_ok-push.ensures.bytes, ap bytes_of_all c.in_ok-count_one.ensures.pieces)) c.push-2.ensures.bytes
+    let keyed = c.in_ok-append_measured.ensures ∙ ap (λ (b : List ℕ). b ++ plain_bytes c.as_bytes.result.now) are.1
+    ∙ ap (λ (k : List ℕ). plain_entries (entries_from es) ++ plain_bytes k) c.as_bytes.ensures.value in
+    entry_is_added c.add.result c.args.entries.now.count c.add.new.self.count c.append_measured.new.to.items c.add.new.self.bytes.items c.deref.result.now c.args.key.now es v
+    are.0 keyed (c.deref.ensures.value ∙ is) c.add.ensures.count c.add.ensures.bytes

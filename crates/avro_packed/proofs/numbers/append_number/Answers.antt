@@ -2,7 +2,7 @@ use Rattle.std.proofs.Common.{ap, ◌∙◌, w64}
 use Rattle.std.proofs.lemmas.Int.{to_z-of_z}
 use Rattle.avro_zigzag.specs.Number.{zigzag}
 use Rattle.avro_packed.proofs.Grouping.{groups_spell}
-use Rattle.avro_packed.proofs.flatten.append_number.Goals as goal
+use Rattle.avro_packed.proofs.numbers.append_number.Goals as goal
 
 pub returns-clause-appended : goal.returns-clause-appended
 returns-clause-appended c =

@@ -1,7 +1,0 @@
-use Rattle.std.proofs.Common.{◌≡◌, ◌++◌, length, take, drop}
-use Rattle.avro_packed.proofs.flatten.append_few.Given as goal
-
--- the bytes that are left stand after those written
-abbrev pub invariant-loop-byte : goal.invariant-loop-byte
-invariant-loop-byte l =
-    (l.out.items ++ drop l.byte-index l.bytes ≡ l.fn.out.items ++ l.bytes) × (take (length l.fn.out.items) l.out.items ≡ l.fn.out.items)

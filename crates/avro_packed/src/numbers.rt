@@ -1,0 +1,44 @@
+//! Appending bytes and numbers.
+
+ghost use Rattle.std.specs.Prelude.{◌≡◌, ◌++◌, [], ◌∷◌, List, ℕ, OnOk};
+ghost use Rattle.avro_zigzag.specs.Number.{AreLeastGroups, number_bytes};
+ghost use Rattle.avro_packed.specs.Appended.{Grows};
+
+use avro_zigzag::to_zigzag;
+use std::alloc::AllocError;
+
+/// Appends a byte.
+#[inline(always)]
+pub(crate) fn append_byte(byte: u8, out: &mut Vec<u8>) -> Result<(), AllocError>
+    ensures appended { OnOk result (out.new.items ≡ out.old.items ++ byte ∷ []) }
+    ensures stays { (front : List ℕ) → Grows front out.old.items → Grows front out.new.items }
+{
+    out.push(byte)?;
+    Ok(())
+}
+
+/// Appends a number in its shortest spelling.
+#[inline(always)]
+pub(crate) fn append_number(number: i64, out: &mut Vec<u8>) -> Result<(), AllocError>
+    ensures appended { OnOk result (out.new.items ≡ out.old.items ++ number_bytes number) }
+    ensures stays { (front : List ℕ) → Grows front out.old.items → Grows front out.new.items }
+{
+    let folded = to_zigzag(number);
+    if folded < 128 {
+        return append_byte(folded as u8, out);
+    }
+    append_groups(folded, out)
+}
+
+/// Appends the groups of a number, no more than it takes.
+fn append_groups(number: u64, out: &mut Vec<u8>) -> Result<(), AllocError>
+    ensures appended { OnOk result ((groups : List ℕ) × AreLeastGroups number groups × (out.new.items ≡ out.old.items ++ groups)) }
+    ensures stays { (front : List ℕ) → Grows front out.old.items → Grows front out.new.items }
+{
+    let mut rest = number;
+    while rest >= 128 {
+        append_byte(128 + (rest % 128) as u8, out)?;
+        rest >>= 7;
+    }
+    append_byte(rest as u8, out)
+}
