@@ -1,58 +1,22 @@
 -- Numbers in decimal, digit by digit.
 use Rattle.std.proofs.Common.{◌≡◌, ℕ, zero, suc, ◌+◌, ◌*◌, ◌/◌, ◌%◌, ◌<◌, ◌≤◌, Bool, true, false, ◌⊎◌, inl, inr, List, [], ◌∷◌, ◌++◌, length, get_or, take, map, cond, refl, sym, ap, ◌∙◌, subst, arith, add-one, take-suc, take_all}
 use Rattle.std.proofs.lemmas.Bool.{eqb-true}
+use Rattle.std.proofs.lemmas.List.{length-map}
 use Rattle.std.proofs.lemmas.Int.Digits.{digits_of_step, first_digits_of, all_below_base_digits_of, length-digits_of_step}
 use Rattle.std.proofs.lemmas.Grind.{common_steps}
 use Rattle.std.specs.Prelude.{◌==◌, min}
 use Rattle.std.specs.Int.Digits.{digits_of, AllBelowBase}
 use Rattle.avro_certificate.specs.CertificateText.{decimal}
 use Rattle.avro_certificate.specs.inside.CertificateLines.{bounded}
-
-not_zero : (n : ℕ) → 0 < n → (n == 0) ≡ false
-not_zero n h = decided (n == 0) refl
-  where
-    decided : (b : Bool) → (n == 0) ≡ b → b ≡ false
-    decided true e = let z : n ≡ 0 = eqb-true n 0 e in absurd (omega arith)
-    decided false e = refl
-
-pub above_zero : (n : ℕ) → 0 < n → decimal n ≡ map (λ d. 48 + d) (digits_of 10 n)
-above_zero n h = ap (λ b. cond b (48 ∷ []) (map (λ d. 48 + d) (digits_of 10 n))) (not_zero n h)
-
-map-append : (f : ℕ → ℕ) (xs ys : List ℕ) → map f (xs ++ ys) ≡ map f xs ++ map f ys
-map-append f [] ys = refl
-map-append f (x ∷ xs) ys = ap (λ l. f x ∷ l) (map-append f xs ys)
-
--- a number of one digit
-pub decimal_digit : (d : ℕ) → d < 10 → decimal d ≡ (48 + d) ∷ []
-decimal_digit zero h = refl
-decimal_digit (suc d) h =
-    above_zero (suc d) (omega arith)
-    ∙ ap (map (λ e. 48 + e)) (digits_of_step 10 (suc d) (omega arith) (omega arith))
-    ∙ (let q : suc d / 10 ≡ 0 = omega arith in let r : suc d % 10 ≡ suc d = omega arith in rw (q, r) refl)
-
--- a digit more
-pub decimal_push : (n d : ℕ) → 0 < n → d < 10 → decimal (n * 10 + d) ≡ decimal n ++ ((48 + d) ∷ [])
-decimal_push n d some small =
-    let q : (n * 10 + d) / 10 ≡ n = omega arith in
-    let r : (n * 10 + d) % 10 ≡ d = omega arith in
-    above_zero (n * 10 + d) (omega arith)
-    ∙ ap (map (λ e. 48 + e)) (digits_of_step 10 (n * 10 + d) (omega arith) (omega arith))
-    ∙ map-append (λ e. 48 + e) (digits_of 10 ((n * 10 + d) / 10)) (((n * 10 + d) % 10) ∷ [])
-    ∙ ap (λ k. map (λ e. 48 + e) (digits_of 10 k) ++ ((48 + (n * 10 + d) % 10) ∷ [])) q
-    ∙ ap (λ k. map (λ e. 48 + e) (digits_of 10 n) ++ ((48 + k) ∷ [])) r
-    ∙ ap (λ l. l ++ ((48 + d) ∷ [])) (sym (above_zero n some))
+use Rattle.avro_certificate.proofs.public.Digits.{above_zero, decimal_digit, decimal_push}
 
 digit_at : (ds : List ℕ) (i : ℕ) → AllBelowBase 10 ds → i < length ds → (48 ≤ get_or (map (λ d. 48 + d) ds) i 0) × (get_or (map (λ d. 48 + d) ds) i 0 < 58)
 digit_at [] i all here = absurd (omega arith)
 digit_at (d ∷ ds) zero all here = (omega arith, omega arith)
 digit_at (d ∷ ds) (suc i) all here = digit_at ds i all.1 (omega arith)
 
-length-map : (f : ℕ → ℕ) (xs : List ℕ) → length (map f xs) ≡ length xs
-length-map f [] = refl
-length-map f (x ∷ xs) = ap suc (length-map f xs)
-
 pub length_digits : (n : ℕ) → 0 < n → length (decimal n) ≡ length (digits_of 10 n)
-length_digits n h = ap length (above_zero n h) ∙ length-map (λ d. 48 + d) (digits_of 10 n)
+length_digits n h = ap length (above_zero n h) ∙ length-map (digits_of 10 n) (λ d. 48 + d)
 
 -- each byte is a digit
 pub decimal_digits : (n i : ℕ) → i < length (decimal n) → (48 ≤ get_or (decimal n) i 0) × (get_or (decimal n) i 0 < 58)
@@ -159,9 +123,3 @@ pub begins_whole : (bs : List ℕ) (number : ℕ) → 0 < length bs → Begins b
 begins_whole bs number some begun =
     let whole = begun.1 some in
     (whole.0, sym (take_all (length bs) bs (omega arith)) ∙ whole.1, whole.2)
-
--- the last digit, behind the others
-pub decimal_step : (n : ℕ) → 10 ≤ n → decimal n ≡ decimal (n / 10) ++ ((48 + n % 10) ∷ [])
-decimal_step n big =
-    let whole : n ≡ n / 10 * 10 + n % 10 = omega arith in
-    ap decimal whole ∙ decimal_push (n / 10) (n % 10) (omega arith) (omega arith)

@@ -9,7 +9,8 @@ use Rattle.std.specs.Int.Digits.{digits_of}
 use Rattle.avro_compare.specs.Children.{Pair}
 use Rattle.avro_certificate.specs.CertificateText.{decimal, dead_line, pair_line, certificate_text}
 use Rattle.avro_certificate.specs.inside.CertificateLines.{NoneAhead}
-use Rattle.avro_certificate.proofs.Decimal.{decimal_digits, decimal_first, above_zero}
+use Rattle.avro_certificate.proofs.Decimal.{decimal_digits, decimal_first}
+use Rattle.avro_certificate.proofs.public.Digits.{above_zero}
 
 -- the byte is not there
 Lacks : ℕ → List ℕ → Type 0

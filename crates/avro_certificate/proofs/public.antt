@@ -1,7 +1,11 @@
 pub mod DeadNodes
+pub mod Digits
+pub mod FaultyResults
+pub mod LeafData
 pub mod Resolving
 pub mod Rising
 pub mod Shapes
 pub mod SoundPairs
 pub mod Successes
 pub mod Tests
+pub mod Within

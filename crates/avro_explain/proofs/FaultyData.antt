@@ -1,113 +1,35 @@
 -- At a pair that is reached and has a fault of its own, or that leads to such a pair, some datum fails.
-use Rattle.std.proofs.Common.{◌≡◌, ℕ, zero, suc, ◌+◌, ◌<◌, Bool, true, false, not, cond, ◌&&◌, ◌||◌, List, [], ◌∷◌, Option, Some, None, Result, Ok, Err, length, drop, map, get_or, inl, inr, refl, sym, ◌∙◌, ap, subst, arith}
-use Rattle.std.proofs.lemmas.Bool.{false≢true, true≢false, lt-ltb, and_from}
-use Rattle.std.proofs.lemmas.List.Quantifiers.{position-Some}
+use Rattle.std.proofs.Common.{◌≡◌, ℕ, zero, suc, ◌+◌, Bool, true, false, not, cond, ◌||◌, List, [], ◌∷◌, Option, Some, None, Err, length, drop, map, inl, inr, refl, sym, ◌∙◌, ap, subst, arith}
+use Rattle.std.proofs.lemmas.Bool.{false≢true, lt-ltb, and_from}
 use Rattle.std.proofs.lemmas.List.{length-map}
-use Rattle.std.proofs.lemmas.Option.{unwrap_or-slice_get}
-use Rattle.std.specs.Prelude.{slice_get, unwrap_or, option_and_then, nat_lt, is_some, is_none, position, bytes_eq}
+use Rattle.std.specs.Prelude.{slice_get, unwrap_or, nat_lt, is_none, position, bytes_eq}
 use Rattle.std.specs.List.{list_any, flat_map}
-use Rattle.std.specs.Str.{is_utf8, chars}
 use Rattle.avro_schema.specs.Distinct.{are_distinct}
 use Rattle.avro_schema.specs.Value.{Value, Values, no_values, value, no_entries, entry, values_count}
-use Rattle.avro_schema.specs.Node.{Node, FieldNode, node_at, branches_of, items_node, values_node, field_ids}
-use Rattle.avro_schema.specs.Fits.{fits, entries_fit, fields_fit, is_some_and, is_count, is_text, are_bytes}
+use Rattle.avro_schema.specs.Node.{Node, FieldNode, node_at, branches_of, field_ids}
+use Rattle.avro_schema.specs.Fits.{fits, fields_fit, is_count, are_bytes}
 use Rattle.avro_schema.specs.WellFormed.{is_schema, field_names}
-use Rattle.avro_compare.specs.Fault.{ResolutionFault, fault_here, no_match}
+use Rattle.avro_compare.specs.Fault.{fault_here, no_match}
 use Rattle.avro_compare.specs.Fields.{IsField, here as field_here, later as field_later}
 use Rattle.avro_compare.specs.Match.{is_match, first_match}
-use Rattle.avro_compare.specs.Source.{source_of, reader_field, missing_field}
-use Rattle.avro_compare.specs.Resolve.{Resolved, Sourced, inside, result_map, both, matched, through, into_branch, bytes_as, enum_as, enum_or_default, part_at, symbol_at, fields_at, field_values, branch_node, record_or_missing, with_sourced, resolve, resolve_items, resolve_entries, resolve_sources}
+use Rattle.avro_compare.specs.Source.{source_of, reader_field}
+use Rattle.avro_compare.specs.Resolve.{Resolved, matched, through, into_branch, bytes_as, enum_as, enum_or_default, symbol_at, fields_at, branch_node, resolve, resolve_sources}
 use Rattle.avro_compare.proofs.public.Rules.{distinct_fields}
 use Rattle.avro_compare.proofs.public.Sources.{reader_field-source}
 use Rattle.avro_compare.specs.Children.{Pair, has_fault_of_kind, has_local_fault, lacks_symbol, children_of, field_children}
 use Rattle.avro_certificate.specs.Closed.{same_pair, is_among, is_among_pairs}
 use Rattle.avro_certificate.specs.Compatible.{AreCompatible}
 use Rattle.avro_certificate.specs.Evidence.{IsGreatestDead, IsReached, roots, child}
-use Rattle.avro_compare.proofs.public.NodeKinds.{is_plain_value, union_of_branches, fault_of_union, fault_of_others, children_of_union}
+use Rattle.avro_compare.proofs.public.NodeKinds.{union_of_branches, fault_of_union, fault_of_others, children_of_union}
 use Rattle.avro_certificate.proofs.public.Resolving.{slice_get_of_drop, drop_more}
 use Rattle.avro_certificate.proofs.public.Shapes.{first_match_within, plain_branch}
-use Rattle.avro_compare.proofs.public.Symbols.{bytes_eq-sym}
-use Rattle.avro_certificate.proofs.public.Tests.{and_left, and_right, or_cases, not_true, none_at, same_pair-true}
+use Rattle.avro_certificate.proofs.public.Tests.{and_left, and_right, or_cases, not_true, same_pair-true}
 use Rattle.avro_explain.specs.Details.{details_of}
-use Rattle.avro_explain.proofs.LiveData.{HasDatum, live_datum, empty_text}
-use Rattle.avro_explain.proofs.LocalFaults.{no_details, through_others}
+use Rattle.avro_certificate.proofs.public.FaultyResults.{IsFault, the_fault, fault_inside, fault_map, fault_matched, fault_later, plain_form, value_of_plain, not_a_text, any_at, no_index, field_faults, missing_errs, record_faults, array_faults, map_faults, map_fits, through_is_matched}
+use Rattle.avro_explain.proofs.LiveData.{HasDatum, live_datum}
+use Rattle.avro_explain.proofs.LocalFaults.{no_details}
 use Rattle.avro_explain.proofs.WaysFollowed.{first_within, there}
-use Rattle.avro_explain.proofs.LeadPairs.{some_same}
-
--- a result that is a fault
-abbrev IsFault : {A : Type 0} → Result A ResolutionFault → Type 0
-IsFault (Ok a) = ⊥
-IsFault (Err e) = Unit {0}
-
-the_fault : {A : Type 0} (x : Result A ResolutionFault) → IsFault x → (fault : ResolutionFault) × (x ≡ Err fault)
-the_fault (Ok a) h = absurd h
-the_fault (Err e) h = (e, refl)
-
-fault_inside : {A : Type 0} (step : ℕ) (x : Result A ResolutionFault) → IsFault x → IsFault (inside step x)
-fault_inside step (Ok a) h = h
-fault_inside step (Err e) h = tt
-
-fault_map : {A B : Type 0} (f : A → B) (x : Result A ResolutionFault) → IsFault x → IsFault (result_map f x)
-fault_map f (Ok a) h = h
-fault_map f (Err e) h = tt
-
-fault_first : {A B C : Type 0} (f : A → B → C) (x : Result A ResolutionFault) (y : Result B ResolutionFault) → IsFault x → IsFault (both f x y)
-fault_first f (Ok a) y h = absurd h
-fault_first f (Err e) y h = tt
-
-fault_second : {A B C : Type 0} (f : A → B → C) (x : Result A ResolutionFault) (y : Result B ResolutionFault) → IsFault y → IsFault (both f x y)
-fault_second f (Ok a) (Ok b) h = absurd h
-fault_second f (Ok a) (Err e) h = tt
-fault_second f (Err e) y h = tt
-
-fault_matched : (writer reader : List Node) (n q : Node) (f : Node → Resolved) → IsFault (f q) → IsFault (matched writer reader n q f)
-fault_matched writer reader n q f h = chosen (is_match writer reader n q)
-  where
-    chosen : (b : Bool) → IsFault (cond b (f q) (Err (fault_here no_match)))
-    chosen true = h
-    chosen false = tt
-
-fault_later : (o : Option FieldNode) (index : ℕ) (resolve : FieldNode → Resolved) (later : Result Sourced ResolutionFault) → IsFault later
-    → IsFault (with_sourced o index resolve later)
-fault_later None index resolve later h = h
-fault_later (Some f) index resolve later h = fault_second (λ v found. (index, v) ∷ found) (inside index (resolve f)) later h
-
--- what a plain node makes of a datum that is no union's
-plain_form : (writer reader : List Node) (n : Node) (v : Value) → is_plain_value v ≡ true
-    → (f : Node → Resolved) × ((q : Node) → resolve writer reader n q v ≡ through writer reader n q f)
-plain_form writer reader n (Value.union k v) plain = absurd (false≢true plain)
-plain_form writer reader n Value.null plain = (_, λ q. refl)
-plain_form writer reader n _ plain = (_, λ q. refl)
-
-value_of_plain : (nodes : List Node) (n : Node) (v : Value) → branches_of n ≡ None → fits nodes n v ≡ true → is_plain_value v ≡ true
-value_of_plain nodes n (Value.union k v) plain h = absurd (no_branch n plain h)
-  where
-    no_branch : (n : Node) → branches_of n ≡ None
-        → is_some_and (λ id. fits nodes (node_at nodes id) v) (option_and_then (λ ids. slice_get ids k) (branches_of n)) ≡ true → ⊥
-    no_branch n e m = false≢true (rw e at m)
-value_of_plain nodes n _ plain h = refl
-
--- a byte that begins no text
-not_a_text : is_utf8 (255 ∷ []) ≡ false
-unfolding is_utf8 chars
-not_a_text = refl
-
-any_at : {A : Type 0} (test : A → Bool) (xs : List A) → list_any test xs ≡ true → (k : ℕ) × ((x : A) × (slice_get xs k ≡ Some x) × (test x ≡ true) × (k < length xs))
-any_at test [] h = absurd (false≢true h)
-any_at test (x ∷ xs) h = elim (or_cases (test x) (list_any test xs) h) [
-  | inl first ↦ (0, (x, refl, first, omega arith))
-  | inr later ↦ (let found = any_at test xs later in (suc found.0, (found.1.0, found.1.1, found.1.2, omega (arith, found.1.3))))
-]
-
-no_index : (s : List ℕ) (theirs : List (List ℕ)) → list_any (bytes_eq s) theirs ≡ false → position (λ t. bytes_eq t s) theirs ≡ None
-no_index s theirs h = chosen (position (λ t. bytes_eq t s) theirs) refl
-  where
-    chosen : (o : Option ℕ) → position (λ t. bytes_eq t s) theirs ≡ o → o ≡ None
-    chosen None e = refl
-    chosen (Some i) e =
-        let found = position-Some (λ t. bytes_eq t s) theirs i [] e in
-        absurd (true≢false (sym found.1 ∙ bytes_eq-sym (get_or theirs i []) s
-        ∙ sym (ap (bytes_eq s) (unwrap_or-slice_get theirs i [])) ∙ none_at (bytes_eq s) theirs i [] h found.0))
+use Rattle.avro_least.proofs.public.Keys.{some_same}
 
 -- the symbol that the reader lacks
 lacking : (symbols theirs : List (List ℕ)) (y : Option ℕ) → lacks_symbol symbols theirs y ≡ true
@@ -175,21 +97,6 @@ module _ (writer reader : List Node) (formed : is_schema writer ≡ true) (their
       let form = plain_form writer reader n d.datum (value_of_plain writer n d.datum plain d.fitting) in
       record { datum = d.datum; fitting = d.fitting; faulty = subst (λ (x : Resolved). IsFault x) (sym (form.1 q)) (faults form.0) }
 
-  missing_fails : (a b : _) (xs ys : _) (fields theirs : List FieldNode) (v : Value) → fits writer (Node.record_of a xs fields) v ≡ true
-      → is_some (missing_field fields theirs) ≡ true → IsFault (resolve writer reader (Node.record_of a xs fields) (Node.record_of b ys theirs) v)
-  missing_fails a b xs ys fields theirs (Value.record_of vs) h m =
-      fault_matched writer reader (Node.record_of a xs fields) (Node.record_of b ys theirs)
-      (λ q. record_or_missing fields (fields_at q) (missing_field fields (fields_at q)) (resolve_sources writer reader fields (fields_at q) 0 vs))
-      (chosen (missing_field fields theirs) m)
-    where
-      chosen : (o : Option ℕ) → is_some o ≡ true → IsFault (record_or_missing fields theirs o (resolve_sources writer reader fields theirs 0 vs))
-      chosen None s = absurd (false≢true s)
-      chosen (Some index) s = tt
-  missing_fails a b xs ys fields theirs (Value.array vs) h m = absurd (false≢true (and_right (is_count (values_count vs)) false h))
-  missing_fails a b xs ys fields theirs (Value.map_of es) h m = absurd (false≢true (and_right _ false h))
-  missing_fails a b xs ys fields theirs (Value.fixed c) h m = absurd (false≢true (and_right (are_bytes c) false h))
-  missing_fails a b xs ys fields theirs _ h m = absurd (false≢true h)
-
   -- a fault of two nodes that match
   kind_fails : (n q : Node) → has_fault_of_kind n q ≡ true → HasDatum writer formed n → Fails writer reader n q
   kind_fails Node.bytes Node.string h d = record {
@@ -205,7 +112,7 @@ module _ (writer reader : List Node) (formed : is_schema writer ≡ true) (their
         faulty = fault_matched writer reader (Node.enum a xs symbols x) (Node.enum b ys theirs y) (enum_as (symbol_at (Node.enum a xs symbols x) found.0)) found.2;
       }
   kind_fails (Node.record_of a xs fields) (Node.record_of b ys theirs) h d =
-      record { datum = d.datum; fitting = d.fitting; faulty = missing_fails a b xs ys fields theirs d.datum d.fitting h }
+      record { datum = d.datum; fitting = d.fitting; faulty = missing_errs writer reader a b xs ys fields theirs d.datum d.fitting h }
   kind_fails _ _ h d = absurd (false≢true h)
 
   -- a fault of any two nodes
@@ -215,7 +122,7 @@ module _ (writer reader : List Node) (formed : is_schema writer ≡ true) (their
       by_match : branches_of n ≡ None → branches_of q ≡ None → (t : Bool) → is_match writer reader n q ≡ t → (not t || has_fault_of_kind n q) ≡ true → Fails writer reader n q
       by_match plain theirs true e k = kind_fails n q k d
       by_match plain theirs false e k = any_fails n q plain
-          (λ f. subst (λ (x : Resolved). IsFault x) (sym (through_others writer reader n q f theirs)) (subst (λ (b : Bool). IsFault (cond b (f q) (Err (fault_here no_match)))) (sym e) tt)) d
+          (λ f. subst (λ (x : Resolved). IsFault x) (sym (through_is_matched writer reader n q f theirs)) (subst (λ (b : Bool). IsFault (cond b (f q) (Err (fault_here no_match)))) (sym e) tt)) d
 
       by_choice : (ids : List ℕ) → branches_of n ≡ None → q ≡ Node.union ids → (o : Option ℕ) → first_match writer reader n ids ≡ o → is_none o ≡ true → Fails writer reader n q
       by_choice ids plain is None e k = any_fails n q plain
@@ -251,9 +158,7 @@ module _ (writer reader : List Node) (formed : is_schema writer ≡ true) (their
     values = value part.datum vs;
     fitting = and_from (fits writer (node_at writer id) part.datum) (fields_fit writer ids vs) (subst (λ (x : ℕ). fits writer (node_at writer x) part.datum ≡ true) (sym same) part.fitting)
         (and_right (fits writer (node_at writer id) v) (fields_fit writer ids vs) h);
-    faulty = rw (at_index, at_field)
-        (fault_first (λ v later. (index, v) ∷ later) (inside index (resolve writer reader (node_at writer p) (node_at reader f.node) part.datum))
-        (resolve_sources writer reader fields theirs (suc index) vs) (fault_inside index (resolve writer reader (node_at writer p) (node_at reader f.node) part.datum) part.faulty));
+    faulty = field_faults writer reader fields theirs index p f part.datum vs at_index at_field part.faulty;
   }
     where
       same : id ≡ p
@@ -303,39 +208,23 @@ module _ (writer reader : List Node) (formed : is_schema writer ≡ true) (their
       record {
         datum = Value.record_of all.values;
         fitting = all.fitting;
-        faulty = fault_matched writer reader (Node.record_of a xs fields) (Node.record_of b ys others)
-            (λ m. record_or_missing fields (fields_at m) (missing_field fields (fields_at m)) (resolve_sources writer reader fields (fields_at m) 0 all.values))
-            (not_missing fields others (missing_field fields others) (resolve_sources writer reader fields others 0 all.values) all.faulty);
+        faulty = record_faults writer reader a b xs ys fields others all.values all.faulty;
       }
-    where
-      not_missing : (fs gs : List FieldNode) (o : Option ℕ) (x : Result Sourced ResolutionFault) → IsFault x → IsFault (record_or_missing fs gs o x)
-      not_missing fs gs None x f = fault_map (λ found. Value.record_of (field_values fs found gs)) x f
-      not_missing fs gs (Some index) x f = tt
   part_fails w r (Node.array a) (Node.array b) c to plain theirs d among part =
       let own : Fails writer reader (node_at writer a) (node_at reader b) =
       subst (λ (x : Pair). Fails writer reader (node_at writer x.w) (node_at reader x.r)) (only_pair c (record { w = a; r = b }) among) part in
       record {
         datum = Value.array (value own.datum no_values);
         fitting = and_from (fits writer (node_at writer a) own.datum) true own.fitting refl;
-        faulty = fault_matched writer reader (Node.array a) (Node.array b)
-            (λ q. result_map Value.array (resolve_items writer reader (node_at writer a) (part_at reader (items_node q)) 0 (value own.datum no_values)))
-            (fault_map Value.array (resolve_items writer reader (node_at writer a) (node_at reader b) 0 (value own.datum no_values))
-            (fault_first value (inside 0 (resolve writer reader (node_at writer a) (node_at reader b) own.datum)) (Ok no_values)
-            (fault_inside 0 (resolve writer reader (node_at writer a) (node_at reader b) own.datum) own.faulty)));
+        faulty = array_faults writer reader a b own.datum own.faulty;
       }
   part_fails w r (Node.map_of a) (Node.map_of b) c to plain theirs d among part =
       let own : Fails writer reader (node_at writer a) (node_at reader b) =
       subst (λ (x : Pair). Fails writer reader (node_at writer x.w) (node_at reader x.r)) (only_pair c (record { w = a; r = b }) among) part in
       record {
         datum = Value.map_of (entry [] own.datum no_entries);
-        fitting = and_from _ (is_some_and (λ id. entries_fit writer (node_at writer id) (entry [] own.datum no_entries)) (Some a))
-            (and_from (is_text [] && true) true (and_from (is_text []) true empty_text refl) refl)
-            (and_from (fits writer (node_at writer a) own.datum) true own.fitting refl);
-        faulty = fault_matched writer reader (Node.map_of a) (Node.map_of b)
-            (λ q. result_map Value.map_of (resolve_entries writer reader (node_at writer a) (part_at reader (values_node q)) 0 (entry [] own.datum no_entries)))
-            (fault_map Value.map_of (resolve_entries writer reader (node_at writer a) (node_at reader b) 0 (entry [] own.datum no_entries))
-            (fault_first (entry []) (inside 0 (resolve writer reader (node_at writer a) (node_at reader b) own.datum)) (Ok no_entries)
-            (fault_inside 0 (resolve writer reader (node_at writer a) (node_at reader b) own.datum) own.faulty)));
+        fitting = map_fits writer reader a own.datum own.fitting;
+        faulty = map_faults writer reader a b own.datum own.faulty;
       }
   part_fails w r _ _ c to plain theirs d among part = absurd (false≢true among)
 
@@ -363,7 +252,7 @@ module _ (writer reader : List Node) (formed : is_schema writer ≡ true) (their
         faulty = subst (λ (x : Resolved). IsFault x) (sym (form.1 (Node.union ids)))
             (subst (λ (o : Option ℕ). IsFault (into_branch writer reader n ids o form.0)) (sym e)
             (fault_map (Value.union k) (matched writer reader n (branch_node reader ids k) form.0)
-            (subst (λ (x : Resolved). IsFault x) (form.1 (branch_node reader ids k) ∙ through_others writer reader n (branch_node reader ids k) form.0 their_plain) own.faulty)));
+            (subst (λ (x : Resolved). IsFault x) (form.1 (branch_node reader ids k) ∙ through_is_matched writer reader n (branch_node reader ids k) form.0 their_plain) own.faulty)));
       }
 
   -- a writer's union

@@ -30,8 +30,10 @@ use Rattle.avro_explain.specs.declared.found.Detail.{Detail}
 use Rattle.avro_compare.specs.declared.lead.Lead.{Lead}
 use Rattle.avro_compare.specs.declared.lead.Step.{Step}
 use Rattle.avro_compare.proofs.public.LeadPairs.{lead_children}
-use Rattle.avro_explain.proofs.LeadPairs.{lead_among, some_same}
-use Rattle.avro_explain.proofs.LocalFaults.{details_of_union, details_of_others, through_others}
+use Rattle.avro_explain.proofs.LeadPairs.{lead_among}
+use Rattle.avro_least.proofs.public.Keys.{some_same}
+use Rattle.avro_explain.proofs.LocalFaults.{details_of_union, details_of_others}
+use Rattle.avro_certificate.proofs.public.FaultyResults.{through_is_matched}
 
 -- a result, the fault of which is such a one
 abbrev Blames : {A : Type 0} → (ResolutionFault → Type 0) → Result A ResolutionFault → Type 0
@@ -204,7 +206,7 @@ module _ (writer reader : List Node) (dead : List ℕ) (dead_set : is_dead write
           (blames_matched w b f live plain theirs (each b theirs)))
 
       by_reader : (o : Option (List ℕ)) → branches_of (node_at reader r) ≡ o → Blames (From w r) (through writer reader (node_at writer w) (node_at reader r) f)
-      by_reader None e = subst (λ (x : Resolved). Blames (From w r) x) (sym (through_others writer reader (node_at writer w) (node_at reader r) f e))
+      by_reader None e = subst (λ (x : Resolved). Blames (From w r) x) (sym (through_is_matched writer reader (node_at writer w) (node_at reader r) f e))
           (blames_matched w r f live plain e (each r e))
       by_reader (Some ids) e =
           let is : node_at reader r ≡ Node.union ids = union_of_branches (node_at reader r) ids e in

@@ -8,9 +8,7 @@ use Rattle.avro_compare.specs.declared.lead.Lead.{Lead}
 use Rattle.avro_certificate.specs.Closed.{same_pair, is_among_pairs}
 use Rattle.avro_certificate.proofs.public.Tests.{or_from_left, or_from_right}
 use Rattle.avro_certificate.proofs.public.Rising.{both_true}
-
-pub some_same : {A : Type 0} (a b : A) → Some a ≡ Some b → a ≡ b
-some_same a b e = cc
+use Rattle.avro_least.proofs.public.Keys.{some_same}
 
 pub same_itself : (p : Pair) → same_pair p p ≡ true
 same_itself p = both_true (p.w == p.w) (p.r == p.r) (eq-eqb p.w p.w refl) (eq-eqb p.r p.r refl)

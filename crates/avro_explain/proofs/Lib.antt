@@ -5,7 +5,7 @@ pub mod KnownPairs
 pub mod LeadPairs
 pub mod LiveData
 pub mod LocalFaults
-pub mod MarksTaken
+pub mod MarkedNodes
 pub mod NothingFound
 mod RowsDetails
 pub mod SymbolsTaken

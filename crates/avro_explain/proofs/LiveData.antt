@@ -1,47 +1,28 @@
 -- A writer's node that is not dead has a datum.
-use Rattle.std.proofs.Common.{◌≡◌, ℕ, zero, suc, ◌<◌, ◌≤◌, ◌^◌, Bool, true, false, not, cond, ◌&&◌, pos, List, [], ◌∷◌, Some, length, refl, sym, ◌∙◌, ap, subst, arith}
-use Rattle.std.proofs.lemmas.Bool.{true≢false, leb-true, lt-ltb, ltb-true, ltb-false, eq-eqb, eqb-true, and_from}
-use Rattle.std.proofs.lemmas.List.{length-replicate}
+use Rattle.std.proofs.Common.{◌≡◌, ℕ, zero, suc, ◌<◌, ◌≤◌, Bool, true, false, ◌&&◌, pos, List, [], ◌∷◌, Some, length, refl, sym, ◌∙◌, ap, subst, arith}
+use Rattle.std.proofs.lemmas.Bool.{true≢false, lt-ltb, eq-eqb, eqb-true, and_from}
+use Rattle.std.proofs.lemmas.List.{length-replicate, length-set}
 use Rattle.std.proofs.lemmas.Option.{slice_get_past}
 use Rattle.std.proofs.Math.ListN.{replicate, set}
-use Rattle.std.specs.Prelude.{slice_get, unwrap_or, nat_lt, nat_le, ◌==◌}
+use Rattle.std.specs.Prelude.{slice_get, unwrap_or, nat_lt, ◌==◌}
 use Rattle.std.specs.List.{list_all, list_any}
-use Rattle.std.specs.Str.{is_utf8, chars}
 use Rattle.avro_schema.specs.Value.{Value, Values, no_values, value, no_entries}
 use Rattle.avro_schema.specs.Node.{Node, node_at, field_ids}
-use Rattle.avro_schema.specs.Fits.{fits, fields_fit, is_count, are_bytes, is_text}
-use Rattle.avro_schema.specs.WellFormed.{is_schema, meets_its_rules, max_count}
+use Rattle.avro_schema.specs.Fits.{fits, fields_fit, are_bytes}
+use Rattle.avro_schema.specs.WellFormed.{is_schema, meets_its_rules}
 use Rattle.avro_compare.proofs.public.Rules.{MeetRules-from_is_schema}
-use Rattle.avro_certificate.specs.Closed.{is_among, is_dead_node}
+use Rattle.avro_certificate.specs.Closed.{is_among, is_dead, is_dead_node}
 use Rattle.avro_certificate.specs.Evidence.{IsGreatestDead}
-use Rattle.avro_certificate.proofs.public.Tests.{and_left, or_left, or_right}
+use Rattle.avro_certificate.proofs.public.LeafData.{empty_text, zeros_fit}
+use Rattle.avro_certificate.proofs.public.Tests.{and_left, or_left, or_right, or_from_left, or_from_right}
 use Rattle.avro_explain.specs.Places.{marked}
-use Rattle.avro_explain.specs.inside.Marks.{is_mark, keeps, settled, settled_below, AreGreatest}
-use Rattle.avro_explain.proofs.MarksTaken.{among_marked, mark_stays, all_greatest, greatest_dead, round, round_greatest, round_length, round_settled}
-
--- the empty text
-pub empty_text : is_text [] ≡ true
-unfolding is_utf8 chars
-empty_text = refl
-
--- zero bytes
-zeros_fit : (n : ℕ) → nat_le n max_count ≡ true → are_bytes (replicate n 0) ≡ true
-zeros_fit n h = and_from (is_count (length (replicate n 0))) (list_all (λ x. nat_lt x 256) (replicate n 0))
-    (subst (λ (m : ℕ). is_count m ≡ true) (sym (length-replicate {A = ℕ} n 0)) (lt-ltb n (2 ^ 63) (omega (arith, leb-true n max_count h)))) (small n)
-  where
-    small : (m : ℕ) → list_all (λ x. nat_lt x 256) (replicate m 0) ≡ true
-    small zero = refl
-    small (suc m) = small m
+use Rattle.avro_explain.specs.inside.Marks.{is_mark}
+use Rattle.avro_explain.proofs.MarkedNodes.{among_marked, mark_stays, mark_within, one_less}
 
 -- so many marks
 trues : ℕ → List Bool
 trues zero = []
 trues (suc n) = true ∷ trues n
-
-trues_all : (n : ℕ) → list_all (λ m. m) (trues n) ≡ true
-unfolding trues
-trues_all zero = refl
-trues_all (suc n) = trues_all n
 
 trues_length : (n : ℕ) → length (trues n) ≡ n
 unfolding trues
@@ -53,6 +34,16 @@ unfolding trues
 trues_past zero p h = omega arith
 trues_past (suc n) zero h = absurd (true≢false h)
 trues_past (suc n) (suc p) h = omega (arith, trues_past n p h)
+
+-- the one of some numbers that fails a test
+fails_at : (test : ℕ → Bool) (xs : List ℕ) → list_all test xs ≡ false → (x : ℕ) × (is_among xs x ≡ true) × (test x ≡ false)
+fails_at test [] h = absurd (true≢false h)
+fails_at test (x ∷ xs) h = decided (test x) refl h (fails_at test xs)
+  where
+    decided : (t : Bool) → test x ≡ t → (t && list_all test xs) ≡ false → (list_all test xs ≡ false → (y : ℕ) × (is_among xs y ≡ true) × (test y ≡ false))
+        → (y : ℕ) × (is_among (x ∷ xs) y ≡ true) × (test y ≡ false)
+    decided true e g later = let found = later g in (found.0, or_from_right (x == found.0) (is_among xs found.0) found.1, found.2)
+    decided false e g later = (x, or_from_left (x == x) (is_among xs x) (eq-eqb x x refl), e)
 
 module _ (writer : List Node) (formed : is_schema writer ≡ true) where
   pub record HasDatum (n : Node) : Type 0 where
@@ -111,56 +102,53 @@ module _ (writer : List Node) (formed : is_schema writer ≡ true) where
     fitting = and_from (are_bytes (replicate count 0)) (length (replicate count 0) == count) (zeros_fit count rules) (eq-eqb (length (replicate count 0)) count (length-replicate {A = ℕ} count 0));
   }
 
-  settled_live : (ms : List Bool) (id : ℕ) → AreLive ms → AreLive (settled writer ms id)
-  settled_live ms id live = decided (keeps writer ms id) refl
+  taken_live : (ms : List Bool) (id : ℕ) → AreLive ms → is_dead_node (marked ms) (node_at writer id) ≡ false → AreLive (set ms id false)
+  taken_live ms id live alive p unmarked = by_id (id == p) refl
     where
-      decided : (t : Bool) → keeps writer ms id ≡ t → AreLive (cond t ms (set ms id false))
-      decided true e = live
-      decided false e = λ p unmarked. by_id p unmarked (id == p) refl
-        where
-          was : (p : ℕ) → (id ≡ p → ⊥) → is_mark (set ms id false) p ≡ false → (t : Bool) → is_mark ms p ≡ t → t ≡ false
-          was p other unmarked true m = absurd (true≢false (sym (mark_stays ms id p other m) ∙ unmarked))
-          was p other unmarked false m = refl
+      was : (id ≡ p → ⊥) → (t : Bool) → is_mark ms p ≡ t → t ≡ false
+      was other true m = absurd (true≢false (sym (mark_stays ms id p other m) ∙ unmarked))
+      was other false m = refl
 
-          by_id : (p : ℕ) → is_mark (set ms id false) p ≡ false → (t : Bool) → (id == p) ≡ t → HasDatum (node_at writer p)
-          by_id p unmarked true s = subst (λ (x : ℕ). HasDatum (node_at writer x)) (eqb-true id p s)
-              (has_datum ms (node_at writer id) live (MeetRules-from_is_schema writer formed id) (or_right (not (is_mark ms id)) (is_dead_node (marked ms) (node_at writer id)) e))
-          by_id p unmarked false s = live p (was p (λ same. true≢false (sym (eq-eqb id p same) ∙ s)) unmarked (is_mark ms p) refl)
+      by_id : (t : Bool) → (id == p) ≡ t → HasDatum (node_at writer p)
+      by_id true s = subst (λ (x : ℕ). HasDatum (node_at writer x)) (eqb-true id p s) (has_datum ms (node_at writer id) live (MeetRules-from_is_schema writer formed id) alive)
+      by_id false s = live p (was (λ same. true≢false (sym (eq-eqb id p same) ∙ s)) (is_mark ms p) refl)
 
-  round_live : (ms : List Bool) (n : ℕ) → AreLive ms → AreLive (settled_below writer ms n)
-  round_live ms zero live = live
-  round_live ms (suc n) live = round_live (settled writer ms n) n (settled_live ms n live)
-
-  -- the marks when no round takes one away
+  -- marks of a dead set, where all other nodes have data
   record IsDone : Type 0 where
     marks : List Bool
-    dead : IsGreatestDead writer (marked marks)
+    dead : is_dead writer (marked marks) ≡ true
     live : AreLive marks
 
-  abbrev next : List Bool → List Bool
-  next ms = settled_below writer ms (length ms)
+  -- a node that is marked, but has data by the others
+  record IsLoose (ms : List Bool) : Type 0 where
+    id : ℕ
+    mark : is_mark ms id ≡ true
+    alive : is_dead_node (marked ms) (node_at writer id) ≡ false
 
-  next_length : (ms : List Bool) → length ms ≡ length writer → length (next ms) ≡ length writer
-  next_length ms one_each = round_length writer ms (length ms) ∙ one_each
-
-  done : (fuel : ℕ) (ms : List Bool) → length (marked ms) < fuel → length ms ≡ length writer → AreGreatest writer ms → AreLive ms → IsDone
-  done zero ms h one_each greatest live = absurd (omega (arith, h))
-  done (suc fuel) ms h one_each greatest live =
-      decided (nat_lt (length (marked (next ms))) (length (marked ms))) refl
-      (λ less. done fuel (next ms) (omega (arith, less, h)) (next_length ms one_each) (round_greatest writer ms (length ms) greatest) (round_live ms (length ms) live))
+  loose : (ms : List Bool) → length ms ≡ length writer → is_dead writer (marked ms) ≡ false → IsLoose ms
+  loose ms one_each h =
+      let found = fails_at (λ id. nat_lt id (length writer) && is_dead_node (marked ms) (node_at writer id)) (marked ms) h in
+      let mark : is_mark ms found.0 ≡ true = sym (among_marked ms found.0) ∙ found.1 in
+      let within : nat_lt found.0 (length writer) ≡ true = lt-ltb found.0 (length writer) (omega (arith, mark_within ms found.0 mark, one_each)) in
+      record { id = found.0; mark = mark; alive = second (nat_lt found.0 (length writer)) (is_dead_node (marked ms) (node_at writer found.0)) within found.2 }
     where
-      decided : (t : Bool) → nat_lt (length (marked (next ms))) (length (marked ms)) ≡ t → (length (marked (next ms)) < length (marked ms) → IsDone) → IsDone
-      decided true e later = later (ltb-true (length (marked (next ms))) (length (marked ms)) e)
-      decided false e later = record {
-        marks = next ms;
-        dead = greatest_dead writer (next ms) (next_length ms one_each) (round_greatest writer ms (length ms) greatest)
-            (round_settled writer ms (next ms) (round writer ms (length ms)) (omega (arith, ltb-false (length (marked (next ms))) (length (marked ms)) e)));
-        live = round_live ms (length ms) live;
-      }
+      second : (a b : Bool) → a ≡ true → (a && b) ≡ false → b ≡ false
+      second true b e both = both
+      second false b e both = absurd (true≢false (sym e))
+
+  done : (fuel : ℕ) (ms : List Bool) → length (marked ms) < fuel → length ms ≡ length writer → AreLive ms → IsDone
+  done zero ms h one_each live = absurd (omega (arith, h))
+  done (suc fuel) ms h one_each live =
+      decided (is_dead writer (marked ms)) refl
+      (λ (one : IsLoose ms). done fuel (set ms one.id false) (omega (arith, one_less 0 ms one.id one.mark, h)) (length-set ms one.id false ∙ one_each)
+      (taken_live ms one.id live one.alive))
+    where
+      decided : (t : Bool) → is_dead writer (marked ms) ≡ t → (IsLoose ms → IsDone) → IsDone
+      decided true e later = record { marks = ms; dead = e; live = live }
+      decided false e later = later (loose ms one_each e)
 
   all_done : IsDone
   all_done = done (suc (length (marked (trues (length writer))))) (trues (length writer)) (omega arith) (trues_length (length writer))
-      (all_greatest writer (trues (length writer)) (trues_all (length writer)) (trues_length (length writer)))
       (λ p unmarked. past p (trues_past (length writer) p unmarked))
     where
       past : (p : ℕ) → length writer ≤ p → HasDatum (node_at writer p)
@@ -170,5 +158,5 @@ module _ (writer : List Node) (formed : is_schema writer ≡ true) where
   live_datum dead greatest p h = all_done.live p (unmarked (is_mark all_done.marks p) refl)
     where
       unmarked : (t : Bool) → is_mark all_done.marks p ≡ t → t ≡ false
-      unmarked true m = absurd (true≢false (sym (greatest.greatest (marked all_done.marks) all_done.dead.all_dead p (among_marked all_done.marks p ∙ m)) ∙ h))
+      unmarked true m = absurd (true≢false (sym (greatest.greatest (marked all_done.marks) all_done.dead p (among_marked all_done.marks p ∙ m)) ∙ h))
       unmarked false m = refl

@@ -11,7 +11,6 @@ use Rattle.avro_compare.proofs.public.NodeKinds.{union_of_branches, fault_of_uni
 use Rattle.avro_explain.specs.Details.{lacking_from, lacking, missing_from, details_of_kind, unless_some, details_of}
 use Rattle.avro_explain.specs.declared.found.Detail.{Detail}
 use Rattle.avro_explain.specs.declared.found.Detail.TheVariants.{NoMatch}
-use Rattle.avro_compare.specs.Resolve.{Resolved, through, matched}
 
 abbrev has_some : List Detail → Bool
 has_some [] = false
@@ -51,10 +50,6 @@ none_some (Some k) = refl
 
 module _ (writer reader : List Node) where
   -- a node leads to one that is no union, or to none
-  pub through_others : (n q : Node) (f : Node → Resolved) → branches_of q ≡ None → through writer reader n q f ≡ matched writer reader n q f
-  through_others n (Node.union ids) f h = absurd (grind arith)
-  through_others n _ f h = refl
-
   pub details_of_union : (n : Node) (ids : List ℕ) → branches_of n ≡ None → details_of writer reader n (Node.union ids) ≡ unless_some (first_match writer reader n ids)
   details_of_union (Node.union ps) ids h = absurd (grind arith)
   details_of_union _ ids h = refl

@@ -1,20 +1,16 @@
 -- Where no fault is found at the pairs that the roots lead to, these show that the schemas are compatible.
-use Rattle.std.proofs.Common.{◌≡◌, ℕ, zero, suc, Bool, true, false, not, ◌&&◌, ◌||◌, List, [], ◌∷◌, ◌++◌, Option, Some, None, map, length, inl, inr, refl, sym, ◌∙◌, ap, subst, arith}
+use Rattle.std.proofs.Common.{◌≡◌, ℕ, suc, Bool, true, false, not, ◌&&◌, ◌||◌, List, [], ◌∷◌, ◌++◌, length, inl, inr, refl, sym, ◌∙◌, ap, subst}
 use Rattle.std.proofs.lemmas.Bool.{false≢true, and_from, not_from_false}
-use Rattle.std.specs.Prelude.{slice_get, unwrap_or, nat_lt, nat_le, filter_map}
+use Rattle.std.specs.Prelude.{nat_lt, nat_le, filter_map}
 use Rattle.std.specs.List.{list_all}
 use Rattle.avro_name.specs.Name.{same_name}
 use Rattle.avro_schema.specs.Distinct.{are_distinct}
-use Rattle.avro_schema.specs.Node.{Node, FieldNode, node_at, node_name, edges_of, field_ids, branches_of}
-use Rattle.avro_schema.specs.WellFormed.{is_schema, is_edge, are_good_nodes, max_nodes}
-use Rattle.avro_compare.specs.Match.{first_match}
-use Rattle.avro_compare.specs.Source.{source_of}
-use Rattle.avro_compare.proofs.public.Rules.{edges-at}
-use Rattle.avro_compare.specs.Children.{Pair, children_of, field_children, has_local_fault}
+use Rattle.avro_schema.specs.Node.{Node, node_at, node_name}
+use Rattle.avro_schema.specs.WellFormed.{is_schema, are_good_nodes, max_nodes}
+use Rattle.avro_compare.specs.Children.{Pair, children_of, has_local_fault}
 use Rattle.avro_certificate.specs.Closed.{same_pair, is_among, is_among_pairs, is_dead, is_closed, is_closed_at}
 use Rattle.avro_certificate.specs.Compatible.{AreCompatible}
 use Rattle.avro_certificate.specs.Evidence.{IsGreatestDead, IsReached, roots, child}
-use Rattle.avro_compare.proofs.public.NodeKinds.{union_of_branches, children_of_union}
 use Rattle.avro_certificate.proofs.public.Resolving.{closed_compatible}
 use Rattle.avro_certificate.proofs.public.Tests.{and_left, and_right, all_among_pairs, or_cases, or_from_left, or_from_right, same_pair-true}
 use Rattle.avro_explain.specs.Details.{details_of}
@@ -24,106 +20,21 @@ use Rattle.avro_explain.specs.declared.found.Finding.{Finding}
 use Rattle.avro_explain.specs.declared.found.Place.{Place}
 use Rattle.avro_explain.proofs.LeadPairs.{same_itself}
 use Rattle.avro_explain.proofs.LocalFaults.{no_fault}
-
--- numbers that are nodes
-abbrev are_within : List Node → List ℕ → Bool
-are_within nodes ps = list_all (λ p. nat_lt p (length nodes)) ps
-
-edges_within : (nodes : List Node) (from : ℕ) (ps : List ℕ) → list_all (is_edge nodes from) ps ≡ true → are_within nodes ps ≡ true
-edges_within nodes from [] h = refl
-edges_within nodes from (p ∷ ps) h =
-    and_from (nat_lt p (length nodes)) (are_within nodes ps) (and_left _ _ (and_left (is_edge nodes from p) (list_all (is_edge nodes from) ps) h))
-    (edges_within nodes from ps (and_right (is_edge nodes from p) (list_all (is_edge nodes from) ps) h))
-
-node_within : (nodes : List Node) (id : ℕ) → is_schema nodes ≡ true → are_within nodes (edges_of (node_at nodes id)) ≡ true
-node_within nodes id h = edges_within nodes id (edges_of (node_at nodes id)) (edges-at nodes id h)
+use Rattle.avro_certificate.proofs.public.Within.{is_within, pair_within, children_within, node_within}
 
 root_within : (nodes : List Node) → is_schema nodes ≡ true → nat_lt 0 (length nodes) ≡ true
 root_within nodes h =
     and_left (nat_lt 0 (length nodes)) (nat_le (length nodes) max_nodes) (and_left (nat_lt 0 (length nodes) && nat_le (length nodes) max_nodes) (are_good_nodes nodes 0 nodes)
     (and_left _ (are_distinct same_name (filter_map node_name nodes)) h))
 
-or_root : (nodes : List Node) (ps : List ℕ) (k : ℕ) → nat_lt 0 (length nodes) ≡ true → are_within nodes ps ≡ true → nat_lt (unwrap_or (slice_get ps k) 0) (length nodes) ≡ true
-or_root nodes [] k root h = grind arith
-or_root nodes (p ∷ ps) zero root h = and_left (nat_lt p (length nodes)) (are_within nodes ps) h
-or_root nodes (p ∷ ps) (suc k) root h = or_root nodes ps k root (and_right (nat_lt p (length nodes)) (are_within nodes ps) h)
-
 module _ (writer reader : List Node) where
-  abbrev is_within : Pair → Bool
-  is_within c = nat_lt c.w (length writer) && nat_lt c.r (length reader)
-
-  pair_within : (w r : ℕ) → nat_lt w (length writer) ≡ true → nat_lt r (length reader) ≡ true → is_within (record { w = w; r = r }) ≡ true
-  pair_within w r h k = and_from (nat_lt w (length writer)) (nat_lt r (length reader)) h k
-
-  one_within : (w r : ℕ) → nat_lt w (length writer) ≡ true → nat_lt r (length reader) ≡ true → list_all is_within (record { w = w; r = r } ∷ []) ≡ true
-  one_within w r h k = and_from (is_within (record { w = w; r = r })) true (pair_within w r h k) refl
-
-  branches_within : (r : ℕ) (ids : List ℕ) → nat_lt r (length reader) ≡ true → are_within writer ids ≡ true → list_all is_within (map (λ id. record { w = id; r = r }) ids) ≡ true
-  branches_within r [] h k = refl
-  branches_within r (id ∷ ids) h k =
-      and_from (is_within (record { w = id; r = r })) _ (pair_within id r (and_left (nat_lt id (length writer)) (are_within writer ids) k) h)
-      (branches_within r ids h (and_right (nat_lt id (length writer)) (are_within writer ids) k))
-
-  module _ (root : nat_lt 0 (length writer) ≡ true) (their_root : nat_lt 0 (length reader) ≡ true) where
-    fields_within : (fields theirs : List FieldNode) → are_within writer (field_ids fields) ≡ true → are_within reader (field_ids theirs) ≡ true
-        → list_all is_within (field_children fields theirs) ≡ true
-    fields_within fields [] h k = refl
-    fields_within fields (f ∷ theirs) h k =
-        chosen (source_of fields f) refl (fields_within fields theirs h (and_right (nat_lt f.node (length reader)) (are_within reader (field_ids theirs)) k))
-      where
-        chosen : (o : Option ℕ) → source_of fields f ≡ o → list_all is_within (field_children fields theirs) ≡ true → list_all is_within (field_children fields (f ∷ theirs)) ≡ true
-        chosen None e later = rw e later
-        chosen (Some source) e later = rw e (and_from (is_within (record { w = unwrap_or (slice_get (field_ids fields) source) 0; r = f.node })) _
-            (pair_within (unwrap_or (slice_get (field_ids fields) source) 0) f.node (or_root writer (field_ids fields) source root h)
-            (and_left (nat_lt f.node (length reader)) (are_within reader (field_ids theirs)) k)) later)
-
-    plain_within : (w r : ℕ) (n q : Node) → branches_of n ≡ None → branches_of q ≡ None → are_within writer (edges_of n) ≡ true → are_within reader (edges_of q) ≡ true
-        → list_all is_within (children_of writer reader w r n q) ≡ true
-    plain_within w r (Node.union ids) _ h k inside theirs = absurd (grind arith)
-    plain_within w r _ (Node.union ids) h k inside theirs = absurd (grind arith)
-    plain_within w r (Node.record_of a xs fields) (Node.record_of b ys rs) h k inside theirs = fields_within fields rs inside theirs
-    plain_within w r (Node.array a) (Node.array b) h k inside theirs =
-        one_within a b (and_left (nat_lt a (length writer)) true inside) (and_left (nat_lt b (length reader)) true theirs)
-    plain_within w r (Node.map_of a) (Node.map_of b) h k inside theirs =
-        one_within a b (and_left (nat_lt a (length writer)) true inside) (and_left (nat_lt b (length reader)) true theirs)
-    plain_within w r _ _ h k inside theirs = refl
-
-    choice_within : (w r : ℕ) (n : Node) (ids : List ℕ) → branches_of n ≡ None → nat_lt w (length writer) ≡ true → are_within reader ids ≡ true
-        → (o : Option ℕ) → first_match writer reader n ids ≡ o → list_all is_within (children_of writer reader w r n (Node.union ids)) ≡ true
-    choice_within w r n ids plain h k (Some b) e = subst (λ (ps : List Pair). list_all is_within ps ≡ true) (sym (children_of_union writer reader w r n ids b plain e))
-        (one_within w (unwrap_or (slice_get ids b) 0) h (or_root reader ids b their_root k))
-    choice_within w r n ids plain h k None e = subst (λ (ps : List Pair). list_all is_within ps ≡ true) (sym (no_choice n plain e)) refl
-      where
-        no_choice : (m : Node) → branches_of m ≡ None → first_match writer reader m ids ≡ None → children_of writer reader w r m (Node.union ids) ≡ []
-        no_choice (Node.union ps) p f = absurd (grind arith)
-        no_choice _ p f = rw f refl
-
-    -- the children of a pair of nodes are pairs of nodes
-    children_within : (w r : ℕ) (n q : Node) → nat_lt w (length writer) ≡ true → nat_lt r (length reader) ≡ true
-        → are_within writer (edges_of n) ≡ true → are_within reader (edges_of q) ≡ true → list_all is_within (children_of writer reader w r n q) ≡ true
-    children_within w r n q h k inside theirs = by_writer (branches_of n) refl
-      where
-        by_reader : branches_of n ≡ None → (o : Option (List ℕ)) → branches_of q ≡ o → list_all is_within (children_of writer reader w r n q) ≡ true
-        by_reader plain None e = plain_within w r n q plain e inside theirs
-        by_reader plain (Some ids) e =
-            let is : q ≡ Node.union ids = union_of_branches q ids e in
-            subst (λ (m : Node). list_all is_within (children_of writer reader w r n m) ≡ true) (sym is)
-            (choice_within w r n ids plain h (subst (λ (m : Node). are_within reader (edges_of m) ≡ true) is theirs) (first_match writer reader n ids) refl)
-
-        by_writer : (o : Option (List ℕ)) → branches_of n ≡ o → list_all is_within (children_of writer reader w r n q) ≡ true
-        by_writer None e = by_reader e (branches_of q) refl
-        by_writer (Some ids) e =
-            let is : n ≡ Node.union ids = union_of_branches n ids e in
-            subst (λ (m : Node). list_all is_within (children_of writer reader w r m q) ≡ true) (sym is)
-            (branches_within r ids k (subst (λ (m : Node). are_within writer (edges_of m) ≡ true) is inside))
-
   -- the pairs that the roots lead to are pairs of nodes
-  reached_within : (dead : List ℕ) → is_schema writer ≡ true → is_schema reader ≡ true → (p : Pair) → IsReached writer reader dead p → is_within p ≡ true
-  reached_within dead formed theirs p (roots live) = pair_within 0 0 (root_within writer formed) (root_within reader theirs)
+  reached_within : (dead : List ℕ) → is_schema writer ≡ true → is_schema reader ≡ true → (p : Pair) → IsReached writer reader dead p → is_within writer reader p ≡ true
+  reached_within dead formed theirs p (roots live) = pair_within writer reader 0 0 (root_within writer formed) (root_within reader theirs)
   reached_within dead formed theirs p (child q c before among live) =
       let own = reached_within dead formed theirs q before in
-      all_among_pairs is_within (children_of writer reader q.w q.r (node_at writer q.w) (node_at reader q.r)) p
-      (children_within (root_within writer formed) (root_within reader theirs) q.w q.r (node_at writer q.w) (node_at reader q.r)
+      all_among_pairs (is_within writer reader) (children_of writer reader q.w q.r (node_at writer q.w) (node_at reader q.r)) p
+      (children_within writer reader q.w q.r (node_at writer q.w) (node_at reader q.r)
       (and_left (nat_lt q.w (length writer)) (nat_lt q.r (length reader)) own) (and_right (nat_lt q.w (length writer)) (nat_lt q.r (length reader)) own)
       (node_within writer q.w formed) (node_within reader q.r theirs)) among
 
@@ -182,7 +93,7 @@ module _ (writer reader : List Node) where
       closed_at p among =
           let cs = children_of writer reader p.w p.r (node_at writer p.w) (node_at reader p.r) in
           let own = reached.no_other p among in
-          and_from (is_within p) (is_among dead p.w || (not (has_local_fault writer reader (node_at writer p.w) (node_at reader p.r))
+          and_from (is_within writer reader p) (is_among dead p.w || (not (has_local_fault writer reader (node_at writer p.w) (node_at reader p.r))
           && list_all (λ c. is_among dead c.w || is_among_pairs pairs c) cs))
           (reached_within dead formed theirs p own)
           (or_from_right (is_among dead p.w) _

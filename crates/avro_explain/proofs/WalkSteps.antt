@@ -20,7 +20,8 @@ use Rattle.avro_compare.specs.declared.lead.Lead.{Lead}
 use Rattle.avro_explain.specs.declared.found.Place.{Place}
 use Rattle.avro_compare.specs.declared.lead.Step.{Step}
 use Rattle.avro_compare.proofs.public.LeadPairs.{lead_children}
-use Rattle.avro_explain.proofs.LeadPairs.{IsLead, later_lead, lead_among, same_itself, some_same}
+use Rattle.avro_explain.proofs.LeadPairs.{IsLead, later_lead, lead_among, same_itself}
+use Rattle.avro_least.proofs.public.Keys.{some_same}
 use Rattle.avro_compare.proofs.public.Lists.{get_last}
 use Rattle.std.proofs.lemmas.Option.{slice_get_within}
 

@@ -15,7 +15,7 @@ use Rattle.avro_compare.specs.declared.lead.Lead.{Lead}
 use Rattle.avro_explain.specs.declared.found.PathStep.{PathStep}
 use Rattle.avro_explain.specs.declared.found.Place.{Place}
 use Rattle.avro_compare.specs.declared.lead.Step.{Step}
-use Rattle.avro_explain.proofs.LeadPairs.{some_same}
+use Rattle.avro_least.proofs.public.Keys.{some_same}
 
 -- each lead of some
 abbrev EachLead : (Lead → Type 0) → List Lead → Type 0

@@ -1,28 +1,20 @@
 -- The ids of the nodes without an entry are the greatest dead set.
-use Rattle.std.proofs.Common.{◌≡◌, ℕ, zero, suc, ◌<◌, Bool, true, false, ◌&&◌, cond, List, [], ◌∷◌, ◌++◌, Option, Some, None, inl, inr, length, refl, sym, ◌∙◌, ap, subst, arith}
+use Rattle.std.proofs.Common.{◌≡◌, ℕ, zero, suc, ◌<◌, Bool, true, false, ◌&&◌, cond, List, [], ◌∷◌, ◌++◌, Option, inl, inr, length, refl, sym, ◌∙◌, subst, arith}
 use Rattle.std.proofs.lemmas.Bool.{false≢true, and_from, eqb-true, eq-eqb, lt-ltb, cases_eq}
 use Rattle.std.proofs.lemmas.List.{append-nil}
 use Rattle.std.proofs.lemmas.List.Folds.{list_all-append, list_any-append}
-use Rattle.std.specs.Prelude.{nat_lt, ◌==◌, is_none, is_some}
+use Rattle.std.specs.Prelude.{nat_lt, ◌==◌, is_none}
 use Rattle.std.specs.List.{list_all}
-use Rattle.avro_schema.specs.Node.{Node, node_at}
-use Rattle.avro_certificate.specs.Closed.{is_among, is_dead, is_dead_node}
+use Rattle.avro_schema.specs.Node.{Node}
+use Rattle.avro_certificate.specs.Closed.{is_among}
 use Rattle.avro_certificate.specs.CertificateText.{is_rising}
 use Rattle.avro_certificate.specs.Evidence.{IsGreatestDead}
 use Rattle.avro_judge.specs.inside.Evidence.{dead_below}
-use Rattle.avro_least.specs.Tables.{Least, LeastTable, IsLowForData, AreDataShown}
+use Rattle.avro_least.specs.Tables.{LeastTable, IsLowForData, AreDataShown}
 use Rattle.avro_least.specs.SeenLeast.{table_of}
 use Rattle.avro_least.specs.declared.kept.Least.{Least as KeptLeast}
-use Rattle.avro_certificate.proofs.public.DeadNodes.{no_dead_datum}
-use Rattle.avro_least.proofs.public.Quiet.{dead_of_none}
+use Rattle.avro_least.proofs.public.DeadNodes.{all_from, past_end, none_greatest}
 use Rattle.avro_certificate.proofs.public.Tests.{and_left, and_right, or_cases, or_from_left, or_from_right}
-
--- what each of some numbers passes, all pass
-pub all_from : (test : ℕ → Bool) (ks : List ℕ) → ((k : ℕ) → is_among ks k ≡ true → test k ≡ true) → list_all test ks ≡ true
-all_from test [] each = refl
-all_from test (k ∷ ks) each =
-    and_from (test k) (list_all test ks) (each k (or_from_left (k == k) (is_among ks k) (eq-eqb k k refl)))
-    (all_from test ks (λ x m. each x (or_from_right (k == x) (is_among ks x) m)))
 
 module _ (table : LeastTable) where
   -- each node below the number without an entry is listed
@@ -73,16 +65,6 @@ module _ (table : LeastTable) where
       chosen true before = rising_after (dead_below table n) n before (all_from (λ x. nat_lt x n) (dead_below table n) (λ x m. lt-ltb x n (listed_dead n x m).0))
       chosen false before = rw (append-nil (dead_below table n)) before
 
-pub none_of : (e : Option Least) → is_none e ≡ true → e ≡ None
-none_of None h = refl
-none_of (Some e) h = absurd (false≢true h)
-
--- past the end of a table stand entries
-past_end : (es : List (Option KeptLeast)) (p : ℕ) → is_none (table_of es p) ≡ true → p < length es
-past_end [] p h = absurd (false≢true h)
-past_end (e ∷ es) zero h = omega arith
-past_end (e ∷ es) (suc p) h = omega (arith, past_end es p h)
-
 module _ (writer : List Node) (limit : ℕ) (es : List (Option KeptLeast)) (low : IsLowForData writer limit (table_of es)) (shown : AreDataShown writer limit (table_of es))
     (one_each : length es ≡ length writer) where
   -- exactly the nodes without an entry are listed
@@ -96,21 +78,5 @@ module _ (writer : List Node) (limit : ℕ) (es : List (Option KeptLeast)) (low 
       chosen false e false f = f ∙ sym e
 
   pub dead_greatest : IsGreatestDead writer (dead_below (table_of es) (length es))
-  dead_greatest = record {
-    all_dead = all_from (λ id. nat_lt id (length writer) && is_dead_node (dead_below (table_of es) (length es)) (node_at writer id)) (dead_below (table_of es) (length es)) each;
-    greatest = λ other dead p among. dead_is p ∙ without other dead p among (table_of es p) refl;
-  }
-    where
-      each : (p : ℕ) → is_among (dead_below (table_of es) (length es)) p ≡ true
-          → (nat_lt p (length writer) && is_dead_node (dead_below (table_of es) (length es)) (node_at writer p)) ≡ true
-      each p among =
-          let none : is_none (table_of es p) ≡ true = sym (dead_is p) ∙ among in
-          let within : p < length writer = omega (arith, past_end es p none, one_each) in
-          and_from (nat_lt p (length writer)) (is_dead_node (dead_below (table_of es) (length es)) (node_at writer p)) (lt-ltb p (length writer) within)
-          (dead_of_none writer limit (table_of es) (dead_below (table_of es) (length es)) low (λ q m. dead_is q ∙ m) p (none_of (table_of es p) none))
-
-      without : (other : List ℕ) → is_dead writer other ≡ true → (p : ℕ) → is_among other p ≡ true → (o : Option Least) → table_of es p ≡ o → is_none (table_of es p) ≡ true
-      without other dead p among None e = ap is_none e
-      without other dead p among (Some x) e =
-          let own = shown p (ap is_some e) in
-          absurd (no_dead_datum writer other dead own.datum p among own.fitting)
+  dead_greatest =
+      none_greatest writer limit (table_of es) (dead_below (table_of es) (length es)) low shown (λ p none. omega (arith, past_end es p none, one_each)) dead_is

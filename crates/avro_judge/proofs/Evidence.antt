@@ -15,7 +15,7 @@ use Rattle.avro_judge.specs.inside.Evidence.{pairs_at}
 use Rattle.avro_least.specs.FoundTables.{AreTables}
 use Rattle.avro_least.specs.Tables.{Least, LeastTable, erring_of, pair_number}
 use Rattle.avro_least.specs.Reached.{is_key, IsSteppedTo}
-use Rattle.avro_judge.proofs.DeadIds.{all_from}
+use Rattle.avro_least.proofs.public.DeadNodes.{all_from}
 use Rattle.avro_least.proofs.public.Keys.{key_passes}
 use Rattle.avro_judge.proofs.PairNumbers.{listed_pair, pair_listed, number_back, same_itself}
 use Rattle.avro_judge.proofs.ReachedPairs.{IsStanding, standing_quiet, child_standing, standing, root_lives, IsMet, met}

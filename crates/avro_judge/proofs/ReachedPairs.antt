@@ -12,7 +12,7 @@ use Rattle.avro_judge.specs.inside.Evidence.{pair_at}
 use Rattle.avro_least.specs.FoundTables.{AreTables}
 use Rattle.avro_least.specs.Tables.{Least, LeastTable, erring_of, pair_number}
 use Rattle.avro_least.specs.Reached.{is_key, IsSteppedTo, from_first, one_step}
-use Rattle.avro_judge.proofs.DeadIds.{none_of}
+use Rattle.avro_least.proofs.public.DeadNodes.{none_of}
 use Rattle.avro_least.proofs.public.Exact.{known_children}
 use Rattle.avro_judge.proofs.PairNumbers.{number_back, same_itself}
 use Rattle.avro_least.proofs.public.Quiet.{quiet, IsQuiet, is_quiet}

@@ -34,38 +34,45 @@ pub(crate) enum Judged {
     Erring(Datum),
 }
 
-/// What the entry of the roots decides.
-fn judge_roots(
-    alloc: Global,
-    writer: &Schema,
-    reader: &Schema,
-    limit: u32,
-    deepest: u32,
-    table: &[Option<Least>],
-    reached: &Reached,
-    entries: &[Option<Least>],
-) -> Result<Judged, Memory>
-    requires range { limit ≤ 16777216 }
-    requires one_each { length table.now ≡ length (schema_nodes writer.now) }
-    requires has_data { AreDataShown (schema_nodes writer.now) limit (table_of table.now) }
-    requires low { AreLow (schema_nodes writer.now) (schema_nodes reader.now) limit (table_of table.now)
-        (erring_of (length (schema_nodes reader.now)) (table_of table.now) (keys reached.now.known) (seen_all entries.now)) }
-    requires shown { ArePairsShown (schema_nodes writer.now) (schema_nodes reader.now) limit (table_of table.now) (keys reached.now.known) (seen_all entries.now) }
-    requires root { is_key (keys reached.now.known) 0 ≡ true }
-    requires below { list_all (λ k. nat_lt k (length (schema_nodes writer.now) * length (schema_nodes reader.now))) (keys reached.now.known) ≡ true }
-    requires closed { AreFollowed (steps_at (schema_nodes writer.now) (schema_nodes reader.now) (table_of table.now)) (keys reached.now.known) (length (keys reached.now.known)) }
-    requires stepped { (k : ℕ) → is_key (keys reached.now.known) k ≡ true
-        → IsSteppedTo (steps_at (schema_nodes writer.now) (schema_nodes reader.now) (table_of table.now)) k }
-    requires found { AreComparisons (schema_nodes writer.now) (schema_nodes reader.now) reached.now.found.items }
-    ensures { IfOk result (λ j. IsJudged (schema_nodes writer.now) (schema_nodes reader.now) limit deepest j) }
+/// What the entry of the roots says.
+fn judge_roots(alloc: Global, tables: &Tables, deepest: u32) -> Result<Judged, Memory>
+    requires range { tables.now.limit ≤ 16777216 }
+    requires count { tables.now.count ≡ length (schema_nodes tables.now.reader.now) }
+    requires one_each { length tables.now.table.now ≡ length (schema_nodes tables.now.writer.now) }
+    requires has_data { AreDataShown (schema_nodes tables.now.writer.now) tables.now.limit (table_of tables.now.table.now) }
+    requires low { AreLow (schema_nodes tables.now.writer.now) (schema_nodes tables.now.reader.now) tables.now.limit (table_of tables.now.table.now)
+        (erring_of (length (schema_nodes tables.now.reader.now)) (table_of tables.now.table.now) (keys tables.now.reached.now.known) (seen_all tables.now.entries.now)) }
+    requires shown { ArePairsShown (schema_nodes tables.now.writer.now) (schema_nodes tables.now.reader.now) tables.now.limit (table_of tables.now.table.now) (keys tables.now.reached.now.known) (seen_all tables.now.entries.now) }
+    requires root { is_key (keys tables.now.reached.now.known) 0 ≡ true }
+    requires below { list_all (λ k. nat_lt k (length (schema_nodes tables.now.writer.now) * length (schema_nodes tables.now.reader.now))) (keys tables.now.reached.now.known) ≡ true }
+    requires closed { AreFollowed (steps_at (schema_nodes tables.now.writer.now) (schema_nodes tables.now.reader.now) (table_of tables.now.table.now)) (keys tables.now.reached.now.known) (length (keys tables.now.reached.now.known)) }
+    requires stepped { (k : ℕ) → is_key (keys tables.now.reached.now.known) k ≡ true
+        → IsSteppedTo (steps_at (schema_nodes tables.now.writer.now) (schema_nodes tables.now.reader.now) (table_of tables.now.table.now)) k }
+    requires found { AreComparisons (schema_nodes tables.now.writer.now) (schema_nodes tables.now.reader.now) tables.now.reached.now.found.items }
+    ensures { IfOk result (λ j. IsJudged (schema_nodes tables.now.writer.now) (schema_nodes tables.now.reader.now) tables.now.limit deepest j) }
 {
-    // Only the contract of this call matters here: it bounds the number of nodes.
-    let _ = count(writer);
-    let count = count(reader);
+    // Only the contracts of these calls matter here: the schemas are well formed.
+    let _ = count(tables.writer);
+    let _ = count(tables.reader);
+    let limit = tables.limit;
     let root = NodeId(0);
-    match pair_entry(table, count, &reached.known, entries, root, root) {
+    let known = &tables.reached.known;
+    match pair_entry(
+        tables.table,
+        tables.count,
+        known,
+        tables.entries,
+        root,
+        root,
+    ) {
         None => {
-            let certificate = certificate_of(alloc, writer, reader, table, reached)?;
+            let certificate = certificate_of(
+                alloc,
+                tables.writer,
+                tables.reader,
+                tables.table,
+                tables.reached,
+            )?;
             Ok(Judged::Compatible(certificate))
         }
         Some(least) => {
@@ -75,16 +82,7 @@ fn judge_roots(
             if least.depth > deepest {
                 return Ok(Judged::Depth);
             }
-            let tables = Tables {
-                writer,
-                reader,
-                limit,
-                table,
-                count,
-                reached,
-                entries,
-            };
-            let datum = build_error(alloc, &tables, root, root, least.nodes)?;
+            let datum = build_error(alloc, tables, root, root, least.nodes)?;
             Ok(Judged::Erring(datum))
         }
     }
@@ -106,9 +104,16 @@ pub(crate) fn decide(
     let table = least_data(alloc, writer, limit)?;
     let reached = reach(alloc, writer, reader, &table)?;
     let entries = least_errors(alloc, writer, reader, limit, &table, &reached)?;
-    let judged = judge_roots(
-        alloc, writer, reader, limit, deepest, &table, &reached, &entries,
-    )?;
+    let tables = Tables {
+        writer,
+        reader,
+        limit,
+        table: &table,
+        count: count(reader),
+        reached: &reached,
+        entries: &entries,
+    };
+    let judged = judge_roots(alloc, &tables, deepest)?;
     Ok((judged, reached.found))
 }
 

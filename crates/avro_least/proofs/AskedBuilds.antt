@@ -17,9 +17,7 @@ use Rattle.avro_least.specs.Asked.{Row, Asked, rows_from, asked, err_of_row, err
 use Rattle.avro_least.specs.inside.Built.{Builds}
 use Rattle.avro_least.specs.BuiltErrors.{BuildsLone, part_value, IsErringOf, AreExact, BuildsError, BuildsAsked, BuildsRow, BuildsRows, part_of_row, total_from}
 use Rattle.avro_certificate.proofs.public.Shapes.{plain_branch}
-use Rattle.avro_least.proofs.LeastErrors.{through_is_matched}
 use Rattle.avro_least.proofs.ShownData.{lesser_either}
-use Rattle.avro_least.proofs.ShownErrors.{IsFault, the_fault, is_fault, fault_inside, fault_map, fault_later, value_of_plain, plain_form, field_faults, record_faults}
 use Rattle.avro_certificate.proofs.public.Resolving.{slice_get_of_drop, drop_more}
 use Rattle.avro_least.proofs.Building.{around_is, together_is}
 use Rattle.avro_least.proofs.Built.{few_branches}
@@ -29,6 +27,7 @@ use Rattle.avro_least.proofs.public.Keys.{some_same}
 use Rattle.avro_least.proofs.AskedKinds.{IsRecords, asks}
 use Rattle.avro_least.specs.inside.Parts.{PartsPass, RowsPass, row_part}
 use Rattle.avro_least.proofs.AtMostParts.{branch_part}
+use Rattle.avro_certificate.proofs.public.FaultyResults.{through_is_matched, IsFault, the_fault, is_fault, fault_inside, fault_map, fault_later, value_of_plain, plain_form, field_faults, record_faults}
 
 -- an entry within the limit
 the_entry : (limit : ℕ) (o : Option Least) → IsWithin limit o → (e : Least) × (o ≡ Some e) × (e.nodes ≤ limit)

@@ -15,8 +15,7 @@ use Rattle.avro_certificate.proofs.public.Shapes.{first_match_within}
 use Rattle.avro_least.specs.Asked.{Row, Asked, rows_from, asked_inside, asked_branch, asked}
 use Rattle.avro_least.specs.BuiltErrors.{is_same}
 use Rattle.avro_least.proofs.AskedValue.{asked_of_plain, asked_of_union}
-use Rattle.avro_least.proofs.LeastErrors.{through_is_matched}
-use Rattle.avro_least.proofs.ShownErrors.{IsFault, value_of_plain, plain_form, missing_errs}
+use Rattle.avro_certificate.proofs.public.FaultyResults.{through_is_matched, IsFault, value_of_plain, plain_form, missing_errs}
 
 -- two records
 pub record IsRecords (n q : Node) (rows : List Row) : Type 0 where

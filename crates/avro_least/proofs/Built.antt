@@ -15,7 +15,6 @@ use Rattle.avro_least.specs.Tables.{Least, LeastTable, IsLowForData, AreDataShow
 use Rattle.avro_least.specs.inside.Leaf.{leaf_value}
 use Rattle.avro_least.specs.inside.Built.{Builds, BuildsAt, BuildsAll, BuildsRecord}
 use Rattle.avro_certificate.proofs.public.Shapes.{meets_rules_at}
-use Rattle.avro_least.proofs.ShownData.{zeros_fit, empty_text}
 use Rattle.avro_certificate.proofs.public.Tests.{and_left}
 use Rattle.std.proofs.Math.ListN.{replicate}
 use Rattle.std.proofs.lemmas.List.{length-replicate}
@@ -24,6 +23,8 @@ use Rattle.avro_schema.proofs.public.Choices.{HasFewChoices, HasFewChoices-from_
 use Rattle.std.proofs.lemmas.Option.{slice_get_within}
 use Rattle.avro_least.proofs.Choosing.{leaf_least, branch_least, step_is}
 use Rattle.avro_least.proofs.public.Keys.{some_same}
+use Rattle.avro_certificate.proofs.public.LeafData.{zeros_fit, empty_text}
+use Rattle.avro_schema.proofs.public.Parts.{size-positive}
 
 -- a schema's union has few branches
 pub few_branches : (nodes : List Node) → is_schema nodes ≡ true → (p : ℕ) (ids : List ℕ) → node_at nodes p ≡ Node.union ids → length ids ≤ 2 ^ 31
@@ -117,27 +118,13 @@ module _ (nodes : List Node) (table : LeastTable) (left : ℕ) where
   builds_more (q ∷ ps) [] p v h own = absurd h
   builds_more (q ∷ ps) (w ∷ vs) p v h own = (h.0, builds_more ps vs p v h.1 own)
 
-pub one_node : (v : Value) → 1 ≤ size v
-one_node Value.null = omega arith
-one_node (Value.boolean b) = omega arith
-one_node (Value.int i) = omega arith
-one_node (Value.long i) = omega arith
-one_node (Value.bytes b) = omega arith
-one_node (Value.string b) = omega arith
-one_node (Value.array vs) = omega arith
-one_node (Value.map_of es) = omega arith
-one_node (Value.union k v) = omega arith
-one_node (Value.record_of vs) = omega arith
-one_node (Value.enum k) = omega arith
-one_node (Value.fixed b) = omega arith
-
 -- nothing has no nodes
 pub none_builds : (nodes : List Node) (table : LeastTable) (left p : ℕ) (v : Value) → left ≡ 0 → Builds nodes table left p v
 none_builds nodes table left p v none limit formed low shown within few =
     let step = step_is nodes limit table low shown p within in
     let own = shown p (subst (λ (o : Option Least). is_some o ≡ true) (sym step.1) refl) in
     let exact = subst (λ (o : Option Least). Exactly limit o (size own.datum) (depth own.datum)) step.1 own.exact in
-    absurd (omega (arith, none, subst (λ (o : Option Least). count_of o ≤ left) step.1 few, (exact step.2).0, one_node own.datum))
+    absurd (omega (arith, none, subst (λ (o : Option Least). count_of o ≤ left) step.1 few, (exact step.2).0, size-positive own.datum))
 
 -- a node that is neither a union nor a record
 pub plain_kept : (n : KeptNode) → ((ps : Vec NodeId) → n ≡ KeptNode.Union ps → ⊥) → ((r : RecordNode) → n ≡ KeptNode.Record r → ⊥)

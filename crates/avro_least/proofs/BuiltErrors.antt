@@ -8,8 +8,9 @@ use Rattle.avro_schema.proofs.public.Choices.{HasFewChoices}
 use Rattle.avro_compare.specs.Resolve.{bytes_as, enum_as, symbol_at, resolve}
 use Rattle.avro_least.specs.Asked.{Asked, asked}
 use Rattle.avro_least.specs.BuiltErrors.{first_from, is_lacking, IsLone, part_value}
-use Rattle.avro_least.proofs.ShownErrors.{IsFault, fault_matched, not_a_text, array_faults, map_faults, map_fits, lacking_index}
+use Rattle.avro_least.proofs.ShownErrors.{lacking_index}
 use Rattle.avro_least.proofs.AskedKinds.{AreLone, HaveParts, asks}
+use Rattle.avro_certificate.proofs.public.FaultyResults.{IsFault, fault_matched, not_a_text, array_faults, map_faults, map_fits}
 
 module _ (writer reader : List Node) where
   pub record Errs (n q : Node) (v : Value) (nodes levels : ℕ) : Type 0 where

@@ -7,7 +7,8 @@ use Rattle.avro_schema.specs.Node.{Node, node_at, branches_of, fields_of, field_
 use Rattle.avro_schema.specs.Fits.{fits, fields_fit, is_some_and, is_count, are_bytes}
 use Rattle.avro_least.specs.Tables.{LeastTable, AtMost, IsLowForData, least_datum, all_of}
 use Rattle.avro_certificate.proofs.public.Tests.{and_left, and_right}
-use Rattle.avro_least.proofs.LeastOrder.{under_around, under_together, under_best, some_size, some_depth}
+use Rattle.avro_least.proofs.LeastOrder.{under_around, under_together, under_best}
+use Rattle.avro_schema.proofs.public.Parts.{size-positive, depth-positive}
 
 -- a datum that is no union's and no record's
 abbrev pub is_whole : Value → Bool
@@ -37,7 +38,7 @@ whole_step : (nodes : List Node) (limit : ℕ) (table : LeastTable) (n : Node) (
     → AtMost (least_datum limit table n) (size v) (depth v)
 whole_step nodes limit table (Node.union ids) v whole h = absurd (whole_refused nodes ids v whole h)
 whole_step nodes limit table (Node.record_of name aliases fields) v whole h = absurd (whole_no_record nodes (Node.record_of name aliases fields) v whole refl h)
-whole_step nodes limit table _ v whole h = record { fewer = some_size v; shallower = λ k. some_depth v }
+whole_step nodes limit table _ v whole h = record { fewer = size-positive v; shallower = λ k. depth-positive v }
 
 -- a union's is no more than its branch's
 union_step : (nodes : List Node) (limit : ℕ) (table : LeastTable) (n : Node) (k : ℕ) (v : Value)

@@ -20,6 +20,7 @@ use Rattle.avro_certificate.proofs.public.Resolving.{slice_get_of_drop, drop_mor
 use Rattle.avro_least.proofs.LeastOrder.{under_around, under_together, under_best, under_lesser_left, under_lesser_right, under_more_left, under_more_right}
 use Rattle.avro_least.proofs.LeastData.{at_most_data, at_most_fields}
 use Rattle.avro_least.proofs.Faults.{OnErr, on_err, on_mono, on_inside, on_map, on_both, on_int, on_string, on_sourced}
+use Rattle.avro_certificate.proofs.public.FaultyResults.{through_is_matched}
 
 -- what two plain nodes that match make of a datum errs only with so many nodes and so deep
 abbrev pub Inner : List Node → List Node → ℕ → LeastTable → ErringTable → ℕ → Node → (Node → Resolved) → ℕ → ℕ → Type 0
@@ -45,12 +46,6 @@ pub err_of_some : (writer reader : List Node) (limit : ℕ) (table : LeastTable)
     → err_of writer reader limit table erring w r n (Node.union ids) ≡ erring w (unwrap_or (slice_get ids k) 0)
 err_of_some writer reader limit table erring w r (Node.union ps) ids k plain h = absurd (grind arith)
 err_of_some writer reader limit table erring w r _ ids k plain h = rw h refl
-
--- what is not a union is matched
-pub through_is_matched : (writer reader : List Node) (n q : Node) (f : Node → Resolved) → branches_of q ≡ None
-    → through writer reader n q f ≡ matched writer reader n q f
-through_is_matched writer reader n (Node.union ids) f plain = absurd (grind arith)
-through_is_matched writer reader n _ f plain = refl
 
 module _ (writer reader : List Node) (limit : ℕ) (table : LeastTable) (erring : ErringTable) (low : AreLow writer reader limit table erring) (formed : is_schema reader ≡ true) where
   -- a step is lowered by none

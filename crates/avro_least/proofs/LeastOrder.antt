@@ -3,7 +3,7 @@ use Rattle.std.proofs.Common.{◌≡◌, refl, sym, subst, ℕ, zero, suc, ◌+�
 use Rattle.std.specs.Prelude.{max, slice_get, nat_lt, nat_le, ◌==◌, ◌&&◌}
 use Rattle.std.proofs.lemmas.Bool.{true≢false, ltb-true, ltb-false, leb-false, eqb-true, eq-eqb}
 use Rattle.avro_certificate.proofs.public.Tests.{and_left, and_right, or_left, or_right, or_cases}
-use Rattle.avro_schema.specs.Value.{Value, size, depth}
+use Rattle.avro_schema.specs.Value.{depth}
 use Rattle.avro_least.specs.Tables.{Least, IsUnder, AtMost, LeastTable, capped, around, together, lesser, precedes, best_of}
 use Rattle.avro_least.proofs.public.Keys.{some_same}
 
@@ -85,15 +85,6 @@ under_best table [] k p s d here h = absurd (grind arith)
 under_best table (q ∷ qs) zero p s d here h =
     under_lesser_left (table q) (best_of table qs) s d (subst (λ (x : ℕ). AtMost (table x) s d) (some_same p q (sym here)) h)
 under_best table (q ∷ qs) (suc k) p s d here h = under_lesser_right (table q) (best_of table qs) s d (under_best table qs k p s d here h)
-
--- a datum has a node
-pub some_size : (v : Value) → 1 ≤ size v
-some_size Value.null = omega arith
-some_size _ = omega arith
-
-pub some_depth : (v : Value) → 1 ≤ depth v
-some_depth Value.null = omega arith
-some_depth _ = omega arith
 
 -- more data are no less
 pub under_more : (e : Option Least) (s d t f : ℕ) → s ≤ t → d ≤ f → AtMost e s d → AtMost e t f

@@ -3,7 +3,6 @@ pub mod AskedKinds
 pub mod AskedLed
 pub mod AskedParts
 pub mod AskedValue
-pub mod AskedWithin
 pub mod AtMostParts
 pub mod Building
 pub mod Built

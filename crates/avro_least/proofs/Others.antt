@@ -17,14 +17,13 @@ use Rattle.avro_least.specs.Asked.{Row, Asked, asked}
 use Rattle.avro_least.specs.declared.kept.Least.{Least as KeptLeast}
 use Rattle.avro_least.specs.declared.pairs.leads.Lead.{Lead}
 use Rattle.avro_least.specs.declared.pairs.leads.LeadRow.{LeadRow}
-use Rattle.avro_least.specs.inside.Parts.{least_of_others, nodes_of, parts_of, part_at, seen_pair, row_items, AreOthersOf, AreOthers}
+use Rattle.avro_least.specs.inside.Parts.{least_of_others, nodes_of, parts_of, part_at, row_items, AreOthersOf, AreOthers}
 use Rattle.avro_least.specs.inside.Leading.{is_lead, leads_at, row_leads}
 use Rattle.avro_certificate.proofs.public.Tests.{or_from_left, or_from_right}
 use Rattle.avro_least.proofs.AskedKinds.{asks}
 use Rattle.avro_least.proofs.AskedValue.{row_nodes}
 use Rattle.avro_least.proofs.RowTotals.{after_nothing, get_each, nothing_alone, together_around}
 use Rattle.avro_least.proofs.Rounds.{set_here, set_other}
-use Rattle.avro_least.proofs.public.Keys.{some_same}
 
 -- the branch at an index
 abbrev pub against : ℕ → ℕ → Option Pair
@@ -34,14 +33,6 @@ pub branch_here : (ids : List NodeId) (r k : ℕ) (id : NodeId) → slice_get id
 branch_here ids r k id here =
     ap (λ (x : Option (Option Pair)). unwrap_or x None)
     (slice_get-map (against r) (ids_of ids) k ∙ ap (option_map (against r)) (slice_get-map (λ id. id.0) ids k ∙ ap (option_map (λ id. id.0)) here))
-
--- the ids of a part
-pub pair_given : (o : Option (NodeId × NodeId)) (a b : ℕ) → seen_pair o ≡ Some (record { w = a; r = b })
-    → (x : NodeId) × ((y : NodeId) × ((o ≡ Some (x, y)) × (x.0 ≡ a) × (y.0 ≡ b)))
-pair_given None a b e = absurd cc
-pair_given (Some c) a b e =
-    let same : record { w = c.0.0; r = c.1.0 } ≡ record { w = a; r = b } = some_same (record { w = c.0.0; r = c.1.0 }) (record { w = a; r = b }) e in
-    (c.0, (c.1, (refl, ap (λ (q : Pair). q.w) same, ap (λ (q : Pair). q.r) same)))
 
 -- past the last part there is none
 pub part_within : (w r : ℕ) (a : Asked) (k : ℕ) (c : Pair) → part_at w r a k ≡ Some c → k < length (parts_of w r a)

@@ -19,10 +19,10 @@ use Rattle.avro_least.specs.Asked.{asked_at, asked_value, children_at, live_numb
 use Rattle.avro_certificate.proofs.public.Tests.{all_at, and_left, and_right, or_from_left, or_from_right}
 use Rattle.avro_least.proofs.Rounds.{set_here, set_other, slice_get-replicate}
 use Rattle.avro_least.proofs.AskedValue.{value_is}
-use Rattle.avro_least.proofs.AskedWithin.{is_within}
 use Rattle.avro_least.proofs.public.Stepping.{children_at_within}
 use Rattle.avro_least.proofs.ShownErrors.{step_errs}
 use Rattle.avro_least.proofs.public.Keys.{some_same}
+use Rattle.avro_certificate.proofs.public.Within.{is_within}
 
 -- what has no position is not there
 pub no_position : (test : ℕ → Bool) (n : ℕ) (ks : List ℕ) → position_from test n ks ≡ None → list_any test ks ≡ false

@@ -1,17 +1,16 @@
 -- A step over entries that have data has a datum.
-use Rattle.std.proofs.Common.{◌≡◌, ℕ, zero, suc, ◌+◌, ◌≤◌, ◌^◌, Bool, true, false, cond, pos, List, [], ◌∷◌, Option, Some, None, ◌⊎◌, inl, inr, length, refl, sym, ◌∙◌, subst, arith}
-use Rattle.std.proofs.lemmas.Bool.{false≢true, leb-true, lt-ltb, eq-eqb, and_from}
+use Rattle.std.proofs.Common.{◌≡◌, ℕ, suc, ◌+◌, ◌≤◌, Bool, true, false, cond, pos, List, [], ◌∷◌, Option, Some, None, ◌⊎◌, inl, inr, length, refl, sym, ◌∙◌, subst, arith}
+use Rattle.std.proofs.lemmas.Bool.{false≢true, eq-eqb, and_from}
 use Rattle.std.proofs.lemmas.List.{length-replicate}
 use Rattle.std.proofs.Math.ListN.{replicate}
-use Rattle.std.specs.Prelude.{max, slice_get, is_some, nat_lt, nat_le, ◌==◌}
-use Rattle.std.specs.List.{list_all}
-use Rattle.std.specs.Str.{is_utf8, chars}
+use Rattle.std.specs.Prelude.{max, slice_get, is_some, nat_le, ◌==◌}
 use Rattle.avro_schema.specs.Value.{Value, Values, no_values, value, no_entries, size, depth, values_size, values_depth}
 use Rattle.avro_schema.specs.Node.{Node, node_at, field_ids}
-use Rattle.avro_schema.specs.Fits.{fits, fields_fit, is_count, are_bytes, is_text}
-use Rattle.avro_schema.specs.WellFormed.{meets_its_rules, max_count}
+use Rattle.avro_schema.specs.Fits.{fits, fields_fit, are_bytes}
+use Rattle.avro_schema.specs.WellFormed.{meets_its_rules}
 use Rattle.avro_least.specs.Tables.{Least, LeastTable, Exactly, ShowsData, AreDataShown, capped, around, together, lesser, precedes, best_of, all_of, least_datum}
 use Rattle.avro_certificate.proofs.public.Tests.{and_left}
+use Rattle.avro_certificate.proofs.public.LeafData.{empty_text, zeros_fit}
 
 -- above the limit nothing is claimed
 pub exact_capped : (limit : ℕ) (e : Least) (s d : ℕ) → (e.nodes ≤ limit → (s ≡ e.nodes) × (d ≡ e.depth)) → Exactly limit (Some (capped limit e)) s d
@@ -70,20 +69,6 @@ best_is table (p ∷ ps) h = elim (lesser_either (table p) (best_of table ps) h)
   | inl first ↦ record { branch = 0; id = p; here = refl; is = first.1 }
   | inr later ↦ (let found = best_is table ps later.0 in record { branch = suc found.branch; id = found.id; here = found.here; is = later.1 ∙ found.is })
 ]
-
--- the empty text
-pub empty_text : is_text [] ≡ true
-unfolding is_utf8 chars
-empty_text = refl
-
--- zero bytes
-pub zeros_fit : (n : ℕ) → nat_le n max_count ≡ true → are_bytes (replicate n 0) ≡ true
-zeros_fit n h = and_from (is_count (length (replicate n 0))) (list_all (λ x. nat_lt x 256) (replicate n 0))
-    (subst (λ (m : ℕ). is_count m ≡ true) (sym (length-replicate {A = ℕ} n 0)) (lt-ltb n (2 ^ 63) (omega (arith, leb-true n max_count h)))) (small n)
-  where
-    small : (m : ℕ) → list_all (λ x. nat_lt x 256) (replicate m 0) ≡ true
-    small zero = refl
-    small (suc m) = small m
 
 -- values for some ids
 pub record ShowsFields (writer : List Node) (limit : ℕ) (ids : List ℕ) (e : Option Least) : Type 0 where

@@ -1,3 +1,4 @@
+pub mod DeadNodes
 pub mod Decided
 pub mod Exact
 pub mod Keys

@@ -19,9 +19,9 @@ use Rattle.avro_least.proofs.public.Stepping.{children_at_within}
 use Rattle.avro_least.proofs.PairSteps.{step_shows, followed_known}
 use Rattle.avro_least.proofs.Fixed.{same_least, exact_errors}
 use Rattle.avro_least.proofs.LeastData.{at_most_data}
-use Rattle.avro_least.proofs.ShownErrors.{any_at}
-use Rattle.avro_least.proofs.Built.{one_node}
+use Rattle.avro_schema.proofs.public.Parts.{size-positive}
 use Rattle.avro_least.proofs.AskedParts.{parts_pass}
+use Rattle.avro_certificate.proofs.public.FaultyResults.{any_at}
 
 module _ (writer reader : List Node) (limit : ℕ) (table : LeastTable) (keys : List ℕ) (entries : List (Option Least))
     (formed : is_schema writer ≡ true) (theirs : is_schema reader ≡ true) (tables : AreTables writer reader limit table keys entries) where
@@ -132,7 +132,7 @@ module _ (writer reader : List Node) (limit : ℕ) (table : LeastTable) (keys : 
 
   some_nodes : (w r : ℕ) → (own : IsEntry w r) → 1 ≤ count_of (erring_of (length reader) table keys entries w r)
   some_nodes w r own = subst (λ (o : Option Least). 1 ≤ count_of o) (sym own.is)
-      (omega (arith, one_node own.shown.datum, (own.shown.exact own.few).0))
+      (omega (arith, size-positive own.shown.datum, (own.shown.exact own.few).0))
 
   pub tables_exact : AreExact writer reader limit table (erring_of (length reader) table keys entries) (is_known (length reader) table keys)
   tables_exact = record {

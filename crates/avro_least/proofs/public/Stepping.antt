@@ -8,7 +8,7 @@ use Rattle.std.specs.Prelude.{slice_get, nat_lt, is_none}
 use Rattle.std.specs.List.{list_all}
 use Rattle.avro_schema.specs.Node.{Node, node_at}
 use Rattle.avro_schema.specs.WellFormed.{is_schema}
-use Rattle.avro_compare.specs.Children.{Pair}
+use Rattle.avro_compare.specs.Children.{Pair, children_of, has_local_fault}
 use Rattle.avro_compare.specs.Planned.{AreComparisons}
 use Rattle.avro_compare.specs.declared.comparison.Comparison.{Comparison}
 use Rattle.avro_least.specs.Tables.{LeastTable, pair_number}
@@ -16,8 +16,8 @@ use Rattle.avro_least.specs.KeptAsks.{AreFound, IsFound}
 use Rattle.avro_least.specs.Asked.{children_at, live_numbers, steps_at}
 use Rattle.avro_certificate.proofs.public.Tests.{and_left, and_right}
 use Rattle.avro_least.proofs.public.Keys.{get_kept, some_same}
-use Rattle.avro_least.proofs.AskedWithin.{is_within, children_within, node_within}
 use Rattle.avro_compare.proofs.public.Lists.{get_last}
+use Rattle.avro_certificate.proofs.public.Within.{is_within, children_within, node_within}
 
 pub some_nodes : (nodes : List Node) → is_schema nodes ≡ true → 1 ≤ length nodes
 some_nodes [] h = absurd (false≢true h)
@@ -56,15 +56,22 @@ module _ (writer reader : List Node) (table : LeastTable) where
       (lt-ltb (k / length reader) (length writer) ((div-lt_iff_lt-mul {k = length reader} {x = k} {y = length writer} (some_nodes reader there)).1 h))
       (lt-ltb (k % length reader) (length reader) (mod-lt k {m = length reader} (some_nodes reader there)))) refl
 
+  unless_faulty : (t : Bool) (cs : List Pair) → list_all (is_within writer reader) cs ≡ true → list_all (is_within writer reader) (cond t [] cs) ≡ true
+  unless_faulty true cs h = refl
+  unless_faulty false cs h = h
+
   -- the pairs that a pair takes are pairs of nodes
   pub children_at_within : is_schema writer ≡ true → is_schema reader ≡ true → (k : ℕ) → k < length writer * length reader
       → list_all (is_within writer reader) (children_at writer reader k) ≡ true
   children_at_within formed there k h =
       let own = and_left (is_within writer reader (record { w = k / length reader; r = k % length reader })) true (within_of_key k there h) in
-      children_within writer reader (k / length reader) (k % length reader) (node_at writer (k / length reader)) (node_at reader (k % length reader))
+      let n : Node = node_at writer (k / length reader) in
+      let q : Node = node_at reader (k % length reader) in
+      unless_faulty (has_local_fault writer reader n q) (children_of writer reader (k / length reader) (k % length reader) n q)
+      (children_within writer reader (k / length reader) (k % length reader) n q
       (and_left (nat_lt (k / length reader) (length writer)) (nat_lt (k % length reader) (length reader)) own)
       (and_right (nat_lt (k / length reader) (length writer)) (nat_lt (k % length reader) (length reader)) own)
-      (node_within writer (k / length reader) formed) (node_within reader (k % length reader) there)
+      (node_within writer (k / length reader) formed) (node_within reader (k % length reader) there))
 
   pub steps_below : is_schema writer ≡ true → is_schema reader ≡ true → (k : ℕ) → k < length writer * length reader
       → list_all (λ x. nat_lt x (length writer * length reader)) (steps_at writer reader table k) ≡ true

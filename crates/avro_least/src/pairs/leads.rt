@@ -111,6 +111,23 @@ fn push_lead(alloc: Global, row: &mut LeadRow, lead: Lead) -> Result<(), Memory>
     Ok(())
 }
 
+/// The least data of the writer's nodes, the number of the reader's nodes, and the pairs that were reached.
+#[derive(Clone, Copy)]
+pub(crate) struct Targets<'a> {
+    table: &'a [Option<Least>],
+    count: u32,
+    known: &'a IndexSet<u64>,
+}
+
+/// A pair by its index, with its nodes and what it asks for.
+#[derive(Clone, Copy)]
+pub(crate) struct Origin<'a> {
+    index: usize,
+    w: NodeId,
+    r: NodeId,
+    ask: KeptAsk<'a>,
+}
+
 /// Adds a lead to the row of the pair of this number, which is looked for first after the one that was found before.
 fn add_lead(
     alloc: Global,
@@ -138,54 +155,47 @@ fn add_lead(
 /// Adds a pair by its index to the row of the one that its part is. A part whose writer's node has no data needs none.
 fn add_part(
     alloc: Global,
-    table: &[Option<Least>],
-    count: u32,
-    known: &IndexSet<u64>,
+    to: &Targets,
     part: Option<(usize, NodeId, NodeId)>,
     pair: usize,
     next: &mut usize,
     rows: &mut [LeadRow],
 ) -> Result<(), Memory>
-    requires { length rows.old ≡ length (keys known.now) }
+    requires { length rows.old ≡ length (keys to.now.known.now) }
     ensures one_each { OnOk result (length rows.new ≡ length rows.old) }
     ensures kept { OnOk result ((j i k : ℕ) → is_lead (leads_at rows.old j) i k ≡ true → is_lead (leads_at rows.new j) i k ≡ true) }
-    ensures added { OnOk result ((j k : ℕ) (a b : NodeId) → part ≡ Some (k, a, b) → is_none (table_of table.now a.0) ≡ false
-        → position (λ q. pair_number count a.0 b.0 == q) (keys known.now) ≡ Some j → is_lead (leads_at rows.new j) pair k ≡ true) }
+    ensures added { OnOk result ((j k : ℕ) (a b : NodeId) → part ≡ Some (k, a, b) → is_none (table_of to.now.table.now a.0) ≡ false
+        → position (λ q. pair_number to.now.count a.0 b.0 == q) (keys to.now.known.now) ≡ Some j → is_lead (leads_at rows.new j) pair k ≡ true) }
 {
     match part {
         None => Ok(()),
         Some((k, a, b)) => {
-            if entry(table, a).is_none() {
+            if entry(to.table, a).is_none() {
                 return Ok(());
             }
             let lead = lead_of(pair, k)?;
-            add_lead(alloc, known, number(count, a, b), lead, next, rows)
+            add_lead(alloc, to.known, number(to.count, a, b), lead, next, rows)
         }
     }
 }
 
-/// Adds the pair at an index to the rows of those that it leads to, by what it asks for.
+/// Adds a pair to the rows of those that it leads to, by what it asks for.
 fn add_parts(
     alloc: Global,
-    table: &[Option<Least>],
-    count: u32,
-    known: &IndexSet<u64>,
-    ask: KeptAsk,
-    w: NodeId,
-    r: NodeId,
-    i: usize,
+    to: &Targets,
+    from: &Origin,
     next: &mut usize,
     rows: &mut [LeadRow],
 ) -> Result<(), Memory>
-    requires { length rows.old ≡ length (keys known.now) }
+    requires { length rows.old ≡ length (keys to.now.known.now) }
     ensures one_each { OnOk result (length rows.new ≡ length rows.old) }
     ensures kept { OnOk result ((j p k : ℕ) → is_lead (leads_at rows.old j) p k ≡ true → is_lead (leads_at rows.new j) p k ≡ true) }
-    ensures added { OnOk result ((j k a b : ℕ) → kept_part w.0 r.0 ask.entry k ≡ Some (record { w = a; r = b }) → is_none (table_of table.now a) ≡ false
-        → position (λ q. pair_number count a b == q) (keys known.now) ≡ Some j → is_lead (leads_at rows.new j) i k ≡ true) }
+    ensures added { OnOk result ((j k a b : ℕ) → kept_part from.now.w.0 from.now.r.0 from.now.ask k ≡ Some (record { w = a; r = b }) → is_none (table_of to.now.table.now a) ≡ false
+        → position (λ q. pair_number to.now.count a b == q) (keys to.now.known.now) ≡ Some j → is_lead (leads_at rows.new j) from.now.index k ≡ true) }
 {
-    for n in 0..part_count(ask) {
-        let part = nth_part(w, r, ask, n);
-        add_part(alloc, table, count, known, part, i, next, rows)?;
+    for n in 0..part_count(from.ask) {
+        let part = nth_part(from.w, from.r, from.ask, n);
+        add_part(alloc, to, part, from.index, next, rows)?;
     }
     Ok(())
 }
@@ -208,7 +218,11 @@ pub(crate) fn leads(
     ensures { IfOk result (λ t. AreLeads (schema_nodes writer.now) (schema_nodes reader.now) (table_of table.now) (keys reached.now.known) (length (keys reached.now.known)) t.items) }
 {
     let pairs = reached.known.len();
-    let nodes = count(reader);
+    let to = Targets {
+        table,
+        count: count(reader),
+        known: &reached.known,
+    };
     let mut rows = empty_rows(alloc, pairs)?;
     let mut next = 0;
     for i in 0..pairs {
@@ -218,18 +232,13 @@ pub(crate) fn leads(
                 let w = writers(writer, reader, *key);
                 let r = readers(reader, *key);
                 let ask = ask_at_index(writer, reader, reached, i);
-                add_parts(
-                    alloc,
-                    table,
-                    nodes,
-                    &reached.known,
-                    ask,
+                let from = Origin {
+                    index: i,
                     w,
                     r,
-                    i,
-                    &mut next,
-                    &mut rows,
-                )?;
+                    ask,
+                };
+                add_parts(alloc, &to, &from, &mut next, &mut rows)?;
             }
         }
     }

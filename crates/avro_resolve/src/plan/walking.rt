@@ -1,10 +1,10 @@
 ghost use Rattle.std.specs.Prelude.{◌≡◌, IfOk};
 ghost use Rattle.avro_schema.specs.SeenSchema.{schema_nodes};
-ghost use Rattle.avro_compare.specs.Planned.{AreComparisons};
+ghost use Rattle.avro_compare.specs.Planned.{AreComparisons, IsComparison};
 
 use crate::plan::found::Found;
-use crate::plan::ordering::{count_of_parts, part_at};
-use avro_compare::{At, Comparison, Names, compare};
+use crate::plan::ordering::parts_of;
+use avro_compare::{Comparison, Names, compare};
 use avro_schema::{Memory, NodeId, Schema};
 use std::alloc::Global;
 
@@ -26,7 +26,7 @@ pub(crate) fn compare_reached(
         match found.pair(kept.len()) {
             Some((w, r)) => {
                 let comparison = compare(alloc, &names, w, r)?;
-                parts.push(find_parts(alloc, writer, reader, &comparison, &mut found)?)?;
+                parts.push(find_parts(alloc, &names, &comparison, &mut found)?)?;
                 kept.push(comparison)?;
             }
             None => return Ok((kept, parts)),
@@ -43,18 +43,15 @@ fn most_pairs(writer: &Schema, reader: &Schema) -> usize {
 /// The indices of the pairs of the parts of a pair, which are found with it.
 fn find_parts(
     alloc: Global,
-    writer: &Schema,
-    reader: &Schema,
+    names: &Names,
     pair: &Comparison,
     found: &mut Found,
-) -> Result<Vec<u32>, Memory> {
-    let mut parts = Vec::new(alloc);
-    for part in 0..count_of_parts(writer, pair) {
-        let index = match part_at(writer, reader, pair, part) {
-            At::Ignored => 0,
-            At::Pair(w, r) => found.index_of(w, r)?,
-        };
-        parts.push(index)?;
+) -> Result<Vec<u32>, Memory>
+    requires { IsComparison (schema_nodes names.now.0) (schema_nodes names.now.1) pair.now }
+{
+    let mut indices = Vec::new(alloc);
+    for part in &parts_of(alloc, names, pair)? {
+        indices.push(found.index_of(part.0, part.1)?)?;
     }
-    Ok(parts)
+    Ok(indices)
 }

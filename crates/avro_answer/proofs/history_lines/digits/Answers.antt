@@ -2,7 +2,7 @@ use Rattle.std.proofs.Common.{◌≡◌, ℕ, ◌+◌, ◌%◌, ◌<◌, ◌^◌
 use Rattle.std.proofs.lemmas.Fmt.{decimal_by_steps}
 use Rattle.std.specs.Fmt.{decimal as written}
 use Rattle.avro_certificate.specs.CertificateText.{decimal}
-use Rattle.avro_certificate.proofs.Decimal.{decimal_digit, decimal_step}
+use Rattle.avro_certificate.proofs.public.Digits.{decimal_digit, decimal_step}
 use Rattle.avro_answer.proofs.history_lines.digits.Goals as goal
 
 -- what is written of a number is its digits

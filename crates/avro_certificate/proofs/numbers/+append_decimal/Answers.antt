@@ -1,6 +1,6 @@
 use Rattle.std.proofs.Common.{◌≡◌, ◌+◌, ◌/◌, ◌%◌, [], ◌∷◌, arith, append_assoc}
 use Rattle.avro_certificate.specs.CertificateText.{decimal}
-use Rattle.avro_certificate.proofs.Decimal.{decimal_digit, decimal_step}
+use Rattle.avro_certificate.proofs.public.Digits.{decimal_digit, decimal_step}
 use Rattle.avro_certificate.proofs.numbers.+append_decimal.Goals as goal
 use Rattle.avro_certificate.proofs.numbers.+append_decimal.Goals.{then-number-ge10+in_ok-append_decimal, else-number-ge10}
 

@@ -1,5 +1,5 @@
 use Rattle.std.proofs.Common.{◌∙◌, sym, arith}
-use Rattle.avro_explain.proofs.MarksTaken.{among_marked, mark_at, none_past}
+use Rattle.avro_explain.proofs.MarkedNodes.{among_marked, mark_at, none_past}
 use Rattle.avro_explain.proofs.dying.is_marked.Goals as goal
 
 pub returns-in-None : goal.returns-in-None

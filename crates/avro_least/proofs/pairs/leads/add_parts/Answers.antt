@@ -17,15 +17,15 @@ loop-n-preserved c =
       added = λ j m k a b below is live there. elim (cases_eq m c.loop-n.n) [
         | inl same ↦
             let given = part_given c.nth_part-part.result k a b
-            (c.nth_part-part.ensures ∙ ap (nth_part c.args.w.0 c.args.r.0 c.args.ask) (sym same) ∙ is) in
+            (c.nth_part-part.ensures ∙ ap (nth_part c.args.from.now.w.0 c.args.from.now.r.0 c.args.from.now.ask) (sym same) ∙ is) in
             new.added j k given.0 given.1.0 given.1.1.0
-            (subst (λ (x : ℕ). is_none (table_of c.args.table.now x) ≡ false) (sym given.1.1.1) live)
-            (ap (λ (x : ℕ). position (λ q. x == q) (keys c.args.known.now)) (ap (λ (x : ℕ). pair_number c.args.count x given.1.0.0) given.1.1.1 ∙ ap (pair_number c.args.count a) given.1.1.2) ∙ there)
-        | inr apart ↦ new.kept j c.args.i k (inv.added j m k a b (omega (arith, below, apart)) is live there)
+            (subst (λ (x : ℕ). is_none (table_of c.args.to.now.table.now x) ≡ false) (sym given.1.1.1) live)
+            (ap (λ (x : ℕ). position (λ q. x == q) (keys c.args.to.now.known.now)) (ap (λ (x : ℕ). pair_number c.args.to.now.count x given.1.0.0) given.1.1.1 ∙ ap (pair_number c.args.to.now.count a) given.1.1.2) ∙ there)
+        | inr apart ↦ new.kept j c.args.from.now.index k (inv.added j m k a b (omega (arith, below, apart)) is live there)
       ];
     }
 
 pub returns-clause-added : goal.returns-clause-added
 returns-clause-added c j k a b is live there =
-    let found = nth_found c.args.w.0 c.args.r.0 c.args.ask k (record { w = a; r = b }) is in
+    let found = nth_found c.args.from.now.w.0 c.args.from.now.r.0 c.args.from.now.ask k (record { w = a; r = b }) is in
     c.loop-n.invariant.added j found.0 k a b (omega (arith, found.1, c.part_count-n-end.ensures, c.loop-n-test.false)) found.2 live there

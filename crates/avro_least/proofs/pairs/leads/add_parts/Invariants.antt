@@ -11,6 +11,6 @@ abbrev pub invariant-loop-n : goal.invariant-loop-n
 invariant-loop-n l = record {
   one_each : length l.rows ≡ length l.initial.rows;
   kept : (j p n : ℕ) → is_lead (leads_at l.initial.rows j) p n ≡ true → is_lead (leads_at l.rows j) p n ≡ true;
-  added : (j m k a b : ℕ) → m < l.n → nth_part l.w.0 l.r.0 l.ask m ≡ Some (k, record { w = a; r = b }) → is_none (table_of l.table a) ≡ false
-      → position (λ q. pair_number l.count a b == q) (keys l.known) ≡ Some j → is_lead (leads_at l.rows j) l.i k ≡ true;
+  added : (j m k a b : ℕ) → m < l.n → nth_part l.from.w.0 l.from.r.0 l.from.ask m ≡ Some (k, record { w = a; r = b }) → is_none (table_of l.to.table.now a) ≡ false
+      → position (λ q. pair_number l.to.count a b == q) (keys l.to.known.now) ≡ Some j → is_lead (leads_at l.rows j) l.from.index k ≡ true;
 }

@@ -43,7 +43,7 @@ loop-i-preserved c =
     (ap (λ (m : ℕ). kept_part m c.readers-r.result.0 ask n) c.writers-w.ensures.is
     ∙ ap (λ (m : ℕ). kept_part (key / length qs) m ask n) c.readers-r.ensures.is
     ∙ kept_is (key / length qs) (key % length qs) ask (asked_at ns qs key) n (c.ask_at_index-ask.ensures key here) ∙ is) live
-    (ap (λ (m : ℕ). position (λ q. pair_number m a b == q) ks) c.count-nodes.ensures.count ∙ there) in record {
+    (ap (λ (m : ℕ). position (λ q. pair_number m a b == q) ks) c.count.ensures.count ∙ there) in record {
       one_each = ap length written ∙ as_many ∙ inv.one_each;
       leads = subst (λ (rs : List LeadRow). AreLeads ns qs (table_of c.args.table.now) ks (i + 1) rs) (sym written)
           (leads_more ns qs (table_of c.args.table.now) ks c.loop-i.rows.items rows i key c.len-pairs.ensures.unique here kept added inv.leads);

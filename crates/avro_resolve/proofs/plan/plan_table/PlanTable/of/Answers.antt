@@ -4,6 +4,9 @@ use Rattle.avro_compare.specs.Planned.{AreComparisons}
 use Rattle.avro_resolve.specs.Copied.{AreFlags}
 use Rattle.avro_resolve.proofs.plan.plan_table.PlanTable.of.Goals as goal
 
+pub indices_of-requires : goal.indices_of-requires
+indices_of-requires c = subst (λ pairs. AreComparisons (schema_nodes c.args.writer.now) (schema_nodes c.args.reader.now) pairs) (sym c.deref.ensures.value) c.requires
+
 pub flags_of-requires : goal.flags_of-requires
 flags_of-requires c = subst (λ pairs. AreComparisons (schema_nodes c.args.writer.now) (schema_nodes c.args.reader.now) pairs) (sym c.deref-2.ensures.value) c.requires
 

@@ -1,5 +1,5 @@
 -- The pairs that a pair of nodes leads to are pairs of nodes.
-use Rattle.std.proofs.Common.{◌≡◌, ℕ, zero, suc, Bool, true, false, cond, ◌&&◌, List, [], ◌∷◌, Option, Some, None, length, map, refl, sym, subst, arith}
+use Rattle.std.proofs.Common.{◌≡◌, ℕ, zero, suc, Bool, true, false, ◌&&◌, List, [], ◌∷◌, Option, Some, None, length, map, refl, sym, subst, arith}
 use Rattle.std.proofs.lemmas.Bool.{and_from, lt-ltb, ltb-true}
 use Rattle.std.specs.Prelude.{slice_get, unwrap_or, nat_lt}
 use Rattle.std.specs.List.{list_all}
@@ -7,11 +7,10 @@ use Rattle.avro_schema.specs.Node.{Node, FieldNode, node_at, field_ids, edges_of
 use Rattle.avro_schema.specs.WellFormed.{is_schema, is_edge}
 use Rattle.avro_compare.specs.Match.{first_match}
 use Rattle.avro_compare.specs.Source.{source_of}
-use Rattle.avro_compare.specs.Children.{Pair, children_of, field_children, has_local_fault}
+use Rattle.avro_compare.specs.Children.{Pair, children_of, field_children}
 use Rattle.avro_compare.proofs.public.NodeKinds.{union_of_branches, children_of_union}
 use Rattle.avro_compare.proofs.public.Rules.{edges-at}
 use Rattle.avro_certificate.proofs.public.Tests.{and_left, and_right}
-use Rattle.avro_least.specs.Asked.{open_children}
 
 -- numbers that are nodes
 abbrev pub are_within : List Node → List ℕ → Bool
@@ -36,7 +35,7 @@ module _ (writer reader : List Node) where
   abbrev pub is_within : Pair → Bool
   is_within c = nat_lt c.w (length writer) && nat_lt c.r (length reader)
 
-  pair_within : (w r : ℕ) → nat_lt w (length writer) ≡ true → nat_lt r (length reader) ≡ true → is_within (record { w = w; r = r }) ≡ true
+  pub pair_within : (w r : ℕ) → nat_lt w (length writer) ≡ true → nat_lt r (length reader) ≡ true → is_within (record { w = w; r = r }) ≡ true
   pair_within w r h k = and_from (nat_lt w (length writer)) (nat_lt r (length reader)) h k
 
   one_within : (w r : ℕ) → nat_lt w (length writer) ≡ true → nat_lt r (length reader) ≡ true → list_all is_within (record { w = w; r = r } ∷ []) ≡ true
@@ -82,9 +81,9 @@ module _ (writer reader : List Node) where
         no_choice (Node.union ps) p f = absurd (grind arith)
         no_choice _ p f = rw f refl
 
-    all_within : (w r : ℕ) (n q : Node) → nat_lt w (length writer) ≡ true → nat_lt r (length reader) ≡ true
+    from_roots : (w r : ℕ) (n q : Node) → nat_lt w (length writer) ≡ true → nat_lt r (length reader) ≡ true
         → are_within writer (edges_of n) ≡ true → are_within reader (edges_of q) ≡ true → list_all is_within (children_of writer reader w r n q) ≡ true
-    all_within w r n q h k inside theirs = by_writer (branches_of n) refl
+    from_roots w r n q h k inside theirs = by_writer (branches_of n) refl
       where
         by_reader : branches_of n ≡ None → (o : Option (List ℕ)) → branches_of q ≡ o → list_all is_within (children_of writer reader w r n q) ≡ true
         by_reader plain None e = plain_within w r n q plain e inside theirs
@@ -102,12 +101,8 @@ module _ (writer reader : List Node) where
 
   -- the pairs that a pair of nodes leads to are pairs of nodes
   pub children_within : (w r : ℕ) (n q : Node) → nat_lt w (length writer) ≡ true → nat_lt r (length reader) ≡ true
-      → are_within writer (edges_of n) ≡ true → are_within reader (edges_of q) ≡ true → list_all is_within (open_children writer reader w r n q) ≡ true
-  children_within w r n q here there h k = chosen (has_local_fault writer reader n q)
+      → are_within writer (edges_of n) ≡ true → are_within reader (edges_of q) ≡ true → list_all is_within (children_of writer reader w r n q) ≡ true
+  children_within w r n q here there = from_roots (root w (length writer) here) (root r (length reader) there) w r n q here there
     where
       root : (p n : ℕ) → nat_lt p n ≡ true → nat_lt 0 n ≡ true
       root p n below = lt-ltb 0 n (omega (arith, ltb-true p n below))
-
-      chosen : (t : Bool) → list_all is_within (cond t [] (children_of writer reader w r n q)) ≡ true
-      chosen true = refl
-      chosen false = all_within (root w (length writer) here) (root r (length reader) there) w r n q here there h k
