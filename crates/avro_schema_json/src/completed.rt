@@ -104,29 +104,14 @@ fn defaults_of_node(
     }
 }
 
-/// Whether tables help to read JSON: a text, or what has parts.
-fn needs_tables(tree: &Value) -> bool {
-    match tree {
-        Value::String(_) => true,
-        Value::Array(items) => items.len() > 0,
-        Value::Object(members) => members.len() > 0,
+/// Whether tables help to read the default of a field: a text, or what has parts.
+fn is_helped(field: &RawField) -> bool {
+    match field.default {
+        Some(Value::String(_)) => true,
+        Some(Value::Array(items)) => items.len() > 0,
+        Some(Value::Object(members)) => members.len() > 0,
         _ => false,
     }
-}
-
-/// Whether they help to read a default of a record.
-fn has_such_default(fields: &[RawField]) -> bool {
-    for field in fields {
-        match field.default {
-            Some(tree) => {
-                if needs_tables(tree) {
-                    return true;
-                }
-            }
-            None => {}
-        }
-    }
-    false
 }
 
 /// The tables of nodes, if they help to read a default.
@@ -137,7 +122,7 @@ fn tables_for<'a>(alloc: Global, raws: &'a [RawNode<'_>]) -> Result<Option<Table
     for raw in raws {
         match raw {
             RawNode::Record(record) => {
-                if has_such_default(&record.fields) {
+                if record.fields.iter().any(|field| is_helped(field)) {
                     return Ok(Some(tables_of(alloc, raws)?));
                 }
             }
