@@ -72,21 +72,21 @@ bytes-are_bytes text b p h =
     let found = only_if-some (list_all (λ c. nat_lt c 256) (chars text)) (chars text) b h in
     subst (λ l. are_bytes l ≡ true) found.1 (rw (chars-counted text p, found.0) refl)
 
-nat_lt-first : (n : ℕ) → nat_lt 0 (suc n) ≡ true
-nat_lt-first n = grind (arith, nat_tests)
-
-nat_lt-next : (m n : ℕ) → nat_lt m n ≡ true → nat_lt (suc m) (suc n) ≡ true
-nat_lt-next m n h = grind (arith, nat_tests)
-
 symbol_index-below : (word : List ℕ) (symbols : List (List ℕ)) (k : ℕ) → symbol_index word symbols ≡ Some k → nat_lt k (length symbols) ≡ true
 symbol_index-below word [] k h = cc
 symbol_index-below word (symbol ∷ symbols) k h = by_test (bytes_eq word symbol) (symbol_index word symbols) (symbol_index-below word symbols) h
   where
+    first : (n : ℕ) → nat_lt 0 (suc n) ≡ true
+    first n = grind (arith, nat_tests)
+
+    next : (m n : ℕ) → nat_lt m n ≡ true → nat_lt (suc m) (suc n) ≡ true
+    next m n h = grind (arith, nat_tests)
+
     by_test : (b : Bool) (o : Option ℕ) → ((j : ℕ) → o ≡ Some j → nat_lt j (length symbols) ≡ true)
         → (if b then Some 0 else option_map suc o) ≡ Some k → nat_lt k (suc (length symbols)) ≡ true
-    by_test true o below g = subst (λ i. nat_lt i (suc (length symbols)) ≡ true) (some-injective g) (nat_lt-first (length symbols))
+    by_test true o below g = subst (λ i. nat_lt i (suc (length symbols)) ≡ true) (some-injective g) (first (length symbols))
     by_test false None below g = cc
-    by_test false (Some j) below g = subst (λ i. nat_lt i (suc (length symbols)) ≡ true) (some-injective g) (nat_lt-next j (length symbols) (below j refl))
+    by_test false (Some j) below g = subst (λ i. nat_lt i (suc (length symbols)) ≡ true) (some-injective g) (next j (length symbols) (below j refl))
 
 text-fits : (nodes : List Node) (text : List ℕ) (n : Node) (v : Value) → is_text text ≡ true → text_default text n ≡ Some v → fits nodes n v ≡ true
 text-fits nodes text Node.string v p h = subst (λ w. fits nodes Node.string w ≡ true) (some-injective h) p
@@ -133,17 +133,7 @@ by_first_fit-fits nodes read (Node.union ids) v fit h =
     let found = first_fit-found nodes read 0 ids v h in
     subst (λ w. fits nodes (Node.union ids) w ≡ true) found.3
     (union-fits nodes ids (0 + found.0) found.0 found.1 found.2 (omega arith) found.4 (fit (node_at nodes found.1) found.2 found.5))
-by_first_fit-fits nodes read Node.null v fit h = fit Node.null v h
-by_first_fit-fits nodes read Node.boolean v fit h = fit Node.boolean v h
-by_first_fit-fits nodes read Node.int v fit h = fit Node.int v h
-by_first_fit-fits nodes read Node.long v fit h = fit Node.long v h
-by_first_fit-fits nodes read Node.bytes v fit h = fit Node.bytes v h
-by_first_fit-fits nodes read Node.string v fit h = fit Node.string v h
-by_first_fit-fits nodes read (Node.array id) v fit h = fit (Node.array id) v h
-by_first_fit-fits nodes read (Node.map_of id) v fit h = fit (Node.map_of id) v h
-by_first_fit-fits nodes read (Node.record_of name aliases fields) v fit h = fit (Node.record_of name aliases fields) v h
-by_first_fit-fits nodes read (Node.enum name aliases symbols default) v fit h = fit (Node.enum name aliases symbols default) v h
-by_first_fit-fits nodes read (Node.fixed name aliases count) v fit h = fit (Node.fixed name aliases count) v h
+by_first_fit-fits nodes read n v fit h = fit n v h
 
 -- ---- items, entries and fields
 

@@ -25,10 +25,10 @@ use Rattle.avro_schema_json.proofs.CompletedSeen.{nodes-completed, or_else-first
 use Rattle.avro_schema_json.proofs.completed.schema_of.Goals as goal
 
 -- the nodes of the draft are the completed ones
-completed_draft : (raws read : List KeptNode) (lists : List (List (Option Value))) (nodes : List Node) → read ≡ raws
+completed_draft : {raws read : List KeptNode} {lists : List (List (Option Value))} {nodes : List Node} → read ≡ raws
     → lists ≡ map (defaults_of_node (all_without_defaults read)) (raw_nodes_of read) → nodes ≡ nodes_with_defaults (raw_nodes_of raws) lists
     → nodes ≡ completed_nodes (raw_nodes_of raws)
-completed_draft raws read lists nodes same listed is =
+completed_draft {raws} same listed is =
     let d = rw same at listed in
     is ∙ ap (nodes_with_defaults (raw_nodes_of raws)) d ∙ nodes-completed (all_without_defaults raws) (raw_nodes_of raws)
 
@@ -85,8 +85,7 @@ returns-in_err-draft-clause-refused c =
 
 pub returns-in_err-schema-clause-refused : goal.returns-in_err-schema-clause-refused
 returns-in_err-schema-clause-refused c =
-    let completed = completed_draft c.args.raws.items c.deref-3.result.now (lists_seen c.in_ok-of_nodes.field-0.of_nodes.items) (draft_nodes c.in_ok-draft.draft)
-    c.deref-3.ensures.value c.in_ok-of_nodes.ensures.data c.in_ok-draft.ensures.nodes in
+    let completed = completed_draft c.deref-3.ensures.value c.in_ok-of_nodes.ensures.data c.in_ok-draft.ensures.nodes in
     let p = err_from_is_err_and c.from_residual-in_err-schema.result c.from_residual-in_err-schema.ensures.1 in
     rw p.1 (of_draft (raw_nodes_of c.args.raws.items) (draft_nodes c.in_ok-draft.draft) c.in_err-schema.field-0.0 p.0 completed
     c.in_err-schema.ensures.faulty p.2)
@@ -94,8 +93,7 @@ returns-in_err-schema-clause-refused c =
 pub returns-then-not-are_read-clause-refused : goal.returns-then-not-are_read-clause-refused
 returns-then-not-are_read-clause-refused c =
     let raws = raw_nodes_of c.args.raws.items in
-    let completed = completed_draft c.args.raws.items c.deref-3.result.now (lists_seen c.in_ok-of_nodes.field-0.of_nodes.items) (draft_nodes c.in_ok-draft.draft)
-    c.deref-3.ensures.value c.in_ok-of_nodes.ensures.data c.in_ok-draft.ensures.nodes in
+    let completed = completed_draft c.deref-3.ensures.value c.in_ok-of_nodes.ensures.data c.in_ok-draft.ensures.nodes in
     let formed : is_schema (completed_nodes raws) ≡ true = ap is_schema (sym completed) ∙ c.in_ok-schema.ensures.formed in
     let unread : are_all_defaults_read raws ≡ false =
     ap (λ (ns : List KeptNode). are_all_defaults_read (raw_nodes_of ns)) (sym c.deref-3.ensures.value) ∙ sym c.in_ok-of_nodes.ensures.read ∙ c.if-not-are_read.true in
@@ -103,12 +101,10 @@ returns-then-not-are_read-clause-refused c =
 
 pub returns-clause-found : goal.returns-clause-found
 returns-clause-found c =
-    let completed = completed_draft c.args.raws.items c.deref-3.result.now (lists_seen c.in_ok-of_nodes.field-0.of_nodes.items) (draft_nodes c.in_ok-draft.draft)
-    c.deref-3.ensures.value c.in_ok-of_nodes.ensures.data c.in_ok-draft.ensures.nodes in
+    let completed = completed_draft c.deref-3.ensures.value c.in_ok-of_nodes.ensures.data c.in_ok-draft.ensures.nodes in
     c.in_ok-schema.ensures.schema ∙ completed
 
 pub returns-clause-formed : goal.returns-clause-formed
 returns-clause-formed c =
-    let completed = completed_draft c.args.raws.items c.deref-3.result.now (lists_seen c.in_ok-of_nodes.field-0.of_nodes.items) (draft_nodes c.in_ok-draft.draft)
-    c.deref-3.ensures.value c.in_ok-of_nodes.ensures.data c.in_ok-draft.ensures.nodes in
+    let completed = completed_draft c.deref-3.ensures.value c.in_ok-of_nodes.ensures.data c.in_ok-draft.ensures.nodes in
     ap is_schema (sym completed) ∙ c.in_ok-schema.ensures.formed
