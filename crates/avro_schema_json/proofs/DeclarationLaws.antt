@@ -1,23 +1,6 @@
 -- What follows from the definitions: a tree declares one schema at most, and none exactly where a fault is there.
-use Rattle.std.proofs.Common.{◌≡◌, ℕ, Bool, true, false, not, ◌&&◌, List, [], ◌∷◌, Option, Some, None, refl, subst, ap, map, Ordering, arith}
-use Rattle.std.specs.Prelude.{option_map, option_and_then, if◌then◌else◌, Contains}
-use Rattle.std.specs.Ordering.{nat_cmp, match_ordering}
-use Rattle.std.specs.Cmp.Lexicographic.{slice_cmp}
-use Rattle.std.proofs.lemmas.Bool.{and_parts}
-use Rattle.avro_schema.specs.Node.{Node}
-use Rattle.avro_schema.specs.WellFormed.{is_schema}
-use Rattle.avro_schema.specs.Faulty.{NodeFault, faults_of_nodes}
-use Rattle.avro_schema.proofs.public.NodeFaults.{is_schema-from_no_faults, no_faults-from_is_schema}
-use Rattle.serde_json.specs.Data.{Data, Members, no_members, member}
-use Rattle.serde_json.specs.Find.{get_member}
-use Rattle.serde_json.specs.Written.{has_float}
-use Rattle.avro_schema_json.specs.declared.error.SchemaError.{SchemaError}
-use Rattle.avro_schema_json.specs.DeclaredAttributes.{unless}
-use Rattle.avro_schema_json.specs.Declares.{made_of, meaning_of, meaning_under, fields_from, fields_under}
-use Rattle.avro_schema_json.specs.DeclaredDefaults.{default_of, default_under}
-use Rattle.avro_schema_json.specs.DeclaredSchema.{declared, completed_nodes, are_all_defaults_read, is_empty, DeclaresSchema}
-use Rattle.avro_schema_json.specs.DeclaredFaults.{faults_of, refusals_of_nodes, or_else, HasFault}
-use Rattle.avro_schema_json.specs.Refusals.{refusal_of_fault}
+use Rattle.std.proofs.Common.{◌≡◌, ℕ, Bool, true, false, not, ◌&&◌, List, [], ◌∷◌, Option, Some, None, refl, subst, ap, map, Ordering, arith, option_map, option_and_then, if◌then◌else◌, Contains, nat_cmp}
+use Rattle.avro_schema_json.proofs.Words.{match_ordering, slice_cmp, and_parts, Node, is_schema, NodeFault, faults_of_nodes, is_schema-from_no_faults, no_faults-from_is_schema, Data, Members, no_members, member, get_member, has_float, SchemaError, unless, made_of, meaning_of, meaning_under, fields_from, fields_under, default_of, default_under, declared, completed_nodes, are_all_defaults_read, is_empty, DeclaresSchema, faults_of, refusals_of_nodes, or_else, HasFault, refusal_of_fault}
 
 -- ---- look-ups
 

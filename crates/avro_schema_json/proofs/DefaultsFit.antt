@@ -1,22 +1,10 @@
 -- The default that JSON is for a node is a datum of the node.
-use Rattle.std.proofs.Common.{◌≡◌, ℕ, suc, ◌+◌, ◌≤◌, Bool, true, false, ◌&&◌, List, [], ◌∷◌, length, Option, Some, None, refl, sym, ap, subst, ◌∙◌, arith, Ordering}
-use Rattle.std.specs.Prelude.{option_map, option_and_then, bytes_eq, nat_lt, ◌==◌, chars, slice_get, if◌then◌else◌}
-use Rattle.std.specs.List.{list_all}
+use Rattle.std.proofs.Common.{◌≡◌, ℕ, suc, ◌+◌, ◌≤◌, Bool, true, false, ◌&&◌, List, [], ◌∷◌, length, Option, Some, None, refl, sym, ap, subst, ◌∙◌, arith, Ordering, option_map, option_and_then, bytes_eq, nat_lt, ◌==◌, chars, slice_get, if◌then◌else◌, nat_cmp}
+use Rattle.avro_schema_json.proofs.Words.{list_all, match_ordering, slice_cmp, and_parts, nat_tests, Value, Values, value, Entries, no_entries, entry, values_count, entries_count, keys_of, Node, FieldNode, node_at, field_ids, are_distinct, Num, Data, Items, no_items, item, Members, no_members, member, as_i64, symbol_index, only_if, first_fit, by_first_fit, null_default, boolean_default, number_default, text_default, bytes_of_text, items_default, fields_default, object_default, names_only, member_keys, default_of, each_default, entries_default, default_under}
 use Rattle.std.specs.Option.{option_or}
-use Rattle.std.specs.Ordering.{nat_cmp, match_ordering}
-use Rattle.std.specs.Cmp.Lexicographic.{slice_cmp}
 use Rattle.std.specs.Str.{is_utf8}
-use Rattle.std.proofs.lemmas.Bool.{and_parts}
-use Rattle.std.proofs.lemmas.Bool.Decides.{nat_tests}
 use Rattle.std.proofs.lemmas.Str.{IsUtf8-from_is_utf8, length-le-encodes, encodes-chars}
-use Rattle.avro_schema.specs.Value.{Value, Values, value, Entries, no_entries, entry, values_count, entries_count, keys_of}
-use Rattle.avro_schema.specs.Node.{Node, FieldNode, node_at, field_ids}
 use Rattle.avro_schema.specs.Fits.{fits, each_fits, entries_fit, fields_fit, is_int, is_long, is_count, is_text, are_bytes}
-use Rattle.avro_schema.specs.Distinct.{are_distinct}
-use Rattle.serde_json.specs.Data.{Num, Data, Items, no_items, item, Members, no_members, member}
-use Rattle.serde_json.specs.Find.{as_i64}
-use Rattle.avro_schema_json.specs.DeclaredAttributes.{symbol_index}
-use Rattle.avro_schema_json.specs.DeclaredDefaults.{only_if, first_fit, by_first_fit, null_default, boolean_default, number_default, text_default, bytes_of_text, items_default, fields_default, object_default, names_only, member_keys, default_of, each_default, entries_default, default_under}
 use Rattle.avro_schema_json.specs.PlainTree.{items_count, is_plain_tree, are_plain_items, are_plain_members}
 
 -- ---- options

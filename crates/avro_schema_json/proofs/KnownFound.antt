@@ -1,22 +1,10 @@
 -- The ids of names and the numbers of namespaces, as one is added.
-use Rattle.std.proofs.Common.{◌≡◌, ◌⊎◌, inl, inr, ⊎_elim, ℕ, ◌+◌, ◌≤◌, Bool, true, false, not, ◌&&◌, ◌==◌, cond, List, length, [], ◌∷◌, ◌++◌, Option, Some, None, refl, sym, ap, ◌∙◌, arith, ne_eqb}
-use Rattle.std.specs.Prelude.{bytes_eq, String, string_bytes, Result, Ok, Err, IfOk, OnOk, OnErr, is_some, if◌then◌else◌}
-use Rattle.std.specs.declared.alloc.Global.{Global}
-use Rattle.std.specs.BTreeMap.{BTreeMap, get, is_at, btree_map_len, Updates}
+use Rattle.std.proofs.Common.{◌≡◌, ◌⊎◌, inl, inr, ⊎_elim, ℕ, ◌+◌, ◌≤◌, Bool, true, false, not, ◌&&◌, ◌==◌, cond, List, length, [], ◌∷◌, ◌++◌, Option, Some, None, refl, sym, ap, ◌∙◌, arith, ne_eqb, bytes_eq, String, string_bytes, Result, Ok, Err, IfOk, OnOk, OnErr, is_some, if◌then◌else◌, Global, BTreeMap, btree_map_len, is_eq, nat_cmp}
+use Rattle.avro_schema_json.proofs.Words.{get, is_at, Updates, slice_cmp, cond-true, cond-false, false_from_ne_true, Decides-eqb, is_eq-slice_cmp, bytes_eq-Decides, Name, same_name, name_of, split_name, has_dot, is_dotted_name, is_primitive_word, is_eq-then, same_name-is, same_name-sym, bytes_eq-self, Known, id_of, defining, Key, key_cmp, number_of, IsIndexOf}
 use Rattle.std.specs.Map.{lookup}
 use Rattle.std.specs.Cmp.{unsigned_tied, both_ways}
-use Rattle.std.specs.Ordering.{is_eq, nat_cmp}
 use Rattle.std.specs.String.{string_cmp}
-use Rattle.std.specs.Cmp.Lexicographic.{slice_cmp}
-use Rattle.std.proofs.lemmas.Bool.{cond-true, cond-false, false_from_ne_true}
 use Rattle.std.proofs.Math.Bool.{and_comm}
-use Rattle.std.proofs.lemmas.Bool.Decides.{Decides-eqb}
-use Rattle.std.proofs.lemmas.Map.Text.{is_eq-slice_cmp}
-use Rattle.std.proofs.lemmas.Slice.Eq.{bytes_eq-Decides}
-use Rattle.avro_name.specs.Name.{Name, same_name, name_of, split_name, has_dot, is_dotted_name, is_primitive_word}
-use Rattle.avro_name.proofs.public.Names.{is_eq-then, same_name-is, same_name-sym, bytes_eq-self}
-use Rattle.avro_schema_json.specs.Declares.{Known, id_of, defining}
-use Rattle.avro_schema_json.specs.inside.KnownNames.{Key, key_cmp, number_of, IsIndexOf}
 use Rattle.avro_schema_json.specs.inside.KnownSeen.{known_of, IsNumbered}
 use Rattle.avro_schema_json.specs.declared.declarations.name_table.NameTable.{NameTable}
 use Rattle.avro_schema_json.specs.declared.declarations.name_table.Space.{Space}

@@ -1,24 +1,6 @@
 -- No fault of a tree says that the text is not JSON, or that memory ran out.
-use Rattle.std.proofs.Common.{◌≡◌, ℕ, zero, suc, ◌+◌, ◌<◌, Bool, true, false, not, List, [], ◌∷◌, ◌++◌, Option, Some, None, Result, Ok, Err, length, refl, ap, arith, nat_lt, nat_le, subst, Ordering, sym, ◌∙◌, map}
-use Rattle.std.specs.Prelude.{Contains, slice_index_or, codes, is_some, option_and_then, ok_or, if◌then◌else◌}
-use Rattle.std.specs.List.{list_all}
-use Rattle.std.specs.Ordering.{nat_cmp, match_ordering}
-use Rattle.std.specs.Cmp.Lexicographic.{slice_cmp}
-use Rattle.std.proofs.lemmas.Bool.{and_parts, false≢true}
-use Rattle.std.proofs.lemmas.List.Folds.{list_all-append}
-use Rattle.avro_name.specs.Name.{Name, is_namespace, has_dot, name_of}
-use Rattle.avro_schema.specs.Node.{Node}
-use Rattle.avro_schema.specs.WellFormed.{max_nodes, max_count}
-use Rattle.avro_schema.specs.Faulty.{NodeFault, unknown_node, faults_of_nodes}
-use Rattle.serde_json.specs.Data.{Data, Items, no_items, item, Members, no_members, member}
-use Rattle.serde_json.specs.Find.{get_member, as_str, as_number, as_u64}
-use Rattle.avro_schema_json.specs.declared.error.SchemaError.{SchemaError}
-use Rattle.avro_schema_json.specs.DeclaredAttributes.{unless, needed, text_in, as_texts, namespace_from, name_from, name_in, alias_texts_from, alias_texts_in, aliases_in, symbol_index, default_symbol_from, symbols_in, size_in}
-use Rattle.serde_json.specs.Written.{has_float}
-use Rattle.avro_schema_json.specs.DeclaredFaults.{faults_of, refusals_of_nodes, or_else, HasFault}
-use Rattle.avro_schema_json.specs.DeclaredSchema.{completed_nodes, are_all_defaults_read}
-use Rattle.avro_schema_json.specs.Refusals.{refusal_of_fault}
-use Rattle.avro_schema_json.specs.Declares.{RawField, RawNode, Known, Made, Meaning, faulty, in_turn, use_of, id_of, reference, Word, null_word, boolean_word, int_word, long_word, bytes_word, string_word, unsupported_word, type_name, word_of, type_of_word, union_of, container_of, defining, name_faults, record_named, enum_named, fixed_named, definition_of, Form, record_form, enum_form, fixed_form, array_form, map_form, error_form, word_form, no_form, form_of, type_of_form, field_of, no_field, meaning_of, branches_of, meaning_under, fields_under, fields_from, field_meanings, field_meaning, made_of}
+use Rattle.std.proofs.Common.{◌≡◌, ℕ, zero, suc, ◌+◌, ◌<◌, Bool, true, false, not, List, [], ◌∷◌, ◌++◌, Option, Some, None, Result, Ok, Err, length, refl, ap, arith, nat_lt, nat_le, subst, Ordering, sym, ◌∙◌, map, Contains, slice_index_or, codes, is_some, option_and_then, ok_or, if◌then◌else◌, nat_cmp}
+use Rattle.avro_schema_json.proofs.Words.{list_all, match_ordering, slice_cmp, and_parts, false≢true, list_all-append, Name, is_namespace, has_dot, name_of, Node, max_nodes, max_count, NodeFault, unknown_node, faults_of_nodes, Data, Items, no_items, item, Members, no_members, member, get_member, as_str, as_number, as_u64, SchemaError, unless, needed, text_in, as_texts, namespace_from, name_from, name_in, alias_texts_from, alias_texts_in, aliases_in, symbol_index, default_symbol_from, symbols_in, size_in, has_float, faults_of, refusals_of_nodes, or_else, HasFault, completed_nodes, are_all_defaults_read, refusal_of_fault, RawField, RawNode, Known, Made, Meaning, faulty, in_turn, use_of, id_of, reference, Word, null_word, boolean_word, int_word, long_word, bytes_word, string_word, unsupported_word, type_name, word_of, type_of_word, union_of, container_of, defining, name_faults, record_named, enum_named, fixed_named, definition_of, Form, record_form, enum_form, fixed_form, array_form, map_form, error_form, word_form, no_form, form_of, type_of_form, field_of, no_field, meaning_of, branches_of, meaning_under, fields_under, fields_from, field_meanings, field_meaning, made_of}
 
 -- a fault that a tree can have
 abbrev is_of_tree : SchemaError → Bool

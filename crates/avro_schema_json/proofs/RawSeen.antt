@@ -1,12 +1,6 @@
 -- How the program's nodes and fields are seen before their defaults are read.
-use Rattle.std.proofs.Common.{◌≡◌, ℕ, zero, suc, ◌<◌, ◌≤◌, List, [], ◌∷◌, length, Option, Some, None, option_map, get_or, map, refl, ap, ◌∙◌, sym, arith}
-use Rattle.std.specs.Prelude.{slice_get, string_bytes}
-use Rattle.std.proofs.lemmas.List.{length-map}
-use Rattle.std.proofs.lemmas.Option.{slice_get-map, slice_get_read}
-use Rattle.avro_schema.specs.Node.{FieldNode}
-use Rattle.avro_schema_json.specs.DeclaredSchema.{field_without_default}
-use Rattle.avro_schema_json.specs.inside.OwnDefaults.{fields_seen}
-use Rattle.avro_schema_json.specs.inside.SeenRaw.{raw_field_of, raw_fields_of}
+use Rattle.std.proofs.Common.{◌≡◌, ℕ, zero, suc, ◌<◌, ◌≤◌, List, [], ◌∷◌, length, Option, Some, None, option_map, get_or, map, refl, ap, ◌∙◌, sym, arith, slice_get, string_bytes}
+use Rattle.avro_schema_json.proofs.Words.{length-map, slice_get-map, slice_get_read, FieldNode, field_without_default, fields_seen, raw_field_of, raw_fields_of}
 use Rattle.avro_schema_json.specs.declared.raw.RawField.{RawField}
 
 -- the name and the node of a field

@@ -1,34 +1,12 @@
 -- A union in which a branch occurs twice, and a record that has two fields of one name, is a fault of the nodes with their defaults.
-use Rattle.std.proofs.Common.{◌≡◌, ℕ, zero, suc, ◌+◌, ◌<◌, ◌≤◌, Bool, true, false, not, ◌&&◌, ◌||◌, cond, List, [], ◌∷◌, ◌++◌, length, map, filter_map, Option, Some, None, get_or, ◌⊎◌, inl, inr, refl, sym, ap, subst, ◌∙◌, arith, nat_lt}
-use Rattle.std.specs.Prelude.{slice_get, is_some, bytes_eq, flat_map}
-use Rattle.std.specs.List.{list_all, list_any, cons_option, AllByRecursion, IsDistinct}
-use Rattle.std.specs.Ordering.{nat_cmp}
-use Rattle.std.specs.BTreeSet.{BTreeSet, contains}
-use Rattle.std.proofs.lemmas.Bool.{and_parts, or_parts, false≢true, not-true, false_from_ne_true}
-use Rattle.std.proofs.lemmas.Bool.Decides.{Decides-eqb}
-use Rattle.std.proofs.lemmas.List.{length-map}
-use Rattle.std.proofs.lemmas.List.Folds.{list_any-append}
-use Rattle.std.proofs.lemmas.Option.{slice_get_within}
-use Rattle.std.proofs.lemmas.Slice.Eq.{bytes_eq-Decides}
-use denote.Ref.{Bor}
-use Rattle.std.specs.BTreeMap.{BTreeMap}
+use Rattle.std.proofs.Common.{◌≡◌, ℕ, zero, suc, ◌+◌, ◌<◌, ◌≤◌, Bool, true, false, not, ◌&&◌, ◌||◌, cond, List, [], ◌∷◌, ◌++◌, length, map, filter_map, Option, Some, None, get_or, ◌⊎◌, inl, inr, refl, sym, ap, subst, ◌∙◌, arith, nat_lt, slice_get, is_some, bytes_eq, flat_map, nat_cmp, BTreeSet, Bor, BTreeMap}
+use Rattle.avro_schema_json.proofs.Words.{list_all, list_any, cons_option, AllByRecursion, and_parts, or_parts, false≢true, not-true, false_from_ne_true, Decides-eqb, length-map, list_any-append, slice_get_within, bytes_eq-Decides, Name, same_name-self, are_distinct, invalid_union, duplicate_field, breaks, has_fields_rule, IsThere, Node, FieldNode, node_at, node_name, ids_of, field_names, is_edge, is_union, BranchKind, unnamed, named, branch_kind, same_kind, broken-there, RawField, RawNode, field_without_default, node_without_defaults, completed_field, completed_node, without_defaults, all_without_defaults, fields_seen, KeptField, KeptNode, kind_code, code_by, Repeats, SomeRepeats, RepeatsName, RecordRepeatsName, SomeRepeatsName, AreFieldsDistinct}
+use Rattle.std.specs.BTreeSet.{contains}
 use Rattle.avro_schema_json.specs.inside.Parents.{label_of}
-use Rattle.avro_name.specs.Name.{Name}
-use Rattle.avro_name.proofs.public.Names.{same_name-self}
-use Rattle.avro_schema.specs.Distinct.{are_distinct}
-use Rattle.avro_schema.specs.Faulty.{invalid_union, duplicate_field, breaks, has_fields_rule, IsThere}
-use Rattle.avro_schema.specs.Node.{Node, FieldNode, node_at, node_name, branches_of}
-use Rattle.avro_schema.specs.Seen.{ids_of}
+use Rattle.avro_schema.specs.Node.{branches_of}
 use Rattle.avro_schema.specs.declared.schema.NodeId.{NodeId}
 use Rattle.avro_schema.specs.SeenKind.{kind_at, has_kind}
-use Rattle.avro_schema.specs.WellFormed.{field_names, is_edge, is_union, BranchKind, unnamed, named, branch_kind, same_kind}
-use Rattle.avro_schema.proofs.public.NodeFaults.{broken-there}
-use Rattle.avro_schema_json.specs.Declares.{RawField, RawNode}
-use Rattle.avro_schema_json.specs.DeclaredSchema.{field_without_default, node_without_defaults, completed_field, completed_node}
-use Rattle.avro_schema_json.specs.inside.OwnDefaults.{without_defaults, all_without_defaults, fields_seen}
-use Rattle.avro_schema_json.specs.declared.raw.RawField.{RawField as KeptField}
-use Rattle.avro_schema_json.specs.declared.raw.RawNode.{RawNode as KeptNode}
-use Rattle.avro_schema_json.specs.inside.Repeats.{kind_code, code_by, Repeats, SomeRepeats, RepeatsName, RecordRepeatsName, SomeRepeatsName, AreFieldsDistinct}
+use Rattle.std.specs.List.{IsDistinct}
 use Rattle.avro_schema_json.proofs.NodesSeen.{node_here, as_many}
 
 -- ---- one code, one kind

@@ -1,12 +1,7 @@
 -- The schemas that texts declare: computed.
 use Rattle.std.proofs.Common.{◌≡◌, refl, ℕ, List, [], ◌∷◌, Option, Some, None, codes, option_and_then, option_map, map}
-use Rattle.avro_schema.specs.Node.{Node}
-use Rattle.avro_schema.proofs.public.RowsSchemas.{simply, within, plain_field, aliased_field}
-use Rattle.serde_json.specs.Read.{read}
+use Rattle.avro_schema_json.proofs.Words.{Node, simply, within, plain_field, aliased_field, read, declared, faults_of, SchemaError}
 use Rattle.serde_json.proofs.OnLiterals.{serde_json_on_literals}
-use Rattle.avro_schema_json.specs.DeclaredSchema.{declared}
-use Rattle.avro_schema_json.specs.DeclaredFaults.{faults_of}
-use Rattle.avro_schema_json.specs.declared.error.SchemaError.{SchemaError}
 
 -- the nodes of the schema that a text declares
 abbrev pub declared_by : List ℕ → Option (List Node)

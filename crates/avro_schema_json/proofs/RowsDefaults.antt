@@ -1,12 +1,9 @@
 -- Defaults of fields, by the texts that declare them: computed.
 use Rattle.std.proofs.Common.{◌≡◌, refl, pos, negsuc, true, [], ◌∷◌, Some, None, codes}
+use Rattle.avro_schema_json.proofs.Words.{Value, entry, no_entries, Node, simply, plain_field, default_field, one_value, two_values, SchemaError}
 use Rattle.std.specs.Str.{is_utf8, chars}
 use lib.Utf8.{encode}
-use Rattle.avro_schema.specs.Value.{Value, entry, no_entries}
-use Rattle.avro_schema.specs.Node.{Node}
-use Rattle.avro_schema.proofs.public.RowsSchemas.{simply, plain_field, default_field, one_value, two_values}
 use Rattle.serde_json.proofs.OnLiterals.{serde_json_on_literals}
-use Rattle.avro_schema_json.specs.declared.error.SchemaError.{SchemaError}
 use Rattle.avro_schema_json.proofs.RowsDeclared.{declared_by, AllHave}
 
 -- a default of each type but the union

@@ -1,17 +1,9 @@
 -- How types are read: a node above its parts, and parts one after another.
-use Rattle.std.proofs.Common.{◌≡◌, ℕ, suc, ◌+◌, ◌<◌, ◌≤◌, true, List, [], ◌∷◌, ◌++◌, refl, subst, length, get_or, arith, sym, ap, ◌∙◌, inl, inr, length-append, drop}
-use Rattle.std.specs.Prelude.{slice_set, nat_lt}
-use Rattle.std.proofs.lemmas.List.{append_assoc, append-nil, drop_more}
-use Rattle.std.proofs.lemmas.List.Elements.{Contains-append_left, Contains-append_right}
+use Rattle.std.proofs.Common.{◌≡◌, ℕ, suc, ◌+◌, ◌<◌, ◌≤◌, true, List, [], ◌∷◌, ◌++◌, refl, subst, length, get_or, arith, sym, ap, ◌∙◌, inl, inr, length-append, drop, slice_set, nat_lt, append_assoc, append-nil}
+use Rattle.avro_schema_json.proofs.Words.{drop_more, Contains-append_left, Contains-append_right, Node, max_nodes, view, items_view, SchemaError, RawNode, RawField, Known, Made, Meaning, node_with, in_turn, meaning_of, branches_of, field_meaning, field_meanings, State, made_at, IsRead, Reads, IsRefusal, Refuses, IsAdded, limit_faults}
 use Rattle.std.proofs.Math.ListN.{drop_of_length-le}
 use Rattle.std.proofs.Math.Seq.{set-append_seam}
-use Rattle.avro_schema.specs.Node.{Node}
-use Rattle.avro_schema.specs.WellFormed.{max_nodes}
-use Rattle.serde_json.specs.View.{view, items_view}
 use Rattle.serde_json.specs.declared.value.Value.{Value}
-use Rattle.avro_schema_json.specs.declared.error.SchemaError.{SchemaError}
-use Rattle.avro_schema_json.specs.Declares.{RawNode, RawField, Known, Made, Meaning, node_with, in_turn, meaning_of, branches_of, field_meaning, field_meanings}
-use Rattle.avro_schema_json.specs.inside.Reading.{State, made_at, IsRead, Reads, IsRefusal, Refuses, IsAdded, limit_faults}
 
 -- ---- refusals of a part are refusals of the whole
 

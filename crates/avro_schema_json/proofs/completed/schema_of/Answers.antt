@@ -1,24 +1,7 @@
-use Rattle.std.proofs.Common.{◌≡◌, ◌<◌, ◌⊎◌, inl, inr, true, false, List, length, map, refl, sym, ap, subst, ◌∙◌}
-use Rattle.std.specs.Prelude.{Contains, Option, Some, None, IfSome, option_map, unwrap_or}
-use Rattle.std.proofs.lemmas.List.{length-map}
-use Rattle.std.proofs.lemmas.Result.{err_from_is_err_and}
-use Rattle.avro_schema.specs.Node.{Node}
-use Rattle.avro_schema.specs.Faulty.{NodeFault, invalid_union, duplicate_field, limit_exceeded, fault_of, IsThere, IsRefused}
-use Rattle.avro_schema.specs.SeenSchema.{draft_nodes}
-use Rattle.avro_schema.specs.WellFormed.{is_schema}
-use Rattle.avro_schema.specs.Value.{Value}
+use Rattle.std.proofs.Common.{◌≡◌, ◌<◌, ◌⊎◌, inl, inr, true, false, List, length, map, refl, sym, ap, subst, ◌∙◌, Contains, Option, Some, None, IfSome, option_map}
+use Rattle.avro_schema_json.proofs.Words.{length-map, err_from_is_err_and, Node, NodeFault, invalid_union, duplicate_field, limit_exceeded, fault_of, IsThere, IsRefused, draft_nodes, is_schema, Value, SchemaError, KeptNode, RawNode, unless, refusals_of_nodes, or_else, nodes_without_defaults, completed_nodes, are_all_defaults_read, all_without_defaults, refusal_of_fault, refusal_of, lists_seen, defaults_of_node, nodes_with_defaults, raw_nodes_of, SomeRepeats, SomeRepeatsName}
+use Rattle.std.specs.Prelude.{unwrap_or}
 use Rattle.avro_schema.specs.declared.fault.DraftError.{DraftError}
-use Rattle.avro_schema_json.specs.declared.error.SchemaError.{SchemaError}
-use Rattle.avro_schema_json.specs.declared.raw.RawNode.{RawNode as KeptNode}
-use Rattle.avro_schema_json.specs.Declares.{RawNode}
-use Rattle.avro_schema_json.specs.DeclaredAttributes.{unless}
-use Rattle.avro_schema_json.specs.DeclaredFaults.{refusals_of_nodes, or_else}
-use Rattle.avro_schema_json.specs.DeclaredSchema.{nodes_without_defaults, completed_nodes, are_all_defaults_read}
-use Rattle.avro_schema_json.specs.inside.OwnDefaults.{all_without_defaults}
-use Rattle.avro_schema_json.specs.Refusals.{refusal_of_fault, refusal_of}
-use Rattle.avro_schema_json.specs.inside.SeenDefaults.{lists_seen, defaults_of_node, nodes_with_defaults}
-use Rattle.avro_schema_json.specs.inside.SeenRaw.{raw_nodes_of}
-use Rattle.avro_schema_json.specs.inside.Repeats.{SomeRepeats, SomeRepeatsName}
 use Rattle.avro_schema_json.proofs.RepeatsSeen.{repeated-there, repeated_field-there}
 use Rattle.avro_schema_json.proofs.DeclarationLaws.{no_refusals-from_is_schema}
 use Rattle.avro_schema_json.proofs.CompletedSeen.{nodes-completed, or_else-first, or_else-unread, too_many-there, refusal-contains}

@@ -1,7 +1,5 @@
 use Rattle.std.proofs.Common.{sym, ap, ◌∙◌}
-use Rattle.avro_schema_json.specs.Declares.{id_of}
-use Rattle.avro_schema_json.specs.inside.KnownNames.{number_of}
-use Rattle.std.proofs.lemmas.Result.{IfOk-weaker}
+use Rattle.avro_schema_json.proofs.Words.{id_of, number_of, IfOk-weaker}
 use Rattle.avro_schema_json.proofs.declarations.name_table.NameTable.id.Goals as goal
 
 pub returns-in-Some : goal.returns-in-Some

@@ -1,15 +1,5 @@
 use Rattle.std.proofs.Common.{ℕ, ◌∷◌, [], List, Option, IfOk, IfErr, codes, refl, sym, ap, ◌∙◌, subst}
-use Rattle.std.proofs.lemmas.List.{map-append}
-use Rattle.std.proofs.lemmas.Result.{err_from_is_err_and}
-use Rattle.avro_schema.specs.Node.{Node}
-use Rattle.avro_schema.specs.Seen.{ids_of}
-use Rattle.serde_json.specs.View.{view, items_view, members_view}
-use Rattle.serde_json.proofs.Views.{view-Array, view-Object}
-use Rattle.avro_schema_json.specs.declared.error.SchemaError.{SchemaError}
-use Rattle.avro_schema_json.specs.Declares.{RawNode, RawField, Meaning, meaning_of, in_turn, field_meaning, field_meanings, fields_under}
-use Rattle.avro_schema_json.specs.inside.Reading.{made_at, Reads, Refuses, fields_meaning}
-use Rattle.avro_schema_json.specs.inside.ReadingSeen.{state_of}
-use Rattle.avro_schema_json.specs.inside.SeenRaw.{raw_field_of, raw_fields_of}
+use Rattle.avro_schema_json.proofs.Words.{map-append, err_from_is_err_and, Node, ids_of, view, items_view, members_view, view-Array, view-Object, SchemaError, RawNode, RawField, Meaning, meaning_of, in_turn, field_meaning, field_meanings, fields_under, made_at, Reads, Refuses, fields_meaning, state_of, raw_field_of, raw_fields_of}
 use Rattle.avro_schema_json.proofs.DefinitionsRead.{record-definition, unbegun, misnamed, part-refused, definition-read}
 use Rattle.avro_schema_json.proofs.ObjectsRead.{member-found, member-missing, refuses-faulty, object-array, object-no_items, object-map, object-no_values, fields-found, fields-missing, field-unnamed, field-refused, field-untyped, field-read}
 use Rattle.avro_schema_json.proofs.TypesRead.{held-added, node_with-read, node_with-part, reading-begun, item-read, item-refused, items-read, branch_meanings, list_meanings, next_branch, next_field}

@@ -1,7 +1,4 @@
-use Rattle.std.proofs.lemmas.Result.{err_from_is_err_and}
-use Rattle.serde_json.specs.View.{members_view}
-use Rattle.avro_schema.specs.Seen.{texts_of}
-use Rattle.avro_schema_json.specs.inside.ReadingSeen.{state_of}
+use Rattle.avro_schema_json.proofs.Words.{err_from_is_err_and, members_view, texts_of, state_of}
 use Rattle.avro_schema_json.proofs.DefinitionsRead.{enum-definition, nothing-read, unbegun, misnamed, misformed, definition-read}
 use Rattle.avro_schema_json.proofs.declarations.progress.Progress.read_enum.Goals as goal
 

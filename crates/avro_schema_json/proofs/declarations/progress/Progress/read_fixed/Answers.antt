@@ -1,6 +1,4 @@
-use Rattle.std.proofs.lemmas.Result.{err_from_is_err_and}
-use Rattle.serde_json.specs.View.{members_view}
-use Rattle.avro_schema_json.specs.inside.ReadingSeen.{state_of}
+use Rattle.avro_schema_json.proofs.Words.{err_from_is_err_and, members_view, state_of}
 use Rattle.avro_schema_json.proofs.DefinitionsRead.{fixed-definition, nothing-read, unbegun, misnamed, misformed, definition-read}
 use Rattle.avro_schema_json.proofs.declarations.progress.Progress.read_fixed.Goals as goal
 
