@@ -9,13 +9,15 @@ use Rattle.std.proofs.lemmas.Bool.{false≢true}
 use Rattle.std.proofs.lemmas.Map.Made.{length-from_same_keys}
 use Rattle.std.proofs.lemmas.Map.Text.{is_eq-slice_cmp}
 use Rattle.std.proofs.lemmas.Slice.Eq.{bytes_eq-Decides}
+use Rattle.std.proofs.lemmas.Option.{none-some}
 use Rattle.serde_json.specs.Data.{Members, no_members, member}
 use Rattle.serde_json.specs.Find.{get_member}
 use Rattle.avro_schema.specs.Value.{value}
 use Rattle.avro_schema.specs.Node.{Node, FieldNode, node_at}
-use Rattle.avro_schema_json.specs.DeclaredDefaults.{default_under, fields_default, member_keys, names_only}
+use Rattle.avro_schema_json.specs.DeclaredDefaults.{default_of, default_under, fields_default, member_keys, names_only}
 use Rattle.avro_schema_json.specs.inside.OwnDefaults.{default_of_fields}
-use Rattle.avro_schema_json.proofs.CoversSeen.{both, kept, some-field, none-some}
+use Rattle.avro_schema_json.proofs.CoversSeen.{both, mapped, kept, some-field}
+use Rattle.avro_schema_json.proofs.DeclarationLaws.{default_under-found}
 
 texts_equal : IsEquivalence bytes_eq
 texts_equal = record {
@@ -50,14 +52,7 @@ is-key q (member k d ms) h = by_order (slice_cmp nat_cmp q k) refl (λ r. is-key
 
 -- a member is found where something is read under its key
 under-member : (nodes : List Node) (key : List ℕ) (ms : Members) → is_some (default_under nodes key ms) ≡ true → is_some (get_member key ms) ≡ true
-under-member nodes key no_members h = absurd (false≢true h)
-under-member nodes key (member k d ms) h = by_order (slice_cmp nat_cmp key k) refl (λ r. under-member nodes key ms r)
-  where
-    by_order : (o : Ordering) → slice_cmp nat_cmp key k ≡ o → (is_some (default_under nodes key ms) ≡ true → is_some (get_member key ms) ≡ true)
-        → is_some (get_member key (member k d ms)) ≡ true
-    by_order Ordering.Less is others = rw is (others (rw is at h))
-    by_order Ordering.Greater is others = rw is (others (rw is at h))
-    by_order Ordering.Equal is others = rw is refl
+under-member nodes key ms h = sym (mapped (default_of nodes) (get_member key ms)) ∙ ap is_some (sym (default_under-found nodes key ms)) ∙ h
 
 read-under : {A B : Type 0} (o : Option A) (f : A → Option B) → is_some (option_and_then f o) ≡ true → is_some o ≡ true
 read-under None f h = h

@@ -7,15 +7,18 @@ use Rattle.std.specs.Cmp.Lexicographic.{slice_cmp}
 use Rattle.std.proofs.lemmas.Bool.{false≢true}
 use Rattle.std.proofs.lemmas.Map.Text.{is_eq-slice_cmp}
 use Rattle.std.proofs.lemmas.Slice.Eq.{bytes_eq-Decides}
+use Rattle.std.proofs.lemmas.Option.{none-some}
 use Rattle.serde_json.specs.Data.{Data, Items, no_items, item, Members, no_members, member}
 use Rattle.serde_json.specs.Find.{get_item, get_member}
 use Rattle.avro_schema.specs.Value.{Value, Values, value, entry}
 use Rattle.avro_schema.specs.Node.{Node, FieldNode, node_at, branches_of, items_node, values_node}
-use Rattle.avro_schema_json.specs.DeclaredDefaults.{default_of, by_first_fit, each_default, entries_default, fields_default, default_under, object_default, member_keys, names_only, first_fit, only_if}
+use Rattle.avro_schema_json.specs.DeclaredDefaults.{default_of, each_default, entries_default, fields_default, default_under, object_default, member_keys, names_only, first_fit, only_if}
 use Rattle.avro_schema_json.specs.inside.OwnDefaults.{own_default}
 use Rattle.avro_schema_json.specs.inside.Covers.{place_of, owns, fits, Covers, own_ids}
 use Rattle.avro_schema_json.specs.inside.Parents.{Label, HasField, IsPart, IsStep}
 use Rattle.avro_schema_json.specs.inside.Rows.{has_place, IsWithin}
+use Rattle.avro_schema_json.proofs.DeclarationLaws.{default_under-found}
+use Rattle.avro_schema_json.proofs.DefaultsSeen.{default-no_union, default-union}
 
 -- ---- options
 
@@ -25,28 +28,11 @@ both None rest f h = absurd (false≢true h)
 both (Some v) None f h = absurd (false≢true h)
 both (Some v) (Some w) f h = (refl, refl)
 
-mapped : {A B : Type 0} (f : A → B) (o : Option A) → is_some (option_map f o) ≡ is_some o
+pub mapped : {A B : Type 0} (f : A → B) (o : Option A) → is_some (option_map f o) ≡ is_some o
 mapped f None = refl
 mapped f (Some x) = refl
 
-pub none-some : {A : Type 0} (x : A) → None ≡ Some x → ⊥
-none-some x h = cc
-
 -- ---- branches
-
-default_of-own : (nodes : List Node) (d : Data) (n : Node) → default_of nodes d n ≡ by_first_fit nodes n (own_default nodes d)
-default_of-own nodes Data.null n = refl
-default_of-own nodes (Data.boolean b) n = refl
-default_of-own nodes (Data.number x) n = refl
-default_of-own nodes (Data.string text) n = refl
-default_of-own nodes (Data.array ds) n = refl
-default_of-own nodes (Data.object ms) n = refl
-
-default-no_union : (nodes : List Node) (d : Data) (n : Node) → branches_of n ≡ None → default_of nodes d n ≡ own_default nodes d n
-default-no_union nodes d n h = default_of-own nodes d n ∙ rw h refl
-
-default-union : (nodes : List Node) (d : Data) (n : Node) (ids : List ℕ) → branches_of n ≡ Some ids → default_of nodes d n ≡ first_fit nodes (own_default nodes d) 0 ids
-default-union nodes d n ids h = default_of-own nodes d n ∙ rw h refl
 
 -- a default of a union is one of a branch
 first-owns : (nodes : List Node) (d : Data) (k : ℕ) (ids : List ℕ) → is_some (first_fit nodes (own_default nodes d) k ids) ≡ true
@@ -115,19 +101,6 @@ entry-fits nodes (member k d ms) key e n at h = by_order (slice_cmp nat_cmp key 
         let same : d ≡ e = cc in
         subst (λ (x : Data). is_some (default_of nodes x n) ≡ true) same two.0
 
-default_under-found : (nodes : List Node) (key : List ℕ) (ms : Members) (e : Data) → get_member key ms ≡ Some e → default_under nodes key ms ≡ Some (default_of nodes e)
-default_under-found nodes key no_members e at = absurd (none-some e at)
-default_under-found nodes key (member k d ms) e at = by_order (slice_cmp nat_cmp key k) refl (λ r. default_under-found nodes key ms e r)
-  where
-    by_order : (o : Ordering) → slice_cmp nat_cmp key k ≡ o → (get_member key ms ≡ Some e → default_under nodes key ms ≡ Some (default_of nodes e))
-        → default_under nodes key (member k d ms) ≡ Some (default_of nodes e)
-    by_order Ordering.Less is others = rw is (others (rw is at at))
-    by_order Ordering.Greater is others = rw is (others (rw is at at))
-    by_order Ordering.Equal is others =
-        let found : Some d ≡ Some e = rw is at at in
-        let same : d ≡ e = cc in
-        rw (is, same) refl
-
 field-fits : (nodes : List Node) (ms : Members) (fields : List FieldNode) (i : ℕ) (f : FieldNode) (e : Data) → slice_get fields i ≡ Some f
     → get_member f.name ms ≡ Some e → is_some (fields_default nodes (λ key. default_under nodes key ms) fields) ≡ true
     → is_some (default_of nodes e (node_at nodes f.node)) ≡ true
@@ -135,7 +108,8 @@ field-fits nodes ms [] i f e at here h = absurd (none-some f at)
 field-fits nodes ms (g ∷ fields) zero f e at here h =
     let same : g ≡ f = cc in
     let first = (both (option_and_then (λ read. read (node_at nodes g.node)) (default_under nodes g.name ms)) (fields_default nodes (λ key. default_under nodes key ms) fields) value h).0 in
-    rw (same, default_under-found nodes f.name ms e here) at first
+    let under : default_under nodes f.name ms ≡ Some (default_of nodes e) = default_under-found nodes f.name ms ∙ ap (option_map (default_of nodes)) here in
+    rw (same, under) at first
 field-fits nodes ms (g ∷ fields) (suc i) f e at here h =
     field-fits nodes ms fields i f e at here
     (both (option_and_then (λ read. read (node_at nodes g.node)) (default_under nodes g.name ms)) (fields_default nodes (λ key. default_under nodes key ms) fields) value h).1
@@ -203,13 +177,4 @@ object-covered nodes last ms key e row maps records parents at covers values nam
         (stepped nodes last (Label.named key) e row records m f.1.node covers named
         (subst (λ (n : Node). IsPart (Label.named key) n f.1.node) (sym is) field)
         (field-fits nodes ms fields f.0 f.1 e f.2 here all.0))
-    by Node.null is h = absurd (false≢true h)
-    by Node.boolean is h = absurd (false≢true h)
-    by Node.int is h = absurd (false≢true h)
-    by Node.long is h = absurd (false≢true h)
-    by Node.bytes is h = absurd (false≢true h)
-    by Node.string is h = absurd (false≢true h)
-    by (Node.array t) is h = absurd (false≢true h)
-    by (Node.union ids) is h = absurd (false≢true h)
-    by (Node.enum name aliases symbols default) is h = absurd (false≢true h)
-    by (Node.fixed name aliases count) is h = absurd (false≢true h)
+    by _ is h = absurd (false≢true h)

@@ -63,17 +63,6 @@ branch_next nodes d ids i id all below at whole none =
     let w = rw (drop_ids ids i id below at, none) at whole in
     rw add-one w
 
--- the first branch that it fits
-pub branch_found : (nodes : List Node) (d : Data) (ids : List NodeId) (i : ℕ) (id : NodeId) (v : Value) (all : Option Value) → i < length ids
-    → id ≡ get_or ids i id → first_fit nodes (own_default nodes d) i (ids_of (drop i ids)) ≡ all → own_default nodes d (node_at nodes id.0) ≡ Some v
-    → Some (Value.union i v) ≡ all
-branch_found nodes d ids i id v all below at whole some = rw (drop_ids ids i id below at, some) at whole
-
--- no branch is left
-pub branches_end : (nodes : List Node) (d : Data) (ids : List NodeId) (i : ℕ) (all : Option Value) → length ids ≤ i
-    → first_fit nodes (own_default nodes d) i (ids_of (drop i ids)) ≡ all → None ≡ all
-branches_end nodes d ids i all past whole = let none : drop i ids ≡ [] = drop_past ids i past in rw none at whole
-
 -- values after others
 abbrev pub after_values : List Datum → Values → Values
 after_values [] vs = vs
@@ -122,10 +111,6 @@ pub entry_step : (all : Option Entries) (done : List (String Global × Datum)) (
     → option_map (after_entries (done ++ (k, d) ∷ [])) rest ≡ all
 entry_step all done k d first None whole is = let w = rw (← is) at whole in w
 entry_step all done k d first (Some es) whole is = let w = rw (← is) at whole in ap Some (sym (after_entries-push done (k, d) es)) ∙ w
-
-pub entry_stop : (all : Option Entries) (done : List (String Global × Datum)) (k : List ℕ) (first : Option Value) (rest : Option Entries)
-    → option_map (after_entries done) (option_and_then (λ v. option_map (entry k v) rest) first) ≡ all → None ≡ first → None ≡ all
-entry_stop all done k first rest whole is = let w = rw (← is) at whole in w
 
 pub entries_end : (all : Option Entries) (done : List (String Global × Datum)) (rest : Option Entries) → option_map (after_entries done) rest ≡ all
     → rest ≡ Some no_entries → Some (entries_of done) ≡ all

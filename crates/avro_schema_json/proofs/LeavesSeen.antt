@@ -29,6 +29,7 @@ use Rattle.avro_schema_json.specs.inside.Symbols.{symbols_of, HasSymbol, AreSymb
 use Rattle.avro_schema_json.specs.declared.defaults.parents.Few.{Few}
 use Rattle.avro_schema_json.specs.declared.defaults.rows.Row.{Row}
 use Rattle.avro_schema_json.proofs.CountsSeen.{names_of, as-many}
+use Rattle.avro_schema_json.proofs.CoversSeen.{mapped}
 
 -- a row has the places of a kind
 abbrev pub HasAll : BTreeMap (ℕ × ℕ) Row → ℕ × ℕ → List ℕ → Type 0
@@ -60,18 +61,14 @@ text-covered nodes last rows labels parents text row kinds enums all m h = by (n
     none_some : {A : Type 0} (o : Option A) (x : A) → o ≡ Some x → o ≡ None → ⊥
     none_some o x is none = cc
 
-    mapped : {A B : Type 0} (f : A → B) (o : Option A) → is_some (option_map f o) ≡ is_some o
-    mapped f None = refl
-    mapped f (Some x) = refl
-
     bytes_there : (o : Option (List ℕ)) → bytes_of_text text ≡ o → is_some (option_map Value.bytes o) ≡ true → bytes_of_text text ≡ None → ⊥
     bytes_there None is h = absurd (false≢true h)
     bytes_there (Some b) is h = none_some (bytes_of_text text) b is
 
-    sized : (o : Option (List ℕ)) (count : ℕ) → bytes_of_text text ≡ o → is_some (option_and_then (λ b. only_if (length b == count) (Value.fixed b)) o) ≡ true
+    of_count : (o : Option (List ℕ)) (count : ℕ) → bytes_of_text text ≡ o → is_some (option_and_then (λ b. only_if (length b == count) (Value.fixed b)) o) ≡ true
         → HasKind rows (11, count) (place_of last m) → has_place row (place_of last m) ≡ true
-    sized None count is h kind = absurd (false≢true h)
-    sized (Some b) count is h kind =
+    of_count None count is h kind = absurd (false≢true h)
+    of_count (Some b) count is h kind =
         let many : length b ≡ count = (Decides-eqb (length b) count).0 (passes (length b == count) (Value.fixed b) h) in
         let same : chars text ≡ b = as-characters (list_all (λ c. nat_lt c 256) (chars text)) (chars text) b is in
         all.fixeds (none_some (bytes_of_text text) b is) (place_of last m)
@@ -81,16 +78,9 @@ text-covered nodes last rows labels parents text row kinds enums all m h = by (n
         → (is_some (symbol_index text (symbols_of n)) ≡ true → HasSymbol labels parents last (place_of last m) text) → has_place row (place_of last m) ≡ true
     by Node.string h kind symbol = all.string (place_of last m) kind
     by Node.bytes h kind symbol = all.bytes (bytes_there (bytes_of_text text) refl h) (place_of last m) kind
-    by (Node.fixed name aliases count) h kind symbol = sized (bytes_of_text text) count refl h kind
+    by (Node.fixed name aliases count) h kind symbol = of_count (bytes_of_text text) count refl h kind
     by (Node.enum name aliases words default) h kind symbol = all.enums (place_of last m) (symbol (sym (mapped Value.enum (symbol_index text words)) ∙ h))
-    by Node.null h kind symbol = absurd (false≢true h)
-    by Node.boolean h kind symbol = absurd (false≢true h)
-    by Node.int h kind symbol = absurd (false≢true h)
-    by Node.long h kind symbol = absurd (false≢true h)
-    by (Node.array t) h kind symbol = absurd (false≢true h)
-    by (Node.map_of t) h kind symbol = absurd (false≢true h)
-    by (Node.union ids) h kind symbol = absurd (false≢true h)
-    by (Node.record_of name aliases fields) h kind symbol = absurd (false≢true h)
+    by _ h kind symbol = absurd (false≢true h)
 
 -- ---- objects
 
@@ -124,13 +114,4 @@ object-kind nodes last rows ms row kinds distinct keys maps records m h = by (no
         let names : IsDistinct bytes_eq (names_of fields) = rw is at (distinct m) in
         let same : length (names_of fields) ≡ length (member_keys ms) = as-many nodes ms fields names keys h in
         records (place_of last m) (subst (λ (k : ℕ). HasKind rows (9, k) (place_of last m)) (sym (names-count fields) ∙ same) kind)
-    by Node.null is h kind = absurd (false≢true h)
-    by Node.boolean is h kind = absurd (false≢true h)
-    by Node.int is h kind = absurd (false≢true h)
-    by Node.long is h kind = absurd (false≢true h)
-    by Node.bytes is h kind = absurd (false≢true h)
-    by Node.string is h kind = absurd (false≢true h)
-    by (Node.array t) is h kind = absurd (false≢true h)
-    by (Node.union ids) is h kind = absurd (false≢true h)
-    by (Node.enum name aliases symbols default) is h kind = absurd (false≢true h)
-    by (Node.fixed name aliases count) is h kind = absurd (false≢true h)
+    by _ is h kind = absurd (false≢true h)

@@ -1,8 +1,9 @@
 -- The marks of JSON as those of its parts are kept.
-use Rattle.std.proofs.Common.{◌≡◌, ℕ, zero, suc, Bool, true, false, cond, List, [], ◌∷◌, ◌++◌, length, nat_lt, Option, Some, None, get_or, refl, sym, ap, subst, ◌∙◌, ◌<◌, ◌⊎◌, inl, inr, arith}
+use Rattle.std.proofs.Common.{◌≡◌, ℕ, zero, suc, Bool, true, false, cond, List, [], ◌∷◌, ◌++◌, length, nat_lt, Some, None, get_or, refl, sym, ap, subst, ◌∙◌, ◌<◌, ◌⊎◌, inl, inr, arith}
 use Rattle.std.specs.Prelude.{slice_get, bytes_eq, Contains, if◌then◌else◌, Result, Ok, Err, IfOk, OnOk}
 use Rattle.std.specs.Global.{Vec}
 use Rattle.std.specs.BTreeMap.{BTreeMap}
+use Rattle.std.proofs.lemmas.Option.{none-some}
 use Rattle.std.proofs.lemmas.Slice.Eq.{bytes_eq-Decides}
 use denote.Ref.{Bor}
 use Rattle.avro_schema.specs.Node.{Node, node_at}
@@ -25,9 +26,6 @@ use Rattle.avro_schema_json.specs.declared.defaults.parts.Parts.{Parts}
 use Rattle.avro_schema_json.specs.declared.defaults.sets.Sets.{Sets}
 use Rattle.avro_schema_json.specs.declared.defaults.steps.Memo.{Memo}
 use Rattle.avro_schema_json.specs.declared.defaults.tables.Tables.{Tables}
-
-pub none-some : {A : Type 0} (x : A) → None ≡ Some x → ⊥
-none-some x h = cc
 
 -- ---- one mark
 

@@ -5,7 +5,7 @@ use Rattle.std.specs.Global.{Vec}
 use Rattle.std.specs.Int.{bit_at}
 use Rattle.std.specs.Int.RustNames.{bit_or}
 use Rattle.std.specs.Ordering.{nat_cmp, is_eq}
-use Rattle.std.specs.BTreeMap.{BTreeMap, get}
+use Rattle.std.specs.BTreeMap.{BTreeMap}
 use Rattle.std.proofs.lemmas.Bool.Decides.{Decides-eqb}
 use Rattle.std.proofs.lemmas.Map.Lookups.{exact_unsigned}
 use Rattle.std.proofs.lemmas.Nat.Bits.{bit_at_or, bit_at-lt}
@@ -19,11 +19,11 @@ use Rattle.avro_schema.specs.declared.schema.NodeId.{NodeId}
 use Rattle.avro_schema_json.specs.DeclaredSchema.{field_without_default}
 use Rattle.avro_schema_json.specs.inside.Covers.{place_of, own_ids}
 use Rattle.avro_schema_json.specs.inside.OwnDefaults.{fields_seen}
-use Rattle.avro_schema_json.specs.inside.Parents.{Label, HasField, IsPart, has_few, few_or_none, few_under, few_at, few_of, label_of, number_of, HasParent, HasParts, IsField, AreFields, IsParent, KeepsUnder, KeepsParents, KeepsLabels}
+use Rattle.avro_schema_json.specs.inside.Parents.{Label, has_few, few_or_none, few_under, few_at, few_of, label_of, number_of, HasParent, HasParts, IsField, AreFields, IsParent, KeepsUnder, KeepsParents, KeepsLabels}
 use Rattle.avro_schema_json.specs.inside.SeenRaw.{raw_field_of}
 use Rattle.avro_schema_json.specs.declared.defaults.parents.Few.{Few}
 use Rattle.avro_schema_json.specs.declared.raw.RawField.{RawField}
-use Rattle.avro_schema_json.proofs.KindsSeen.{equal, same_number}
+use Rattle.avro_schema_json.proofs.KindsSeen.{equal}
 use Rattle.avro_schema_json.proofs.RepeatsSeen.{id_at}
 
 -- ---- lists that change
@@ -106,7 +106,7 @@ label-kept old new name label fresh put word number at = by (bytes_eq name word)
 
 -- ---- what is kept by a key
 
-module _ {K : Type 0} (same : K → K → Bool) (exact : (a b : K) → same a b ≡ true → a ≡ b) (itself : (a : K) → same a a ≡ true)
+module _ {K : Type 0} (same : K → K → Bool) (exact : (a b : K) → same a b ≡ true → a ≡ b)
     (old mid new : K → Option (Vec Few)) (key : K) (few : Vec Few) (removed : (q : K) → mid q ≡ cond (same key q) None (old q))
     (put : (q : K) → new q ≡ cond (same key q) (Some few) (mid q)) where
   pub kept-put : ((p : ℕ) → has_few (few_or_none (old key)) p → has_few few.items p) → (k : K) (p : ℕ) → has_few (few_or_none (old k)) p → has_few (few_or_none (new k)) p
@@ -122,16 +122,8 @@ module _ {K : Type 0} (same : K → K → Bool) (exact : (a b : K) → same a b 
           let second : mid k ≡ old k = rw e at (removed k) in
           subst (λ (o : Option (Vec Few)). has_few (few_or_none o) p) (sym (first ∙ second)) h
 
-  pub put-there : (p : ℕ) → has_few few.items p → has_few (few_or_none (new key)) p
-  put-there p here =
-      let at : new key ≡ Some few = rw (itself key) at (put key) in
-      subst (λ (o : Option (Vec Few)). has_few (few_or_none o) p) (sym at) here
-
 pub same_key : (a b : ℕ) → is_eq (nat_cmp a b) ≡ true → a ≡ b
 same_key a b h = exact_unsigned a b (equal (nat_cmp a b) h)
-
-pub own_key : (a : ℕ) → is_eq (nat_cmp a a) ≡ true
-own_key a = ap is_eq (same_number a)
 
 -- ---- parents of all places
 
@@ -165,13 +157,6 @@ pub keeps-on : (a b c : List (BTreeMap ℕ (Vec Few))) → KeepsParents a b → 
 keeps-on a b c first second = (second.0 ∙ first.0, λ part number p h. second.1 part number p (first.1 part number p h))
 
 -- ---- nodes
-
-pub last-within : (last m n : ℕ) → last < n → place_of last m < n
-last-within last m n h = by (nat_lt m last) refl
-  where
-    by : (b : Bool) → nat_lt m last ≡ b → place_of last m < n
-    by true e = rw e (grind (arith, e, h))
-    by false e = rw e h
 
 -- one more of some nodes
 pub parts-next : (last i number parent place : ℕ) (ids : List NodeId) (id : NodeId) (old new : List (BTreeMap ℕ (Vec Few))) → i < length ids

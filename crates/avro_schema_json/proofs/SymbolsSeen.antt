@@ -1,5 +1,5 @@
 -- The symbols of an enum, one after another.
-use Rattle.std.proofs.Common.{◌≡◌, ℕ, zero, suc, ◌+◌, ◌<◌, ◌≤◌, Bool, true, false, List, [], ◌∷◌, length, get_or, Option, Some, None, refl, sym, ap, subst, ◌∙◌, arith, nat_lt}
+use Rattle.std.proofs.Common.{◌≡◌, ℕ, zero, suc, ◌+◌, ◌<◌, ◌≤◌, Bool, true, false, List, [], ◌∷◌, length, get_or, Some, refl, sym, ap, subst, ◌∙◌, arith, nat_lt}
 use Rattle.std.specs.Prelude.{String, slice_get, is_some, bytes_eq, option_map, string_bytes}
 use Rattle.std.specs.declared.alloc.Global.{Global}
 use Rattle.std.proofs.lemmas.Bool.{false≢true}
@@ -7,10 +7,7 @@ use Rattle.std.proofs.lemmas.Option.{same_Some, slice_get_within}
 use Rattle.std.proofs.lemmas.Slice.Eq.{bytes_eq-Decides}
 use Rattle.avro_schema.specs.Seen.{texts_of}
 use Rattle.avro_schema_json.specs.DeclaredAttributes.{symbol_index}
-
-some_mapped : {A B : Type 0} (f : A → B) (o : Option A) → is_some (option_map f o) ≡ is_some o
-some_mapped f None = refl
-some_mapped f (Some x) = refl
+use Rattle.avro_schema_json.proofs.CoversSeen.{mapped}
 
 -- a symbol is one of the symbols
 symbol-at : (word : List ℕ) (symbols : List (List ℕ)) → is_some (symbol_index word symbols) ≡ true → (k : ℕ) × (slice_get symbols k ≡ Some word)
@@ -22,7 +19,7 @@ symbol-at word (symbol ∷ symbols) h = by (bytes_eq word symbol) refl (λ later
     by true e others = (0, ap Some (sym ((bytes_eq-Decides word symbol).0 e)))
     by false e others =
         let later : is_some (option_map suc (symbol_index word symbols)) ≡ true = rw e at h in
-        let found = others (sym (some_mapped suc (symbol_index word symbols)) ∙ later) in
+        let found = others (sym (mapped suc (symbol_index word symbols)) ∙ later) in
         (suc found.0, found.1)
 
 -- what is so of each word before one

@@ -11,6 +11,7 @@ use Rattle.std.specs.Ordering.{nat_cmp, is_eq}
 use Rattle.std.specs.BTreeMap.{BTreeMap}
 use Rattle.std.proofs.lemmas.Bool.{false≢true}
 use Rattle.std.proofs.lemmas.Bool.Decides.{Decides-eqb}
+use Rattle.std.proofs.lemmas.Option.{none-some}
 use Rattle.avro_schema.specs.Node.{Node, node_at, branches_of}
 use Rattle.avro_schema.specs.Seen.{ids_of}
 use Rattle.avro_schema.specs.Value.{Value}
@@ -23,7 +24,7 @@ use Rattle.serde_json.proofs.Views.{Entry, member_here, member_later}
 use Rattle.avro_schema_json.specs.DeclaredDefaults.{first_fit}
 use Rattle.avro_schema_json.specs.inside.Covers.{place_of, Covers}
 use Rattle.avro_schema_json.specs.inside.Kinds.{pair_cmp}
-use Rattle.avro_schema_json.specs.inside.Marks.{IsSetOf, IsMarked, plain, whole, mark_of}
+use Rattle.avro_schema_json.specs.inside.Marks.{IsSetOf, plain, whole, mark_of}
 use Rattle.avro_schema_json.specs.inside.OwnDefaults.{own_default}
 use Rattle.avro_schema_json.specs.inside.Rows.{has_place}
 use Rattle.avro_schema_json.specs.inside.Sets.{row_at}
@@ -33,7 +34,7 @@ use Rattle.avro_schema_json.specs.declared.defaults.parts.Parts.{Parts}
 use Rattle.avro_schema_json.specs.declared.defaults.walk.Walk.{Walk}
 use Rattle.avro_schema_json.proofs.DefaultsSeen.{branch_next}
 use Rattle.avro_schema_json.proofs.KindsSeen.{same_pair}
-use Rattle.avro_schema_json.proofs.MarksSeen.{none-some, marked-set}
+use Rattle.avro_schema_json.proofs.MarksSeen.{marked-set}
 
 -- ---- parts
 

@@ -14,7 +14,7 @@ ghost use Rattle.avro_schema_json.specs.inside.Repeats.{AreNamesDistinct};
 ghost use Rattle.avro_schema_json.specs.inside.Tables.{AreTables};
 ghost use Rattle.avro_schema_json.specs.inside.OwnDefaults.{all_without_defaults};
 ghost use Rattle.avro_schema_json.specs.inside.SeenDefaults.{data_seen, lists_seen, defaults_of_node as node_defaults_by, first_or, others_of, fields_with_defaults, node_with_defaults, nodes_with_defaults};
-ghost use Rattle.avro_schema_json.specs.inside.SeenRaw.{raw_field_of, raw_fields_of, raw_record_of, raw_node_of, raw_nodes_of};
+ghost use Rattle.avro_schema_json.specs.inside.SeenRaw.{raw_field_of, raw_fields_of, raw_node_of, raw_nodes_of};
 ghost use Rattle.avro_schema_json.specs.declared.error.SchemaError.TheVariants.{InvalidDefault, OutOfMemory};
 
 use crate::defaults::tables::{Tables, tables_of};
@@ -104,29 +104,14 @@ fn defaults_of_node(
     }
 }
 
-/// Whether tables help to read JSON: a text, or what has parts.
-fn needs_tables(tree: &Value) -> bool {
-    match tree {
-        Value::String(_) => true,
-        Value::Array(items) => items.len() > 0,
-        Value::Object(members) => members.len() > 0,
+/// Whether tables help to read the default of a field: a text, or what has parts.
+fn is_helped(field: &RawField) -> bool {
+    match field.default {
+        Some(Value::String(_)) => true,
+        Some(Value::Array(items)) => items.len() > 0,
+        Some(Value::Object(members)) => members.len() > 0,
         _ => false,
     }
-}
-
-/// Whether they help to read a default of a record.
-fn has_such_default(fields: &[RawField]) -> bool {
-    for field in fields {
-        match field.default {
-            Some(tree) => {
-                if needs_tables(tree) {
-                    return true;
-                }
-            }
-            None => {}
-        }
-    }
-    false
 }
 
 /// The tables of nodes, if they help to read a default.
@@ -137,7 +122,7 @@ fn tables_for<'a>(alloc: Global, raws: &'a [RawNode<'_>]) -> Result<Option<Table
     for raw in raws {
         match raw {
             RawNode::Record(record) => {
-                if has_such_default(&record.fields) {
+                if record.fields.iter().any(|field| is_helped(field)) {
                     return Ok(Some(tables_of(alloc, raws)?));
                 }
             }
@@ -224,27 +209,6 @@ fn complete_fields(
     Ok(completed)
 }
 
-/// The record with these defaults.
-fn complete_record(
-    alloc: Global,
-    raw: RawRecord<'_>,
-    defaults: Vec<Option<Datum>>,
-) -> Result<Node, Memory>
-    ensures { IfOk result (λ node. node_of node ≡ node_with_defaults (raw_record_of raw.entry) (data_seen defaults.items)) }
-{
-    let RawRecord {
-        name,
-        aliases,
-        fields,
-    } = raw;
-    let fields = complete_fields(alloc, fields, defaults)?;
-    Ok(Node::Record(RecordNode {
-        name,
-        aliases,
-        fields,
-    }))
-}
-
 /// The node with these defaults.
 fn complete_node(
     alloc: Global,
@@ -263,7 +227,20 @@ fn complete_node(
         RawNode::Array(items) => Ok(Node::Array(items)),
         RawNode::Map(values) => Ok(Node::Map(values)),
         RawNode::Union(branches) => Ok(Node::Union(branches)),
-        RawNode::Record(record) => complete_record(alloc, record, defaults),
+        RawNode::Record(
+            RawRecord {
+                name,
+                aliases,
+                fields,
+            },
+        ) => {
+            let fields = complete_fields(alloc, fields, defaults)?;
+            Ok(Node::Record(RecordNode {
+                name,
+                aliases,
+                fields,
+            }))
+        }
         RawNode::Enum(RawEnum { node, indices: _ }) => Ok(Node::Enum(node)),
         RawNode::Fixed(node) => Ok(Node::Fixed(node)),
     }

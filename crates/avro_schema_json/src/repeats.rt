@@ -6,9 +6,8 @@ ghost use Rattle.std.specs.Prelude.{◌≡◌, ◌⊎◌, ℕ, false, true, IfOk
 ghost use Rattle.std.specs.Ordering.{nat_cmp};
 ghost use Rattle.std.specs.BTreeSet.{contains};
 ghost use Rattle.avro_schema.specs.Seen.{ids_of};
-ghost use Rattle.avro_schema.specs.WellFormed.{branch_kind};
 ghost use Rattle.avro_schema_json.specs.inside.OwnDefaults.{all_without_defaults, fields_seen, without_defaults};
-ghost use Rattle.avro_schema_json.specs.inside.Repeats.{AreFieldsDistinct, AreNamesDistinct, HasDistinctNames, RecordRepeatsName, Repeats, RepeatsName, SomeRepeats, SomeRepeatsName, code_by, kind_code};
+ghost use Rattle.avro_schema_json.specs.inside.Repeats.{AreFieldsDistinct, AreNamesDistinct, HasDistinctNames, RecordRepeatsName, Repeats, RepeatsName, SomeRepeats, SomeRepeatsName, code_by};
 
 use crate::raw::{RawField, RawNode};
 use crate::raw_nodes::{are_edges, branches, raw_at};
@@ -20,29 +19,21 @@ use std::collections::{BTreeMap, BTreeSet};
 fn code_of(raws: &[RawNode], branch: NodeId) -> u64
     ensures { result ≡ code_by (all_without_defaults raws.now) branch.0 }
 {
-    match raw_at(raws, branch) {
-        Some(raw) => code_of_node(raw, branch),
+    let odd = u64::from(branch.0) * 2 + 1;
+    match raw_at(&*raws, branch) {
         None => 0,
-    }
-}
-
-/// The code of a branch by its node.
-fn code_of_node(raw: &RawNode, branch: NodeId) -> u64
-    ensures { result ≡ kind_code branch.0 (branch_kind (without_defaults raw.now)) }
-{
-    match raw {
-        RawNode::Null => 0,
-        RawNode::Boolean => 2,
-        RawNode::Int => 4,
-        RawNode::Long => 6,
-        RawNode::Bytes => 8,
-        RawNode::Str => 10,
-        RawNode::Array(_) => 12,
-        RawNode::Map(_) => 14,
-        RawNode::Union(_) => u64::from(branch.0) * 2 + 1,
-        RawNode::Record(_) => u64::from(branch.0) * 2 + 1,
-        RawNode::Enum(_) => u64::from(branch.0) * 2 + 1,
-        RawNode::Fixed(_) => u64::from(branch.0) * 2 + 1,
+        Some(RawNode::Null) => 0,
+        Some(RawNode::Boolean) => 2,
+        Some(RawNode::Int) => 4,
+        Some(RawNode::Long) => 6,
+        Some(RawNode::Bytes) => 8,
+        Some(RawNode::Str) => 10,
+        Some(RawNode::Array(_)) => 12,
+        Some(RawNode::Map(_)) => 14,
+        Some(RawNode::Union(_)) => odd,
+        Some(RawNode::Record(_)) => odd,
+        Some(RawNode::Enum(_)) => odd,
+        Some(RawNode::Fixed(_)) => odd,
     }
 }
 

@@ -1,13 +1,6 @@
 -- Tables of all nodes: what they say.
-use Rattle.std.specs.Prelude.{◌≡◌, ℕ, ◌<◌, true, List, [], map, Option, Some, None, is_some, bytes_eq, slice_get, Contains}
-use Rattle.std.specs.List.{IsDistinct}
-use Rattle.std.specs.Ordering.{nat_cmp}
-use Rattle.std.specs.Cmp.Lexicographic.{slice_cmp}
-use Rattle.std.specs.BTreeMap.{BTreeMap, get_by}
-use Rattle.std.specs.Global.{Vec}
-use denote.Ref.{Bor}
-use Rattle.avro_schema.specs.Node.{Node, FieldNode, node_at}
-use Rattle.avro_schema_json.specs.inside.Covers.{place_of}
+use Rattle.std.specs.Prelude.{◌<◌, List}
+use Rattle.avro_schema.specs.Node.{Node}
 use Rattle.avro_schema_json.specs.inside.Kinds.{AreKinds}
 use Rattle.avro_schema_json.specs.inside.Repeats.{AreNamesDistinct}
 use Rattle.avro_schema_json.specs.inside.Parents.{AreParents}

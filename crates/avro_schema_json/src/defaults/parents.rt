@@ -1,5 +1,5 @@
-//! Under which labels a node is a part of which nodes, its parents: as items of arrays, as values of maps, or as fields of
-//! a name, also as a branch of a union there.
+//! Under which labels a node is a part of which nodes, its parents: as items of arrays, as values of maps, or as
+//! fields of a name, also as a branch of a union there. A text that is a symbol has its enums as parents.
 
 ghost use Rattle.std.specs.Prelude.{◌≡◌, ◌<◌, ◌*◌, ◌+◌, ℕ, cond, true, None, OnOk};
 ghost use Rattle.std.specs.BTreeMap.{get};

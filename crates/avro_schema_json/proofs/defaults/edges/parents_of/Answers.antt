@@ -1,6 +1,5 @@
-use Rattle.std.proofs.Common.{ℕ, ◌+◌, subst, ◌∙◌}
+use Rattle.std.proofs.Common.{◌+◌, subst, ◌∙◌}
 use Rattle.std.proofs.lemmas.Bool.{false≢true}
-use Rattle.avro_schema.specs.Node.{Node}
 use Rattle.avro_schema_json.specs.inside.Covers.{place_of}
 use Rattle.avro_schema_json.specs.inside.OwnDefaults.{all_without_defaults, without_defaults}
 use Rattle.avro_schema_json.specs.inside.Parents.{Label, IsParent}

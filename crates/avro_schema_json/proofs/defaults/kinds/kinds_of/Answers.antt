@@ -1,4 +1,4 @@
-use Rattle.std.proofs.Common.{ℕ, ◌≤◌, arith, sym, subst}
+use Rattle.std.proofs.Common.{arith, sym, subst}
 use Rattle.avro_schema_json.specs.inside.Covers.{place_of}
 use Rattle.avro_schema_json.specs.inside.Kinds.{HasKind, kind_of}
 use Rattle.avro_schema_json.proofs.KindsSeen.{past_last}

@@ -1,8 +1,8 @@
-use Rattle.std.proofs.Common.{◌≡◌, ℕ, true, List, Some, refl, sym, subst}
+use Rattle.std.proofs.Common.{ℕ, List, refl, sym, subst}
 use Rattle.std.specs.Global.{Vec}
 use Rattle.std.specs.BTreeMap.{BTreeMap}
 use Rattle.avro_schema_json.specs.inside.Parents.{Label}
-use Rattle.avro_schema_json.specs.inside.Rows.{has_place, IsWithin}
+use Rattle.avro_schema_json.specs.inside.Rows.{IsWithin}
 use Rattle.avro_schema_json.specs.inside.Steps.{LeadsTo}
 use Rattle.avro_schema_json.specs.declared.defaults.parents.Few.{Few}
 use Rattle.avro_schema_json.proofs.CoversSeen.{object-covered}

@@ -1,6 +1,5 @@
-use Rattle.std.proofs.Common.{◌≡◌, List, ℕ, sym, subst}
+use Rattle.std.proofs.Common.{List, ℕ, sym, subst}
 use Rattle.avro_schema.specs.Seen.{ids_of}
-use Rattle.avro_schema_json.specs.inside.Sets.{row_at}
 use Rattle.avro_schema_json.specs.inside.Walk.{HasNoneBefore}
 use Rattle.avro_schema_json.proofs.WalkSeen.{one-more}
 use Rattle.avro_schema_json.proofs.defaults.walk.first_of_set.Goals as goal
