@@ -1,6 +1,6 @@
 -- Names by number: texts that are numbered, and sets of numbers.
 use Rattle.std.proofs.Common.{◌≡◌, ℕ, ◌+◌, ◌<◌, ◌≤◌, Bool, true, false, ◌&&◌, ◌||◌, ◌==◌, cond, List, [], ◌∷◌, length, Option, Some, None, drop, refl, sym, ap, subst, ◌∙◌}
-use Rattle.std.specs.Prelude.{bytes_eq, is_some, slice_get, slice_index_or}
+use Rattle.std.specs.Prelude.{bytes_eq, slice_get, slice_index_or}
 use Rattle.std.specs.List.{list_any}
 use Rattle.std.specs.Option.{IfSome}
 use Rattle.std.specs.Cmp.{both_tied, both_ways, unsigned_ties}
@@ -100,25 +100,11 @@ pub told : (writer : List Node) (table : NameTable) (items : List (Option NameKe
 told writer table items w None got are = tt
 told writer table items w (Some key) got are = sym (are w (Some key) got)
 
--- ---- A set of numbers, as a name is added
+-- ---- A table of branches, as a name is added
 
 pub same_key : (a b : NameKey) → is_eq (key_cmp a b) ≡ (a.0 == b.0 && a.1 == b.1)
 same_key a b = sym (both_tied (a.0 == b.0) (a.1 == b.1) (nat_cmp a.0 b.0) (nat_cmp a.1 b.1) (unsigned_ties a.0 b.0) (unsigned_ties a.1 b.1))
 
--- a name is put into a set by its numbers, if it has some
-put_or : (same : Bool) (old : Option (Unit {0})) → is_some (cond same (Some tt) old) ≡ (same || is_some old)
-put_or true old = refl
-put_or false old = refl
-
-pub full_put : (found : Option NameKey) (f key : NameKey) (old new : Option (Unit {0})) → found ≡ Some f → new ≡ cond (is_eq (key_cmp f key)) (Some tt) old
-    → is_some new ≡ (is_full key found || is_some old)
-full_put found f key old new is put =
-    ap is_some put ∙ put_or (is_eq (key_cmp f key)) old ∙ ap (λ same. same || is_some old) (same_key f key ∙ ap (is_full key) (sym is))
-
-pub full_none : (found : Option NameKey) (key : NameKey) (old : Option (Unit {0})) → found ≡ None → is_some old ≡ (is_full key found || is_some old)
-full_none found key old is = ap (λ f. is_full key f || is_some old) (sym is)
-
--- the same in a table of branches
 pub branch_put : (found : Option ℕ) (j kind branch : ℕ) (key : NameKey) (old new : Option ℕ) → found ≡ Some j → new ≡ cond (is_eq (key_cmp (kind, j) key)) (Some branch) old
     → new ≡ cond (kind == key.0 && is_number key.1 found) (Some branch) old
 branch_put found j kind branch key old new is put =

@@ -1,5 +1,5 @@
 -- Tables of some nodes, as one is found and one is added.
-use Rattle.std.proofs.Common.{◌≡◌, ℕ, List, [], ◌∷◌, ◌++◌, length, Option, Some, None, refl, subst, sym}
+use Rattle.std.proofs.Common.{◌≡◌, ℕ, List, length, Option, Some, None, refl, subst, sym}
 use Rattle.std.specs.Prelude.{slice_get}
 use Rattle.std.specs.BTreeMap.{BTreeMap}
 use Rattle.std.specs.Option.{IfSome}
@@ -10,7 +10,7 @@ use Rattle.avro_compare.specs.Planned.{FindsSymbols}
 use Rattle.avro_compare.specs.Resolve.{fields_at}
 use Rattle.avro_compare.specs.inside.AliasTables.{AliasTable, AreAliasTables, FindsAliases, HasAliasTable}
 use Rattle.avro_compare.specs.inside.ByNode.{HasTable, EachTable, with_table}
-use Rattle.avro_compare.proofs.public.Planning.{holds_push, same_some}
+use Rattle.avro_compare.proofs.public.Planning.{holds_push}
 
 pub table_is : {T : Type 0} (is : ℕ → T → Type 0) (tables : List (NodeId × T)) (id : ℕ) (t : T) → EachTable is tables → HasTable tables id t → is id t
 table_is {T = T} is tables id t each found =
@@ -29,8 +29,3 @@ module _ (reader : List Node) (id : NodeId) (index : ℕ) (first : BTreeMap (Bor
       let kept = found.1 in
       let here : FindsAliases reader kept.0.0.0 kept.0.1 first = subst (λ (t : BTreeMap (Bor (List ℕ)) ℕ). FindsAliases reader kept.0.0.0 kept.0.1 t) found.5 (each found.0 kept found.2) in
       subst (λ (i : ℕ). FindsAliases reader id.0 i first) found.4 (subst (λ (j : ℕ). FindsAliases reader j kept.0.1 first) found.3 here) f there
-
-  pub aliases_more : (old new : List AliasTable) → new ≡ old ++ ((id, index), first) ∷ [] → FindsSymbols f.aliases first → AreAliasTables reader old → AreAliasTables reader new
-  aliases_more old new pushed finds each =
-      (holds_push (λ k kept. FindsAliases reader kept.0.0.0 kept.0.1 kept.1) old new ((id, index), first) (length old) pushed (each, refl)
-      (λ g is. subst (λ (h : FieldNode). FindsSymbols h.aliases first) (same_some there is) finds)).0

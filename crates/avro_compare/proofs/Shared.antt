@@ -6,7 +6,7 @@ use Rattle.std.proofs.lemmas.Option.{slice_get-get_or}
 use Rattle.avro_schema.specs.Node.{FieldNode, field_ids}
 use Rattle.avro_compare.specs.Entries.{AreAscending, entry_at}
 use Rattle.avro_compare.specs.inside.Listed.{AreListedFor, AreListedSources, listed_source, shared_part}
-use Rattle.avro_compare.specs.Pairs.{field_for, part_to}
+use Rattle.avro_compare.specs.Pairs.{part_to}
 use Rattle.avro_compare.specs.Planned.{AreFor, AreSources, part_or_none}
 use Rattle.avro_compare.specs.Source.{source_of}
 use Rattle.avro_compare.specs.declared.guided.At.{At}
@@ -66,8 +66,3 @@ fields_kept ws rs parts kept each all h = (
       ∙ sym (ap (part_to (unwrap_or (slice_get (field_ids ws) k) 0)) (past_all ws rs k (omega (arith, far, all)))))
       (cases_lt k (length parts)),
 )
-
-pub no_fields_kept : (ws rs : List FieldNode) (kept : List (ℕ × At)) → rs ≡ [] → kept ≡ [] → AreFor ws rs kept
-no_fields_kept ws rs kept none empty =
-    subst (λ (ps : List (ℕ × At)). AreFor ws rs ps) (sym empty)
-    (subst (λ (fs : List FieldNode). AreFor ws fs []) (sym none) (tt, λ k low. refl))

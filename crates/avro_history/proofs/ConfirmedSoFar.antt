@@ -1,7 +1,6 @@
 -- What was confirmed of the first of several writers' schemas.
-use Rattle.std.proofs.Common.{◌≡◌, ℕ, suc, ◌+◌, ◌<◌, ◌≤◌, Bool, true, false, Option, Some, List, [], ◌∷◌, ◌++◌, length, get_or, drop, map, refl, sym, ap, ◌∙◌, subst, arith, append_assoc, append-nil}
-use Rattle.std.proofs.Math.ListN.{drop_of_length-le}
-use Rattle.std.proofs.lemmas.Bool.{and_left, and_right}
+use Rattle.std.proofs.Common.{◌≡◌, ℕ, suc, ◌+◌, ◌<◌, true, false, Option, Some, List, [], ◌∷◌, ◌++◌, length, get_or, drop, map, refl, sym, ap, ◌∙◌, subst, append_assoc}
+use Rattle.std.proofs.lemmas.Bool.{and_right}
 use Rattle.std.specs.Prelude.{◌&&◌}
 use Rattle.std.specs.Option.{IfSome}
 use Rattle.std.specs.List.{AllByRecursion}
@@ -63,27 +62,3 @@ module _ (writers : List Schema) (reader : Schema) (certificates : List Certific
       approved = append_assoc approvals ((writer, reader) ∷ []) (beside reader (drop (i + 1) writers))
           ∙ ap (λ (l : List Schema). approvals ++ beside reader l) (sym (from_index writers i writer in_writers writer_at)) ∙ before.approved;
     }
-
-    pub refused_one : is_closed (schema_nodes writer) (schema_nodes reader) (dead_of certificate) (pairs_in certificate) ≡ false
-        → are_closed (nodes_of_all writers) (schema_nodes reader) (map set_of certificates) ≡ false
-    refused_one is = sym before.closed ∙ left_is
-        ∙ and_left (is_closed (schema_nodes writer) (schema_nodes reader) (dead_of certificate) (pairs_in certificate))
-        (are_closed (nodes_of_all (drop (i + 1) writers)) (schema_nodes reader) (map set_of (drop (i + 1) certificates))) is
-
-  module _ (past : length writers ≤ i) (even : length writers ≡ length certificates) where
-    no_writers : drop i writers ≡ []
-    no_writers = drop_of_length-le writers past
-
-    no_certificates : drop i certificates ≡ []
-    no_certificates = drop_of_length-le certificates (omega (arith, past, even))
-
-    pub all_closed : are_closed (nodes_of_all writers) (schema_nodes reader) (map set_of certificates) ≡ true
-    all_closed = sym before.closed
-        ∙ ap (λ (l : List Schema). are_closed (nodes_of_all l) (schema_nodes reader) (map set_of (drop i certificates))) no_writers
-        ∙ ap (λ (l : List Certificate). are_closed [] (schema_nodes reader) (map set_of l)) no_certificates
-
-    pub all_compatible : AllByRecursion (λ writer. AreCompatible writer (schema_nodes reader)) (nodes_of_all writers)
-    all_compatible = before.compatible (subst (λ (l : List Schema). AllByRecursion (λ w. AreCompatible w (schema_nodes reader)) (nodes_of_all l)) (sym no_writers) tt)
-
-    pub all_approved : approvals ≡ beside reader writers
-    all_approved = sym (append-nil approvals) ∙ ap (λ (l : List Schema). approvals ++ beside reader l) (sym no_writers) ∙ before.approved

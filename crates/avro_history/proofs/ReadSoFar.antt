@@ -7,7 +7,7 @@ use Rattle.std.specs.List.{list_all}
 use Rattle.avro_compare.specs.Children.{Pair}
 use Rattle.avro_certificate.specs.CertificateText.{CertText, are_small}
 use Rattle.avro_history.specs.HistoryText.{Sets, sets_text, do_rise, has_small, all_small}
-use Rattle.avro_history.specs.inside.CertificatesRead.{lines_of, AreLines, HasGreatLines}
+use Rattle.avro_history.specs.inside.CertificatesRead.{lines_of, AreLines}
 
 sets_path : (s t : Sets) → s.dead ≡ t.dead → s.pairs ≡ t.pairs → s ≡ t
 sets_path s t a b = λ i. record { dead = a i; pairs = b i }
@@ -171,9 +171,3 @@ module _ (text rest : List ℕ) (kept : List Sets) (great : Bool) (read : ReadSo
   all_kept sets lines h =
       let l = read.left sets lines in
       sym ((l.small h).0 ∙ ap (λ z. kept ++ z) (no_more l.later rest l.lines ends) ∙ append-nil kept)
-
-  pub great_lines : great ≡ true → HasGreatLines text
-  great_lines e = record { sets = read.passed; written = read.front ∙ ap (λ l. flat_map sets_text read.passed ++ l) ends; great = read.over e }
-
-  pub none_great : great ≡ true → (sets : List Sets) → AreLines sets text → all_small sets ≡ true → ⊥
-  none_great e sets lines h = true≢false (sym e ∙ ((read.left sets lines).small h).2)
