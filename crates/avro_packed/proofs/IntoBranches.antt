@@ -1,6 +1,6 @@
 -- What was written of a datum that goes into a branch of a union.
 use Rattle.std.proofs.Common.{◌≡◌, ◌++◌, ℕ, List, Option, Some, None, refl, subst}
-use Rattle.std.specs.Prelude.{Result, Ok, Err, IfOk}
+use Rattle.std.specs.Prelude.{Result, IfOk}
 use Rattle.avro_schema.specs.Value.{Value}
 use Rattle.avro_cursor.specs.Encoding.{plain}
 use Rattle.avro_packed.specs.Appended.{Holds, branch_bytes}

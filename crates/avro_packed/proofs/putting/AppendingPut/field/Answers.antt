@@ -1,6 +1,5 @@
 use Rattle.std.proofs.Common.{◌≡◌, ◌++◌, List, ℕ, subst, rules}
 use Rattle.avro_schema.specs.Seen.{values_from}
-use Rattle.avro_schema.specs.Value.{Value}
 use Rattle.avro_cursor.specs.Encoding.{plain, plain_values}
 use Rattle.avro_packed.specs.Appended.{Holds, branch_bytes}
 use Rattle.avro_packed.proofs.Gathering.{field_behind}
