@@ -52,6 +52,8 @@ mod program;
 #[cfg(test)]
 mod program_copies;
 #[cfg(test)]
+mod reasons;
+#[cfg(test)]
 mod refutations;
 #[cfg(test)]
 mod runs;
@@ -65,6 +67,8 @@ mod sheets;
 mod shown_headers;
 #[cfg(test)]
 mod shown_limits;
+#[cfg(test)]
+mod watched;
 #[cfg(test)]
 mod words;
 #[cfg(test)]

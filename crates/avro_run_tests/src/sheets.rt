@@ -5,7 +5,7 @@ use crate::{
     all_faults, canonical_forms, certificate_files, certificate_texts, checked_blocks,
     checked_headers, containers, defaults, explained, histories, json_faults, json_verdicts,
     judged, judged_ties, kept_files, limit_options, many_checks, modes, one_file, piped,
-    plain_copies, program, program_copies, refutations, schema_command, schema_texts,
+    plain_copies, program, program_copies, reasons, refutations, schema_command, schema_texts,
     shown_headers, shown_limits, words, written_files,
 };
 use std::test::Fail;
@@ -35,8 +35,9 @@ fn commands_are_told(rt: HostRuntime) -> Result<(), Fail> {
 }
 
 /// The sheets of schemas and of all faults of two, and how many runs they have.
-const SCHEMAS: [(&str, usize); 5] = [
+const SCHEMAS: [(&str, usize); 6] = [
     schema_texts::SHEET,
+    reasons::SHEET,
     canonical_forms::SHEET,
     defaults::SHEET,
     explained::SHEET,

@@ -4,7 +4,7 @@ use crate::runs::escapes::{bytes_of, halves};
 use crate::runs::files::file_step;
 use crate::runs::steps::{Sheet, room_step, run_step, usage_step};
 use crate::runs::told::{any_step, json_step, pointer_step, size_step, told_step, writes_step};
-use std::rt::Files;
+use std::rt::{Clock, Files};
 use std::test::Fail;
 
 /// What the program reads in later runs.
@@ -14,7 +14,7 @@ fn input_step<R: AllocGlobal>(rt: &R, sheet: &mut Sheet, text: &str) -> Result<b
 }
 
 /// A run. All that the one before wrote must be told.
-fn next_step<R: Files + AllocGlobal>(
+fn next_step<R: Files + Clock + AllocGlobal>(
     rt: &R,
     sheet: &mut Sheet,
     word: &str,
@@ -32,7 +32,7 @@ fn next_step<R: Files + AllocGlobal>(
 }
 
 /// Takes a step, and tells whether it holds.
-fn step<R: Files + AllocGlobal>(
+fn step<R: Files + Clock + AllocGlobal>(
     rt: &R,
     sheet: &mut Sheet,
     word: &str,
@@ -85,7 +85,7 @@ fn fault(line: &str, sheet: &Sheet) -> Fail {
 /// # Errors
 ///
 /// A line does not hold, a run wrote what no line tells, the number of runs is another one, or memory ran out.
-pub(crate) fn check_sheet<R: Files + AllocGlobal>(
+pub(crate) fn check_sheet<R: Files + Clock + AllocGlobal>(
     rt: &R,
     lines: &str,
     runs: usize,
