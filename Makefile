@@ -86,6 +86,7 @@ robust: $(PROGRAM) $(LIBRARY) ## runs checks/ on the proved program, and compare
 	checks/words.py $(PROGRAM)
 	checks/confirm.py $(PROGRAM)
 	checks/explain.py $(PROGRAM)
+	checks/why.py $(PROGRAM)
 	checks/tamed.py $(PROGRAM)
 	checks/bindings.py $(PROGRAM) $(LIBRARY)
 	$(if $(OLD),checks/compare.py $(OLD) $(PROGRAM))

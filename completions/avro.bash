@@ -6,11 +6,11 @@ _avro_options() {
         explain) echo --max-pairs --json --help ;;
         confirm) echo --json --help ;;
         history) echo --certificates --confirm --mode --next --max-pairs --max-size --max-depth --json --help ;;
-        schema) echo --canonical --fingerprint --help ;;
-        check) echo --json --help ;;
+        schema) echo --canonical --fingerprint --why --help ;;
+        check) echo --json --progress --help ;;
         show) echo --reader --limit --help ;;
-        copy) echo --reader --sync --help ;;
-        pipe) echo --reader --sync --counts --help ;;
+        copy) echo --reader --sync --progress --help ;;
+        pipe) echo --reader --sync --counts --progress --help ;;
         header) echo --metadata --help ;;
         *) echo --version --help ;;
     esac

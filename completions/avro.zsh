@@ -52,18 +52,19 @@ _avro() {
                 '--help[print the usage]' '*:SCHEMA:_files' ;;
         schema)
             _arguments '--canonical[print the canonical form]' '--fingerprint[print the fingerprint]' \
-                '--help[print the usage]' ':FILE:_files' ;;
+                '--why[tell where and why a text is refused]' '--help[print the usage]' ':FILE:_files' ;;
         check)
-            _arguments '--json[print lines of JSON]' '--help[print the usage]' '*:FILE:_files' ;;
+            _arguments '--json[print lines of JSON]' '--progress[tell how far it is]' '--help[print the usage]' \
+                '*:FILE:_files' ;;
         show)
             _arguments '--reader[resolve the data to a schema]:SCHEMA:_files' '--limit[stop after a number of lines]:N: ' \
                 '--help[print the usage]' ':FILE:_files' ;;
         copy)
             _arguments '--reader[resolve the data to a schema]:SCHEMA:_files' '--sync[use this sync marker]:HEX32: ' \
-                '--help[print the usage]' ':IN:_files' ':OUT:_files' ;;
+                '--progress[tell how far it is]' '--help[print the usage]' ':IN:_files' ':OUT:_files' ;;
         pipe)
             _arguments '--reader[resolve the data to a schema]:SCHEMA:_files' '--sync[use this sync marker]:HEX32: ' \
-                '--counts[print the numbers of data and blocks]' '--help[print the usage]' ;;
+                '--counts[print the numbers of data and blocks]' '--progress[tell how far it is]' '--help[print the usage]' ;;
         header)
             _arguments '--metadata[print all metadata as JSON]' '--help[print the usage]' ':FILE:_files' ;;
         help)

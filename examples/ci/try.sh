@@ -108,7 +108,7 @@ try_check() {
 
 try_faults() {
   echo '"double"' > new.avsc
-  expect 3 'new.avsc: avro: ./new.avsc: S10' avro-breaking
+  expect 3 $'new.avsc: avro: ./new.avsc: S10\n    ./new.avsc:1:1: /: double is not supported' avro-breaking
   rm new.avsc
   git mv schemas/'of the shop'/order.avsc order.avsc
   expect 1 'schemas/of the shop/order.avsc: v2: gone' avro-breaking
@@ -214,7 +214,8 @@ lay_order() { # TYPE-OF-MONEY TYPE-OF-CURRENCY
 try_bundle() {
   repository bundle
   lay_order long Currency
-  expect 3 'order [1].avsc: avro: ./order [1].avsc: S2' avro-breaking
+  local place='./order [1].avsc:1:89: /fields/0/type' missing='no type com.acme.Money is defined before this'
+  expect 3 $'order [1].avsc: avro: ./order [1].avsc: S2\n    '"$place: $missing" avro-breaking
   expect 0 'no tag yet' avro-breaking --bundle
   commit 'an order' v1
   expect 0 '' avro-breaking --bundle
@@ -332,6 +333,7 @@ try_planted() {
     fi
   done << 'END'
 try_faults_told	s/tail -n +2/tail -n +3/
+try_bundle	s/ --why//
 try_faults_told	s/explain "${@:2}"/explain "$3" "$2"/
 try_start	s/-is-shallow-repository)" = true/&?/
 try_start	s/\[ -n "$(git tag)" ]/false/

@@ -3,9 +3,11 @@
 use crate::escapes::{bytes_of, halves};
 use crate::files::file_step;
 use crate::steps::{Sheet, room_step, run_step, usage_step};
-use crate::told::{any_step, json_step, pointer_step, size_step, told_step, writes_step};
+use crate::told::{
+    about_step, any_step, json_step, pointer_step, size_step, told_step, writes_step,
+};
 use anyhow::{Error, Result, anyhow};
-use std::rt::Files;
+use std::rt::{Clock, Files};
 
 /// What the program reads in later runs.
 fn input_step<R: AllocGlobal>(rt: &R, sheet: &mut Sheet, text: &str) -> Result<bool> {
@@ -14,7 +16,7 @@ fn input_step<R: AllocGlobal>(rt: &R, sheet: &mut Sheet, text: &str) -> Result<b
 }
 
 /// A run. All that the one before wrote must be told.
-fn next_step<R: Files + AllocGlobal>(
+fn next_step<R: Files + Clock + AllocGlobal>(
     rt: &R,
     sheet: &mut Sheet,
     word: &str,
@@ -32,11 +34,17 @@ fn next_step<R: Files + AllocGlobal>(
 }
 
 /// Takes a step, and tells whether it holds.
-fn step<R: Files + AllocGlobal>(rt: &R, sheet: &mut Sheet, word: &str, text: &str) -> Result<bool> {
+fn step<R: Files + Clock + AllocGlobal>(
+    rt: &R,
+    sheet: &mut Sheet,
+    word: &str,
+    text: &str,
+) -> Result<bool> {
     match word {
         "" | "#" => Ok(true),
         "run" | "room" | "usage" => next_step(rt, sheet, word, text),
         "out" | "err" | "put" => told_step(rt.alloc(), sheet, word, text),
+        "about" => about_step(rt.alloc(), sheet, text),
         "writes" => Ok(writes_step(sheet, text)),
         "size" => Ok(size_step(sheet, text)),
         "any" => Ok(any_step(sheet)),
@@ -68,6 +76,7 @@ fn fault(line: &str, sheet: &Sheet) -> Error {
 /// | `room ROOM STATUS WORDS` | the same, where the output takes only some bytes |
 /// | `usage WORDS` | a run whose words are usage |
 /// | `out TEXT`, `err TEXT` | the next line of its output, or of its errors |
+/// | `about FRONT~BACK` | how the next line of its errors begins and ends |
 /// | `put BYTES`, `size NUMBER` | the next bytes of its output, or only how many there are |
 /// | `any` | its output and its errors are of any bytes |
 /// | `at POINTER TEXT` | a text of its output, which is a JSON value |
@@ -80,7 +89,7 @@ fn fault(line: &str, sheet: &Sheet) -> Error {
 /// # Errors
 ///
 /// A line does not hold, a run wrote what no line tells, or memory ran out.
-pub(crate) fn check_sheet<R: Files + AllocGlobal>(rt: &R, lines: &str) -> Result<usize> {
+pub(crate) fn check_sheet<R: Files + Clock + AllocGlobal>(rt: &R, lines: &str) -> Result<usize> {
     let mut sheet = Sheet::new(rt.alloc());
     for line in lines.lines() {
         let (word, text) = halves(line);

@@ -3,7 +3,7 @@
 use crate::failure::Failure;
 use crate::grammar::{history_command, program};
 use crate::number_options::{limits_in, lines_in, pairs_in};
-use crate::request::{Evidence, Explaining, History, Judging, Mode, Request};
+use crate::request::{Copying, Evidence, Explaining, History, Judging, Mode, Piping, Request};
 use avro_answer::{Form, Shown};
 use avro_judge::JudgeLimits;
 use clap::error::ErrorKind;
@@ -100,6 +100,7 @@ fn plain_request_in<'a>(matches: &ArgMatches<'a>) -> Option<Request<'a>> {
         return Some(Request::Schema {
             file,
             shown: shown_in(schema),
+            is_why: schema.get_flag("why"),
         });
     }
     if let Some(confirm) = matches.subcommand_matches("confirm") {
@@ -126,21 +127,23 @@ fn plain_request_in<'a>(matches: &ArgMatches<'a>) -> Option<Request<'a>> {
 /// The request for a copy, of words that have the form of the program's.
 fn copy_request_in<'a>(matches: &ArgMatches<'a>) -> Option<Request<'a>> {
     if let Some(pipe) = matches.subcommand_matches("pipe") {
-        return Some(Request::Pipe {
+        return Some(Request::Pipe(Piping {
             reader: pipe.get_str("reader"),
             sync: pipe.get_str("sync"),
             is_counted: pipe.get_flag("counts"),
-        });
+            is_watched: pipe.get_flag("progress"),
+        }));
     }
     let copy = matches.subcommand_matches("copy")?;
     let source = copy.get_str("input")?;
     let output = copy.get_str("output")?;
-    Some(Request::Copy {
+    Some(Request::Copy(Copying {
         source,
         output,
         reader: copy.get_str("reader"),
         sync: copy.get_str("sync"),
-    })
+        is_watched: copy.get_flag("progress"),
+    }))
 }
 
 /// The request of the words of a verdict on two schemas.
@@ -185,6 +188,7 @@ fn checking_in<'a>(alloc: Global, check: &ArgMatches<'a>) -> Result<Request<'a>,
     Ok(Request::Check {
         files,
         form: form_in(check),
+        is_watched: check.get_flag("progress"),
     })
 }
 

@@ -64,6 +64,12 @@ const JSON: Argument = (
     "Prints each answer as a line of JSON",
 );
 
+const PROGRESS: Argument = (
+    "progress",
+    Takes::Nothing,
+    "Tells how far it is, on the standard error",
+);
+
 const MAX_PAIRS: Argument = (
     "max-pairs",
     Takes::NumberOr("4194304"),
@@ -155,7 +161,7 @@ const HISTORY: [Argument; 9] = [
     JSON,
 ];
 
-const SCHEMA: [Argument; 3] = [
+const SCHEMA: [Argument; 4] = [
     ("file", Takes::Word("FILE"), "File of the schema"),
     (
         "canonical",
@@ -167,15 +173,21 @@ const SCHEMA: [Argument; 3] = [
         Takes::Nothing,
         "Shows the fingerprint in place of the number of nodes",
     ),
+    (
+        "why",
+        Takes::Nothing,
+        "Tells of a text that is refused where and why, in a line for each place",
+    ),
 ];
 
-const CHECK: [Argument; 2] = [
+const CHECK: [Argument; 3] = [
     (
         "files",
         Takes::Words("FILE"),
         "Files of the containers, each of which is checked",
     ),
     JSON,
+    PROGRESS,
 ];
 
 const SHOW: [Argument; 3] = [
@@ -184,14 +196,15 @@ const SHOW: [Argument; 3] = [
     ("limit", Takes::Number, "Stops after N lines"),
 ];
 
-const COPY: [Argument; 4] = [
+const COPY: [Argument; 5] = [
     ("input", Takes::Word("IN"), "File of the container"),
     ("output", Takes::Word("OUT"), "File that the copy goes into"),
     RESOLVED,
     SYNC,
+    PROGRESS,
 ];
 
-const PIPE: [Argument; 3] = [
+const PIPE: [Argument; 4] = [
     RESOLVED,
     SYNC,
     (
@@ -199,6 +212,7 @@ const PIPE: [Argument; 3] = [
         Takes::Nothing,
         "Tells how many data and blocks there were, on the standard error",
     ),
+    PROGRESS,
 ];
 
 const HEADER: [Argument; 2] = [

@@ -9,6 +9,7 @@ mod files;
 mod grammar;
 mod number_options;
 mod printing;
+mod progress;
 mod request;
 
 use command_line::request_of;
@@ -20,7 +21,7 @@ use request::Request;
 use std::alloc::Global;
 use std::io;
 use std::io::{Read, Write};
-use std::rt::Files;
+use std::rt::{Clock, Files};
 
 /// What a command found, which gives the exit status.
 #[derive(Clone, Copy, PartialEq, Eq)]
@@ -82,7 +83,7 @@ pub fn refuse_words<E: Write>(error: &io::Error, err: &mut E) -> u8 {
 /// Runs the program on its words, without its name, and returns its exit status: 0 good or yes, 1
 /// no, 2 undecided, 3 refused input, 4 a file's fault, 5 out of memory, 64 usage. Answers go to
 /// `out`, errors and usage texts to `err`. Only the command that copies `input` reads it.
-pub fn run<R: Files + AllocGlobal, I: Read, O: Write, E: Write>(
+pub fn run<R: Files + Clock + AllocGlobal, I: Read, O: Write, E: Write>(
     rt: &R,
     words: &[String],
     input: &mut I,
@@ -116,7 +117,7 @@ fn report_memory<E: Write>(err: &mut E) -> u8 {
 }
 
 /// Does what the words ask for.
-fn answer<'a, R: Files + AllocGlobal, I: Read, O: Write, E: Write>(
+fn answer<'a, R: Files + Clock + AllocGlobal, I: Read, O: Write, E: Write>(
     rt: &R,
     words: &'a [String],
     input: &mut I,
@@ -128,7 +129,7 @@ fn answer<'a, R: Files + AllocGlobal, I: Read, O: Write, E: Write>(
 }
 
 /// Does what is asked for.
-fn answer_request<'a, R: Files + AllocGlobal, I: Read, O: Write, E: Write>(
+fn answer_request<'a, R: Files + Clock + AllocGlobal, I: Read, O: Write, E: Write>(
     rt: &R,
     request: &Request<'a>,
     input: &mut I,
@@ -145,24 +146,23 @@ fn answer_request<'a, R: Files + AllocGlobal, I: Read, O: Write, E: Write>(
             form,
         } => confirm::confirm_files(rt, writer, reader, certificate, *form, out),
         Request::History(history) => history::history_of_files(rt, history, out),
-        Request::Schema { file, shown } => schema::show_schema(rt, file, *shown, out),
-        Request::Check { files, form } => Ok(check::check_files(rt, files, *form, out, err)),
+        Request::Schema {
+            file,
+            shown,
+            is_why,
+        } => schema::show_schema(rt, file, *shown, *is_why, out, err),
+        Request::Check {
+            files,
+            form,
+            is_watched,
+        } => Ok(check::check_files(rt, files, *form, *is_watched, out, err)),
         Request::Show {
             file,
             reader,
             limit,
         } => show::show_file(rt, file, *reader, *limit, out),
-        Request::Copy {
-            source,
-            output,
-            reader,
-            sync,
-        } => copy::copy_file(rt, source, output, *reader, *sync, out),
-        Request::Pipe {
-            reader,
-            sync,
-            is_counted,
-        } => pipe::pipe_streams(rt, *reader, *sync, *is_counted, input, out, err),
+        Request::Copy(asked) => copy::copy_file(rt, asked, out, err),
+        Request::Pipe(asked) => pipe::pipe_streams(rt, asked, input, out, err),
         Request::Header { file, is_metadata } => header::show_header(rt, file, *is_metadata, out),
         Request::Version => version::tell_version(rt.alloc(), out),
     }

@@ -19,15 +19,17 @@ pub(crate) enum Request<'a> {
     },
     /// Whether several schemas read each other's data.
     History(History<'a>),
-    /// Whether a text declares a schema, and what is asked of it.
+    /// Whether a text declares a schema, what is asked of it, and whether the places of faults are told.
     Schema {
         file: &'a str,
         shown: Shown,
+        is_why: bool,
     },
     /// Whether containers are valid, and how many data and blocks each has.
     Check {
         files: Vec<&'a str>,
         form: Form,
+        is_watched: bool,
     },
     /// The data of a container, resolved to a reader's schema if there is one, and how many to show at
     /// most.
@@ -36,21 +38,10 @@ pub(crate) enum Request<'a> {
         reader: Option<&'a str>,
         limit: Option<u64>,
     },
-    /// A copy of a container, resolved to a reader's schema if there is one, with the digits of its marker
-    /// if given.
-    Copy {
-        source: &'a str,
-        output: &'a str,
-        reader: Option<&'a str>,
-        sync: Option<&'a str>,
-    },
-    /// The same from standard input to standard output, and whether its numbers of data and blocks are
-    /// reported.
-    Pipe {
-        reader: Option<&'a str>,
-        sync: Option<&'a str>,
-        is_counted: bool,
-    },
+    /// A copy of a container from one file into another.
+    Copy(Copying<'a>),
+    /// A copy of the container on standard input on standard output.
+    Pipe(Piping<'a>),
     /// The schema's text in a container's header, or all of its metadata.
     Header {
         file: &'a str,
@@ -58,6 +49,26 @@ pub(crate) enum Request<'a> {
     },
     /// The version of the program.
     Version,
+}
+
+/// A copy of a container, resolved to a reader's schema if there is one, with the digits of its marker if given, and whether
+/// its progress is reported.
+#[derive(Clone, Copy)]
+pub(crate) struct Copying<'a> {
+    pub(crate) source: &'a str,
+    pub(crate) output: &'a str,
+    pub(crate) reader: Option<&'a str>,
+    pub(crate) sync: Option<&'a str>,
+    pub(crate) is_watched: bool,
+}
+
+/// The same between standard input and standard output, and whether its numbers of data and blocks are reported.
+#[derive(Clone, Copy)]
+pub(crate) struct Piping<'a> {
+    pub(crate) reader: Option<&'a str>,
+    pub(crate) sync: Option<&'a str>,
+    pub(crate) is_counted: bool,
+    pub(crate) is_watched: bool,
 }
 
 /// Two schemas that are judged: a certificate of a yes goes into a file, and so does a refutation of a no.

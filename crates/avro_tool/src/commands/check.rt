@@ -1,5 +1,5 @@
 use crate::failure::Failure;
-use crate::files::container::{open_container, tell_file_counts};
+use crate::files::container::{open_container, open_watched, tell_file_counts};
 use crate::{Finding, report};
 use avro_answer::Form;
 use avro_container::{Blocks, Checker, CopyError, FileLimits, Header};
@@ -7,21 +7,27 @@ use avro_copy::Counts;
 use avro_device::Input;
 use std::alloc::Global;
 use std::io::Write;
-use std::rt::Files;
+use std::rt::{Clock, Files};
 
 /// Reads the containers in files, and prints how many data and blocks each has. If one has a fault, it is
 /// reported and the others are still read; the status is that of the first fault.
-pub(crate) fn check_files<'a, R: Files + AllocGlobal, O: Write, E: Write>(
+pub(crate) fn check_files<'a, R: Files + Clock + AllocGlobal, O: Write, E: Write>(
     rt: &R,
     words: &[&'a str],
     form: Form,
+    is_watched: bool,
     out: &mut O,
     err: &mut E,
 ) -> Finding {
     let is_named = words.len() > 1;
     let mut finding = Finding::Good;
     for word in words {
-        let Err(failure) = check_file(rt, word, is_named, form, out) else {
+        let counts = if is_watched {
+            watch_file(rt, word, err)
+        } else {
+            check_file(rt, word)
+        };
+        let Err(failure) = tell_file(rt.alloc(), word, counts, is_named, form, out) else {
             continue;
         };
         let status = report(rt.alloc(), &failure, err);
@@ -33,18 +39,42 @@ pub(crate) fn check_files<'a, R: Files + AllocGlobal, O: Write, E: Write>(
     finding
 }
 
-/// Reads the container in a file, and prints how many data and blocks it has.
-fn check_file<'a, R: Files + AllocGlobal, O: Write>(
+/// How many data and blocks the container in a file has, each of which is read.
+fn check_file<'a, R: Files + AllocGlobal>(rt: &R, word: &'a str) -> Result<Counts, Failure<'a>> {
+    let mut input = open_container(rt, word)?;
+    match count_data(rt.alloc(), &mut input) {
+        Ok(counts) => Ok(counts),
+        Err(error) => Err(Failure::of_container(word, error)),
+    }
+}
+
+/// The same, and tells how far it is.
+fn watch_file<'a, R: Files + Clock + AllocGlobal, E: Write>(
     rt: &R,
     word: &'a str,
+    err: &mut E,
+) -> Result<Counts, Failure<'a>> {
+    let mut input = open_watched(rt, word, err)?;
+    let counts = count_data(rt.alloc(), &mut input);
+    input.finish();
+    match counts {
+        Ok(counts) => Ok(counts),
+        Err(error) => Err(Failure::of_container(word, error)),
+    }
+}
+
+/// Prints how many data and blocks a container has, if it has no fault.
+fn tell_file<'a, O: Write>(
+    alloc: Global,
+    word: &'a str,
+    counts: Result<Counts, Failure<'a>>,
     is_named: bool,
     form: Form,
     out: &mut O,
 ) -> Result<Finding, Failure<'a>> {
-    let mut input = open_container(rt, word)?;
-    match count_data(rt.alloc(), &mut input) {
-        Ok(counts) => tell_file_counts(rt.alloc(), out, word, is_named, form, counts),
-        Err(error) => Err(Failure::of_container(word, error)),
+    match counts {
+        Ok(counts) => tell_file_counts(alloc, out, word, is_named, form, counts),
+        Err(failure) => Err(failure),
     }
 }
 

@@ -1,9 +1,10 @@
 use crate::Finding;
 use crate::failure::Failure;
-use crate::files::container::{open_container, tell_counts};
+use crate::files::container::{open_container, open_watched, tell_counts};
 use crate::files::kept::{is_one_file, is_output, refuse_read_file, refuse_schema_file};
 use crate::files::late::LateFile;
 use crate::files::schema::read_reader;
+use crate::request::Copying;
 use avro_container::{CopyError, FileLimits};
 use avro_copy::{Counts, copy};
 use avro_device::{Input, WriteOutput};
@@ -11,25 +12,27 @@ use avro_schema_json::ReaderText;
 use hex::FromHex;
 use std::alloc::Global;
 use std::io::Write;
-use std::rt::Files;
+use std::rt::{Clock, Files};
 
 /// Copies the container in a file into another one, and prints how many data and blocks it has. The other
 /// file is created, or truncated, once the header was read.
-pub(crate) fn copy_file<'a, R: Files + AllocGlobal, O: Write>(
+pub(crate) fn copy_file<'a, R: Files + Clock + AllocGlobal, O: Write, E: Write>(
     rt: &R,
-    input: &'a str,
-    output: &'a str,
-    reader: Option<&'a str>,
-    sync: Option<&'a str>,
+    asked: &Copying<'a>,
     out: &mut O,
+    err: &mut E,
 ) -> Result<Finding, Failure<'a>> {
-    if input == output {
+    if asked.source == asked.output {
         return Err(Failure::OneWord);
     }
-    let sync = marker_of(sync)?;
-    refuse_output(rt, input, output, reader)?;
-    let reader = read_reader(rt, reader)?;
-    let counts = copy_for(rt, input, output, reader.as_ref(), sync)?;
+    let sync = marker_of(asked.sync)?;
+    refuse_output(rt, asked.source, asked.output, asked.reader)?;
+    let reader = read_reader(rt, asked.reader)?;
+    let counts = if asked.is_watched {
+        copy_watched(rt, asked, reader.as_ref(), sync, err)?
+    } else {
+        copy_for(rt, asked, reader.as_ref(), sync)?
+    };
     tell_counts(out, counts)
 }
 
@@ -55,29 +58,41 @@ fn refuse_output<'a, R: Files + AllocGlobal>(
 /// Copies the container in a file for a reader's schema, where there is one.
 fn copy_for<'a, R: Files + AllocGlobal>(
     rt: &R,
-    input: &'a str,
-    output: &'a str,
+    asked: &Copying<'a>,
     reader: Option<&ReaderText>,
     sync: Option<[u8; 16]>,
 ) -> Result<Counts, Failure<'a>> {
-    let mut source = open_container(rt, input)?;
-    copy_from(rt, &mut source, input, output, reader, sync)
+    let mut source = open_container(rt, asked.source)?;
+    copy_from(rt, &mut source, asked, reader, sync)
+}
+
+/// The same, and tells how far it is.
+fn copy_watched<'a, R: Files + Clock + AllocGlobal, E: Write>(
+    rt: &R,
+    asked: &Copying<'a>,
+    reader: Option<&ReaderText>,
+    sync: Option<[u8; 16]>,
+    err: &mut E,
+) -> Result<Counts, Failure<'a>> {
+    let mut source = open_watched(rt, asked.source, err)?;
+    let counts = copy_from(rt, &mut source, asked, reader, sync);
+    source.finish();
+    counts
 }
 
 /// Copies a container into a file, which is closed before the counts are told.
 fn copy_from<'a, R: Files + AllocGlobal, I: Input>(
     rt: &R,
     source: &mut I,
-    input: &'a str,
-    output: &'a str,
+    asked: &Copying<'a>,
     reader: Option<&ReaderText>,
     sync: Option<[u8; 16]>,
 ) -> Result<Counts, Failure<'a>> {
-    let mut file = LateFile::new(rt, output);
+    let mut file = LateFile::new(rt, asked.output);
     match copy_into(rt.alloc(), source, &mut file, reader, sync) {
         Ok(counts) => Ok(counts),
         Err(CopyError::OutputFailed) => Err(file.failure()),
-        Err(error) => Err(Failure::of_container(input, error)),
+        Err(error) => Err(Failure::of_container(asked.source, error)),
     }
 }
 

@@ -3,56 +3,50 @@
 use crate::Finding;
 use crate::commands::copy::{copy_into, marker_of};
 use crate::failure::Failure;
-use crate::files::container::{ROOM, print_counts};
+use crate::files::container::{ROOM, length_of, print_counts};
 use crate::files::kept::{STANDARD_INPUT, STANDARD_OUTPUT, is_one_file};
 use crate::files::schema::read_reader;
+use crate::progress::Watched;
+use crate::request::Piping;
 use avro_container::CopyError;
 use avro_copy::Counts;
 use avro_device::{Input, ReadInput};
 use avro_schema_json::ReaderText;
 use std::alloc::Global;
 use std::io::{BufReader, Read, Write};
-use std::rt::Files;
+use std::rt::{Clock, Files};
 
 /// The word for the standard input.
 const INPUT: &str = "-";
 
 /// Copies a container from a reader to a writer, and, if asked for, reports how many data and blocks a whole copy
 /// has.
-pub(crate) fn pipe_streams<'a, R: Files + AllocGlobal, I: Read, O: Write, E: Write>(
+pub(crate) fn pipe_streams<'a, R: Files + Clock + AllocGlobal, I: Read, O: Write, E: Write>(
     rt: &R,
-    reader: Option<&'a str>,
-    sync: Option<&'a str>,
-    is_counted: bool,
+    asked: &Piping<'a>,
     input: &mut I,
     out: &mut O,
     err: &mut E,
 ) -> Result<Finding, Failure<'a>> {
-    let sync = marker_of(sync)?;
+    let sync = marker_of(asked.sync)?;
     if is_one_file(rt, STANDARD_INPUT, STANDARD_OUTPUT)? {
         return Err(Failure::OneFile);
     }
-    let counts = pipe_container(rt, reader, sync, input, out)?;
-    if is_counted {
+    let reader = read_reader(rt, asked.reader)?;
+    let counts = if asked.is_watched {
+        pipe_watched(rt, reader.as_ref(), sync, input, out, err)?
+    } else {
+        pipe_for(rt.alloc(), reader.as_ref(), sync, input, out)?
+    };
+    if asked.is_counted {
         // If standard error fails, the copy is still whole.
         let _ = print_counts(err, counts);
     }
     Ok(Finding::Good)
 }
 
-/// Copies a container from a reader to a writer, and returns how many data and blocks it has.
-fn pipe_container<'a, R: Files + AllocGlobal, I: Read, O: Write>(
-    rt: &R,
-    reader: Option<&'a str>,
-    sync: Option<[u8; 16]>,
-    input: &mut I,
-    out: &mut O,
-) -> Result<Counts, Failure<'a>> {
-    let reader = read_reader(rt, reader)?;
-    pipe_for(rt.alloc(), reader.as_ref(), sync, input, out)
-}
-
-/// The same for a reader's schema, where there is one.
+/// Copies a container from a reader to a writer for a reader's schema, where there is one, and returns how many data and
+/// blocks it has.
 fn pipe_for<'a, I: Read, O: Write>(
     alloc: Global,
     reader: Option<&ReaderText>,
@@ -64,6 +58,25 @@ fn pipe_for<'a, I: Read, O: Write>(
         Ok(input) => pipe_from(alloc, &mut ReadInput::new(input), reader, sync, out),
         Err(_) => Err(Failure::OutOfMemory),
     }
+}
+
+/// The same, and tells how far it is.
+fn pipe_watched<'a, R: Files + Clock + AllocGlobal, I: Read, O: Write, E: Write>(
+    rt: &R,
+    reader: Option<&ReaderText>,
+    sync: Option<[u8; 16]>,
+    input: &mut I,
+    out: &mut O,
+    err: &mut E,
+) -> Result<Counts, Failure<'a>> {
+    let Ok(input) = BufReader::with_capacity(rt.alloc(), ROOM, input) else {
+        return Err(Failure::OutOfMemory);
+    };
+    let length = length_of(rt, STANDARD_INPUT);
+    let mut source = Watched::new(ReadInput::new(input), length, rt, err);
+    let counts = pipe_from(rt.alloc(), &mut source, reader, sync, out);
+    source.finish();
+    counts
 }
 
 /// The same for what is read.

@@ -1,22 +1,36 @@
 use crate::Finding;
 use crate::failure::Failure;
-use crate::files::schema::read_schema_file;
+use crate::files::schema::{MAX_TEXT, bytes_of};
 use crate::printing::print_bytes;
-use avro_answer::Shown;
+use avro_answer::{Shown, schema_refusal};
 use avro_schema::Schema;
-use std::alloc::Global;
+use avro_schema_json::{SchemaError, read_schema};
+use avro_why::{Reason, Reasons, find_reasons};
+use std::alloc::{AllocError, Global};
 use std::io::Write;
 use std::rt::Files;
 
-/// Reads the schema of a file, and prints its number of nodes, its canonical form or its fingerprint.
-pub(crate) fn show_schema<'a, R: Files + AllocGlobal, O: Write>(
+/// The most places of faults that are told.
+const MAX_REASONS: usize = 100;
+
+/// Reads the schema of a file, and prints its number of nodes, its canonical form or its fingerprint. Where it is
+/// refused, and that is asked for, the places of its faults are told.
+pub(crate) fn show_schema<'a, R: Files + AllocGlobal, O: Write, E: Write>(
     rt: &R,
     file: &'a str,
     shown: Shown,
+    is_why: bool,
     out: &mut O,
+    err: &mut E,
 ) -> Result<Finding, Failure<'a>> {
-    let schema = read_schema_file(rt, file)?;
-    tell_schema(rt.alloc(), &schema, shown, out)
+    let text = bytes_of(rt, file, MAX_TEXT)?;
+    match read_schema(rt.alloc(), &text) {
+        Ok(schema) => tell_schema(rt.alloc(), &schema, shown, out),
+        Err(error) if is_why && error != SchemaError::OutOfMemory => {
+            tell_reasons(rt.alloc(), file, &text, error, err)
+        }
+        Err(error) => Err(Failure::of_schema(file, error)),
+    }
 }
 
 /// Prints what is shown of a schema.
@@ -29,4 +43,68 @@ fn tell_schema<'a, O: Write>(
     let line = avro_answer::show_schema(alloc, schema, shown)?;
     print_bytes(out, &line)?;
     Ok(Finding::Good)
+}
+
+/// Reports a text that is refused, and the places of its faults, by one write. If the standard error fails too, the
+/// status is all that can be reported.
+fn tell_reasons<'a, E: Write>(
+    alloc: Global,
+    file: &'a str,
+    text: &[u8],
+    error: SchemaError,
+    err: &mut E,
+) -> Result<Finding, Failure<'a>> {
+    let reasons = find_reasons(alloc, text, error, MAX_REASONS)?;
+    let lines = lines_of(alloc, file, error, &reasons)?;
+    let _ = err.write_all(&lines);
+    Ok(Finding::Failed(Failure::of_schema(file, error).status()))
+}
+
+/// The line of a refused text, and those of the places of its faults.
+fn lines_of(
+    alloc: Global,
+    file: &str,
+    error: SchemaError,
+    reasons: &Reasons,
+) -> Result<Vec<u8>, AllocError> {
+    let mut lines = schema_refusal(alloc, file, error)?;
+    for reason in &reasons.first {
+        put_reason(alloc, &mut lines, file, reason)?;
+    }
+    put_others(alloc, &mut lines, file, reasons.others)?;
+    Ok(lines)
+}
+
+/// Puts the line of a place.
+fn put_reason(
+    alloc: Global,
+    lines: &mut Vec<u8>,
+    file: &str,
+    reason: &Reason,
+) -> Result<(), AllocError> {
+    let Reason {
+        line,
+        column,
+        pointer,
+        words,
+    } = reason;
+    let text = match pointer {
+        Some(pointer) => format!(in alloc; "{file}:{line}:{column}: {pointer}: {words}\n")?,
+        None => format!(in alloc; "{file}:{line}:{column}: {words}\n")?,
+    };
+    lines.extend_from_slice(text.as_bytes())
+}
+
+/// Puts the line of how many places there are after those that are told.
+fn put_others(
+    alloc: Global,
+    lines: &mut Vec<u8>,
+    file: &str,
+    others: usize,
+) -> Result<(), AllocError> {
+    if others == 0 {
+        return Ok(());
+    }
+    let text = format!(in alloc; "{file}: and {others} more\n")?;
+    lines.extend_from_slice(text.as_bytes())
 }

@@ -1,12 +1,13 @@
 use crate::Finding;
 use crate::failure::Failure;
 use crate::printing::print;
+use crate::progress::Watched;
 use avro_answer::{Form, counts_line};
 use avro_copy::Counts;
 use avro_device::ReadInput;
 use std::alloc::Global;
 use std::io::{BufReader, Cursor, Write};
-use std::rt::Files;
+use std::rt::{Clock, Files};
 use std::{fs, io};
 
 /// How many bytes are read or written at once.
@@ -26,6 +27,24 @@ pub(crate) fn open_container<'a, R: Files + AllocGlobal>(
             Err(_) => Err(Failure::OutOfMemory),
         },
         Err(e) => Err(Failure::of_reading(word, &e)),
+    }
+}
+
+/// The same, of which it is told how far it is read.
+pub(crate) fn open_watched<'a, 'r, R: Files + Clock + AllocGlobal, E: Write>(
+    rt: &'r R,
+    word: &'a str,
+    err: E,
+) -> Result<Watched<ReadInput<BufReader<R::File>>, &'r R, E>, Failure<'a>> {
+    let input = open_container(rt, word)?;
+    Ok(Watched::new(input, length_of(rt, word), rt, err))
+}
+
+/// The length of the file that a word names, if it is a regular file.
+pub(crate) fn length_of<R: Files>(rt: &R, word: &str) -> Option<u64> {
+    match fs::metadata(rt, word) {
+        Ok(found) if found.is_file() => Some(found.len()),
+        _ => None,
     }
 }
 

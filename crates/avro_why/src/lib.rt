@@ -1,0 +1,23 @@
+//! Where and why a text of a schema is refused.
+//!
+//! [`find_reasons`] looks at a refused text a second time. It walks through the tree that `serde_json` reads, goes on after
+//! each fault, and finds the places of all of them in the text by one scan. A [`Reason`] has the line and the column of a
+//! value, its JSON pointer, and words.
+#![tactic(auto)]
+
+mod defaults;
+mod definitions;
+mod fault;
+mod json_fault;
+mod names;
+mod nodes;
+mod numbers;
+mod offsets;
+mod places;
+mod position;
+mod reasons;
+mod types;
+mod walk;
+mod words;
+
+pub use reasons::{Reason, Reasons, find_reasons};

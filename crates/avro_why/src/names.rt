@@ -1,0 +1,85 @@
+//! The names that are defined.
+
+use crate::nodes::NodeId;
+use crate::places::PlaceId;
+use std::alloc::{AllocError, Global};
+use std::collections::BTreeMap;
+
+/// A namespace, and its number in a table of names.
+#[derive(Clone, Copy)]
+pub(crate) struct Space<'a> {
+    pub(crate) text: &'a str,
+    number: usize,
+}
+
+/// A fullname. The null namespace has no text.
+#[derive(Clone, Copy)]
+pub(crate) struct Name<'a> {
+    pub(crate) space: &'a str,
+    pub(crate) simple: &'a str,
+}
+
+/// What a name was defined as, and where.
+#[derive(Clone, Copy)]
+pub(crate) struct Definition {
+    pub(crate) node: NodeId,
+    pub(crate) place: PlaceId,
+}
+
+/// The definitions, by the numbers of their namespaces, so that a long namespace is not looked at for each name in it.
+#[derive(Drop)]
+pub(crate) struct Names<'a> {
+    numbers: BTreeMap<&'a str, usize>,
+    definitions: BTreeMap<(usize, &'a str), Definition>,
+}
+
+impl<'a> Names<'a> {
+    /// No names.
+    pub(crate) fn new(alloc: Global) -> Names<'a> {
+        Names {
+            numbers: BTreeMap::new(alloc),
+            definitions: BTreeMap::new(alloc),
+        }
+    }
+
+    /// The namespace of a text, with its number.
+    pub(crate) fn space(&mut self, text: &'a str) -> Result<Space<'a>, AllocError> {
+        if let Some(number) = self.numbers.get(text) {
+            return Ok(Space {
+                text,
+                number: *number,
+            });
+        }
+        let number = self.numbers.len();
+        self.numbers.insert(text, number)?;
+        Ok(Space { text, number })
+    }
+
+    /// The namespace and the simple part of a name that is written where a namespace encloses it.
+    pub(crate) fn split(
+        &mut self,
+        text: &'a str,
+        enclosing: Space<'a>,
+    ) -> Result<(Space<'a>, &'a str), AllocError> {
+        match text.rsplit_once('.') {
+            Some((space, simple)) => Ok((self.space(space)?, simple)),
+            None => Ok((enclosing, text)),
+        }
+    }
+
+    /// The definition of a name in a namespace.
+    pub(crate) fn find(&self, space: Space<'a>, simple: &'a str) -> Option<Definition> {
+        self.definitions.get(&(space.number, simple)).copied()
+    }
+
+    /// Adds a definition.
+    pub(crate) fn define(
+        &mut self,
+        space: Space<'a>,
+        simple: &'a str,
+        definition: Definition,
+    ) -> Result<(), AllocError> {
+        self.definitions.insert((space.number, simple), definition)?;
+        Ok(())
+    }
+}

@@ -1,0 +1,96 @@
+//! The types that are declared.
+
+use crate::names::Name;
+use std::collections::BTreeMap;
+
+/// The number of a node.
+pub(crate) type NodeId = usize;
+
+/// A type. What is wrong with a part of it makes that part unknown.
+#[derive(Drop)]
+pub(crate) enum Node<'a> {
+    Unknown,
+    Null,
+    Boolean,
+    Int,
+    Long,
+    Bytes,
+    Str,
+    Array(NodeId),
+    Map(NodeId),
+    Union(Vec<NodeId>),
+    /// A record with its fields.
+    Record(Name<'a>, Option<BTreeMap<&'a str, NodeId>>),
+    /// An enum with its symbols.
+    Enum(Name<'a>, Option<BTreeMap<&'a str, usize>>),
+    /// A fixed with its size.
+    Fixed(Name<'a>, Option<u64>),
+}
+
+/// What a node is called.
+#[derive(Clone, Copy)]
+pub(crate) enum Title<'a> {
+    Kind(&'static str),
+    Name(Name<'a>),
+}
+
+impl<'a> Node<'a> {
+    /// What a node is called.
+    pub(crate) fn title(&self) -> Title<'a> {
+        match self {
+            Node::Unknown => Title::Kind("a type"),
+            Node::Null => Title::Kind("null"),
+            Node::Boolean => Title::Kind("boolean"),
+            Node::Int => Title::Kind("int"),
+            Node::Long => Title::Kind("long"),
+            Node::Bytes => Title::Kind("bytes"),
+            Node::Str => Title::Kind("string"),
+            Node::Array(_) => Title::Kind("array"),
+            Node::Map(_) => Title::Kind("map"),
+            Node::Union(_) => Title::Kind("any branch"),
+            Node::Record(name, _) => Title::Name(*name),
+            Node::Enum(name, _) => Title::Name(*name),
+            Node::Fixed(name, _) => Title::Name(*name),
+        }
+    }
+
+    /// A number that two branches of a union have alike where they may not stand beside each other.
+    pub(crate) fn branch_code(&self, id: NodeId) -> Option<usize> {
+        match self {
+            Node::Unknown | Node::Union(_) => None,
+            Node::Null => Some(0),
+            Node::Boolean => Some(2),
+            Node::Int => Some(4),
+            Node::Long => Some(6),
+            Node::Bytes => Some(8),
+            Node::Str => Some(10),
+            Node::Array(_) => Some(12),
+            Node::Map(_) => Some(14),
+            Node::Record(..) | Node::Enum(..) | Node::Fixed(..) => {
+                Some(id.saturating_mul(2).saturating_add(1))
+            }
+        }
+    }
+}
+
+/// The primitive type that a word names.
+pub(crate) fn primitive<'a>(word: &str) -> Option<Node<'a>> {
+    match word {
+        "null" => Some(Node::Null),
+        "boolean" => Some(Node::Boolean),
+        "int" => Some(Node::Int),
+        "long" => Some(Node::Long),
+        "bytes" => Some(Node::Bytes),
+        "string" => Some(Node::Str),
+        _ => None,
+    }
+}
+
+/// The primitive type that a word names, if it is left out.
+pub(crate) fn left_out(word: &str) -> Option<&'static str> {
+    match word {
+        "float" => Some("float"),
+        "double" => Some("double"),
+        _ => None,
+    }
+}

@@ -1,0 +1,140 @@
+use crate::fault::Fault;
+use crate::json_fault::{JsonFault, json_fault};
+use crate::offsets::offsets_of;
+use crate::places::{PlaceId, WHOLE};
+use crate::position::Position;
+use crate::walk::Walk;
+use crate::words::words_of;
+use avro_schema_json::SchemaError;
+use serde_json::Value;
+use std::alloc::{AllocError, Global};
+
+/// The greatest length of a text.
+const MAX_TEXT: usize = 1_048_576;
+
+/// A place in a refused text, and why it is refused for it.
+#[derive(Debug, Drop)]
+pub struct Reason {
+    /// The line, counted from 1.
+    pub line: usize,
+    /// The column in bytes, counted from 1.
+    pub column: usize,
+    /// The JSON pointer of the value (RFC 6901), and `/` for the whole; none where there is no JSON.
+    pub pointer: Option<String>,
+    /// What is wrong there.
+    pub words: String,
+}
+
+/// The first places in a refused text.
+#[derive(Debug, Drop)]
+pub struct Reasons {
+    /// The first of them, in the order of the text.
+    pub first: Vec<Reason>,
+    /// How many there are after these.
+    pub others: usize,
+}
+
+/// The places for which a text is refused with this error, in the order of the text: the first ones, up to a limit. None
+/// are found where memory ran out, or where a fault is one that only the reader of the whole sees.
+///
+/// # Errors
+///
+/// Memory ran out.
+pub fn find_reasons(
+    alloc: Global,
+    text: &[u8],
+    error: SchemaError,
+    limit: usize,
+) -> Result<Reasons, AllocError> {
+    if text.len() > MAX_TEXT {
+        let words = "the text has more than 1048576 bytes";
+        return reasons_without_json(alloc, Some(JsonFault::at(Position::BEGINNING, words)));
+    }
+    if error == SchemaError::NotJson {
+        let fault = json_fault(alloc, text)?;
+        return reasons_without_json(alloc, fault);
+    }
+    match Value::from_slice(alloc, text) {
+        Ok(tree) => reasons_in_tree(alloc, text, &tree, error, limit),
+        Err(_) => reasons_without_json(alloc, None),
+    }
+}
+
+/// What there is of a text that is no JSON.
+fn reasons_without_json(alloc: Global, fault: Option<JsonFault>) -> Result<Reasons, AllocError> {
+    let mut first = Vec::new(alloc);
+    if let Some(fault) = fault {
+        first.push(Reason {
+            line: fault.line,
+            column: fault.column,
+            pointer: None,
+            words: String::from_str(alloc, fault.words)?,
+        })?;
+    }
+    Ok(Reasons { first, others: 0 })
+}
+
+/// What there is of a text of a tree.
+fn reasons_in_tree(
+    alloc: Global,
+    text: &[u8],
+    tree: &Value,
+    error: SchemaError,
+    limit: usize,
+) -> Result<Reasons, AllocError> {
+    let mut walk = Walk::new(alloc)?;
+    // Other errors are found in trees of whole numbers alone.
+    if error == SchemaError::UnsupportedNumber {
+        walk.read_numbers(tree, WHOLE)?;
+    }
+    let null = walk.names.space("")?;
+    walk.read_type(tree, null, WHOLE)?;
+    walk.check_defaults()?;
+    told(alloc, text, &walk, limit)
+}
+
+/// The faults of a walk, by the offsets of their places.
+fn ordered(alloc: Global, text: &[u8], walk: &Walk<'_>) -> Result<Vec<(usize, usize)>, AllocError> {
+    let offsets = offsets_of(alloc, text, &walk.places)?;
+    let mut order = Vec::new(alloc);
+    for (index, (place, _)) in walk.faults.iter().enumerate() {
+        if let Some(Some(offset)) = offsets.get(*place) {
+            order.push((*offset, index))?;
+        }
+    }
+    order.sort_unstable();
+    Ok(order)
+}
+
+/// The first faults of a walk.
+fn told(alloc: Global, text: &[u8], walk: &Walk<'_>, limit: usize) -> Result<Reasons, AllocError> {
+    let order = ordered(alloc, text, walk)?;
+    let mut first = Vec::new(alloc);
+    let mut position = Position::BEGINNING;
+    for (offset, index) in order.iter().take(limit) {
+        position = position.at(text, *offset);
+        if let Some((place, fault)) = walk.faults.get(*index) {
+            first.push(reason_of(alloc, text, walk, position, *place, *fault)?)?;
+        }
+    }
+    let others = order.len().saturating_sub(first.len());
+    Ok(Reasons { first, others })
+}
+
+/// A fault at a position.
+fn reason_of(
+    alloc: Global,
+    text: &[u8],
+    walk: &Walk<'_>,
+    position: Position,
+    place: PlaceId,
+    fault: Fault<'_>,
+) -> Result<Reason, AllocError> {
+    let words = words_of(alloc, text, &walk.places, position.offset, fault)?;
+    Ok(Reason {
+        line: position.line,
+        column: position.column(),
+        pointer: Some(walk.places.pointer(alloc, place)?),
+        words,
+    })
+}

@@ -1,0 +1,147 @@
+use crate::fault::Fault;
+use crate::names::Names;
+use crate::nodes::{Node, NodeId, Title};
+use crate::places::{PlaceId, Places};
+use avro_schema::Schema;
+use serde_json::{Map, Value};
+use std::alloc::{AllocError, Global};
+
+/// The members of an object.
+pub(crate) type Members = Map<String, Value>;
+
+/// The node that stands for each type with a fault.
+pub(crate) const UNKNOWN: NodeId = 0;
+
+/// A default, the type of its field, and its place.
+#[derive(Clone, Copy)]
+pub(crate) struct Default<'a> {
+    pub(crate) value: &'a Value,
+    pub(crate) node: NodeId,
+    pub(crate) place: PlaceId,
+}
+
+/// A walk through a tree: what was found so far.
+#[derive(Drop)]
+pub(crate) struct Walk<'a> {
+    pub(crate) alloc: Global,
+    pub(crate) places: Places<'a>,
+    pub(crate) faults: Vec<(PlaceId, Fault<'a>)>,
+    pub(crate) nodes: Vec<Node<'a>>,
+    pub(crate) names: Names<'a>,
+    pub(crate) defaults: Vec<Default<'a>>,
+    // how many nodes the schema has so far
+    count: usize,
+}
+
+impl<'a> Walk<'a> {
+    /// A walk that has not begun.
+    pub(crate) fn new(alloc: Global) -> Result<Walk<'a>, AllocError> {
+        let mut nodes = Vec::new(alloc);
+        nodes.push(Node::Unknown)?;
+        Ok(Walk {
+            alloc,
+            places: Places::new(alloc),
+            faults: Vec::new(alloc),
+            nodes,
+            names: Names::new(alloc),
+            defaults: Vec::new(alloc),
+            count: 0,
+        })
+    }
+
+    /// Notes a fault of the value at a place.
+    pub(crate) fn note(&mut self, place: PlaceId, fault: Fault<'a>) -> Result<(), AllocError> {
+        self.faults.push((place, fault))?;
+        Ok(())
+    }
+
+    /// Notes a fault of the member of a key.
+    pub(crate) fn note_member(
+        &mut self,
+        around: PlaceId,
+        key: &'a str,
+        fault: Fault<'a>,
+    ) -> Result<(), AllocError> {
+        let place = self.places.member(around, key)?;
+        self.note(place, fault)
+    }
+
+    /// Counts a node that begins at a place. Only the first past the limit is a fault.
+    pub(crate) fn count_node(&mut self, place: PlaceId) -> Result<(), AllocError> {
+        if self.count == Schema::MAX_NODES {
+            self.note(place, Fault::TooMany)?;
+        }
+        self.count = self.count.saturating_add(1);
+        Ok(())
+    }
+
+    /// Adds a node.
+    pub(crate) fn add(&mut self, node: Node<'a>) -> Result<NodeId, AllocError> {
+        let id = self.nodes.len();
+        self.nodes.push(node)?;
+        Ok(id)
+    }
+
+    /// Sets a node.
+    pub(crate) fn set(&mut self, id: NodeId, node: Node<'a>) {
+        if id < self.nodes.len() {
+            self.nodes[id] = node;
+        }
+    }
+
+    /// What a node is called.
+    pub(crate) fn title(&self, id: NodeId) -> Title<'a> {
+        match self.nodes.get(id) {
+            Some(node) => node.title(),
+            None => Title::Kind("a type"),
+        }
+    }
+
+    /// The text under a key. That it is missing or no text is noted.
+    pub(crate) fn text(
+        &mut self,
+        members: &'a Members,
+        key: &'a str,
+        place: PlaceId,
+    ) -> Result<Option<&'a str>, AllocError> {
+        let found = members.get(key);
+        if let Some(Value::String(text)) = found {
+            return Ok(Some(text.as_str()));
+        }
+        if found.is_some() {
+            self.note_must(place, key, "a string")?;
+        } else {
+            self.note(place, Fault::Missing(key))?;
+        }
+        Ok(None)
+    }
+
+    /// Notes that the member of a key must be something else.
+    pub(crate) fn note_must(
+        &mut self,
+        around: PlaceId,
+        key: &'a str,
+        what: &'static str,
+    ) -> Result<(), AllocError> {
+        let place = self.places.member(around, key)?;
+        self.note(place, Fault::Must(key, what))
+    }
+
+    /// The items under a key, if it is there. That they are no array is noted, with what it must be.
+    pub(crate) fn items(
+        &mut self,
+        members: &'a Members,
+        key: &'a str,
+        what: &'static str,
+        place: PlaceId,
+    ) -> Result<Option<&'a Vec<Value>>, AllocError> {
+        let found = members.get(key);
+        if let Some(Value::Array(items)) = found {
+            return Ok(Some(items));
+        }
+        if found.is_some() {
+            self.note_must(place, key, what)?;
+        }
+        Ok(None)
+    }
+}
