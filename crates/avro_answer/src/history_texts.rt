@@ -37,7 +37,7 @@ pub(crate) fn read_texts(
 }
 
 /// The front of a length, or all if there is less, and what is left.
-fn cut(texts: &[u8], length: usize) -> (&[u8], &[u8])
+pub(crate) fn cut(texts: &[u8], length: usize) -> (&[u8], &[u8])
     ensures front { result.0.now ≡ take length texts.now }
     ensures back { result.1.now ≡ drop length texts.now }
 {

@@ -52,6 +52,8 @@ mod program;
 #[cfg(test)]
 mod program_copies;
 #[cfg(test)]
+mod read_data;
+#[cfg(test)]
 mod refutations;
 #[cfg(test)]
 mod runs;

@@ -5,7 +5,7 @@ use crate::{
     all_faults, canonical_forms, certificate_files, certificate_texts, checked_blocks,
     checked_headers, containers, defaults, explained, histories, json_faults, json_verdicts,
     judged, judged_ties, kept_files, limit_options, many_checks, modes, one_file, piped,
-    plain_copies, program, program_copies, refutations, schema_command, schema_texts,
+    plain_copies, program, program_copies, read_data, refutations, schema_command, schema_texts,
     shown_headers, shown_limits, words, written_files,
 };
 use std::test::Fail;
@@ -64,7 +64,7 @@ fn verdicts_are_told(rt: HostRuntime) -> Result<(), Fail> {
 }
 
 /// The sheets of container files, and how many runs they have.
-const FILES: [(&str, usize); 12] = [
+const FILES: [(&str, usize); 13] = [
     containers::SHEET,
     checked_headers::SHEET,
     checked_blocks::SHEET,
@@ -77,6 +77,7 @@ const FILES: [(&str, usize); 12] = [
     refutations::SHEET,
     shown_headers::SHEET,
     shown_limits::SHEET,
+    read_data::SHEET,
 ];
 
 #[test]

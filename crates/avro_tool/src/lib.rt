@@ -13,7 +13,7 @@ mod request;
 
 use command_line::request_of;
 use commands::{
-    check, confirm, copy, explain, header, history, judge, pipe, schema, show, version,
+    check, confirm, copy, explain, header, history, judge, pipe, read, schema, show, version,
 };
 use failure::Failure;
 use request::Request;
@@ -165,6 +165,7 @@ fn answer_request<'a, R: Files + AllocGlobal, I: Read, O: Write, E: Write>(
             is_counted,
         } => pipe::pipe_streams(rt, *reader, *sync, *is_counted, input, out, err),
         Request::Header { file, is_metadata } => header::show_header(rt, file, *is_metadata, out),
+        Request::Read(asked) => read::read_file(rt, asked, out),
         Request::Version => version::tell_version(rt.alloc(), out),
     }
 }
