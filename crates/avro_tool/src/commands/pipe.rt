@@ -69,11 +69,11 @@ fn pipe_watched<'a, R: Files + Clock + AllocGlobal, I: Read, O: Write, E: Write>
     out: &mut O,
     err: &mut E,
 ) -> Result<Counts, Failure<'a>> {
-    let Ok(input) = BufReader::with_capacity(rt.alloc(), ROOM, input) else {
+    let Ok(reading) = BufReader::with_capacity(rt.alloc(), ROOM, &mut *input) else {
         return Err(Failure::OutOfMemory);
     };
     let length = length_of(rt, STANDARD_INPUT);
-    let mut source = Watched::new(ReadInput::new(input), length, rt, err);
+    let mut source = Watched::new(ReadInput::new(reading), length, rt, &mut *err);
     let counts = pipe_from(rt.alloc(), &mut source, reader, sync, out);
     source.finish();
     counts
