@@ -345,7 +345,7 @@ room 0 4 read int.avsc d
 err avro: output: cannot write
 room 8 4 read int.avsc d
 err avro: output: cannot write
-room 16 4 read int.avsc d
+room 15 4 read int.avsc d
 err avro: output: cannot write
 usage read
 usage read int.avsc
