@@ -14,7 +14,7 @@ use Rattle.avro_cursor.specs.Fault.{ReadFault, end_of_input}
 use Rattle.avro_cursor.specs.Seen.{read_fault, UnlessOutOfMemory as UnlessNoMemory}
 use Rattle.avro_cursor.specs.declared.error.ReadError.{ReadError}
 use Rattle.avro_binary.specs.Reading.{ReadsExactly}
-use Rattle.avro_compare.specs.Resolve.{resolve_root}
+use Rattle.avro_compare.specs.Resolve.{Resolved}
 use Rattle.avro_compare.specs.Seen.{fault_of}
 use Rattle.avro_compare.specs.declared.error.Fault.{Fault}
 use Rattle.avro_resolve.specs.Reading.{BuildsResolved, ReadsAs}
@@ -24,11 +24,11 @@ use Rattle.avro_answer.specs.DataRead.{fault_found, found_in}
 use Rattle.avro_answer.specs.ReadAnswer.{Found, datum, broken, unresolved, BeginsWith, IsAtFront, IsFound, IsAllFound, read_as}
 use Rattle.avro_answer.specs.inside.AtFront.{IsAllAtFront}
 
-same_ok : {A B : Type 0} (a b : A) → Ok {B = B} a ≡ Ok b → a ≡ b
-same_ok a b h = cc
+same_ok : {A B : Type 0} (r : Result A B) (a b : A) → r ≡ Ok a → r ≡ Ok b → a ≡ b
+same_ok r a b g h = cc
 
-same_err : {A B : Type 0} (a b : B) → Err {A = A} a ≡ Err b → a ≡ b
-same_err a b h = cc
+same_err : {A B : Type 0} (r : Result A B) (a b : B) → r ≡ Err a → r ≡ Err b → a ≡ b
+same_err r a b g h = cc
 
 same_some : {A : Type 0} (a b : A) → Some a ≡ Some b → a ≡ b
 same_some a b h = cc
@@ -37,30 +37,30 @@ same_datum : (u w : Value) (m n : ℕ) → u ≡ w → m ≡ n → datum u m ≡
 same_datum u w m n g h = cc
 
 -- what holds unless memory ran out holds where an error reports a fault
-reported : {P : Type 0} (e : ReadError) (fault : ReadFault) → read_fault e ≡ Some fault
+reported : (P : Type 0) (e : ReadError) (fault : ReadFault) → read_fault e ≡ Some fault
     → UnlessOutOfMemory {A = Datum × ℕ} (Err (ReadResolveError.Read e)) P → P
-reported ReadError.OutOfMemory fault is h = absurd cc
-reported _ fault is h = h
+reported P ReadError.OutOfMemory fault is h = absurd cc
+reported P _ fault is h = h
 
-handed_on : {P : Type 0} (e : ReadError) → UnlessNoMemory {A = Datum × ℕ} (Err e) P → UnlessOutOfMemory {A = Datum × ℕ} (Err (ReadResolveError.Read e)) P
-handed_on ReadError.OutOfMemory h = tt
-handed_on _ h = h
+handed_on : (P : Type 0) (e : ReadError) → UnlessNoMemory {A = Datum × ℕ} (Err e) P → UnlessOutOfMemory {A = Datum × ℕ} (Err (ReadResolveError.Read e)) P
+handed_on P ReadError.OutOfMemory h = tt
+handed_on P _ h = h
 
 module _ (writer : List Node) (reader : Option (List Node)) (limits : LimitValues) (bytes : List ℕ) where
   -- what is read is what the bytes begin with, or its fault, or that of the bytes
-  record Finds (result : Result (Datum × ℕ) ReadResolveError) : Type 0 where
-    found : IfOk result (λ r. (v : Value) × BeginsWith writer limits bytes v r.1 × (read_as writer reader v ≡ Ok (value_of r.0)))
-    faulty : IfUnresolved result (λ f. (v : Value) × (len : ℕ) × BeginsWith writer limits bytes v len × (read_as writer reader v ≡ Err (fault_of f)))
-    begins : (v : Value) (len : ℕ) → BeginsWith writer limits bytes v len → UnlessOutOfMemory result (AnswersAfter result (read_as writer reader v) len)
-    refused : IfUnread result (λ e. IfSome (read_fault e) (Breaks writer limits (root_of writer) bytes))
-    breaks : (fault : ReadFault) → Breaks writer limits (root_of writer) bytes fault → UnlessOutOfMemory result (IsUnread result (λ e. read_fault e ≡ Some fault))
+  pub record Finds (result : Result (Datum × ℕ) ReadResolveError) : Type 0 where
+    pub found : IfOk result (λ r. (v : Value) × BeginsWith writer limits bytes v r.1 × (read_as writer reader v ≡ Ok (value_of r.0)))
+    pub faulty : IfUnresolved result (λ f. (v : Value) × (len : ℕ) × BeginsWith writer limits bytes v len × (read_as writer reader v ≡ Err (fault_of f)))
+    pub begins : (v : Value) (len : ℕ) → BeginsWith writer limits bytes v len → UnlessOutOfMemory result (AnswersAfter result (read_as writer reader v) len)
+    pub refused : IfUnread result (λ e. IfSome (read_fault e) (Breaks writer limits (root_of writer) bytes))
+    pub breaks : (fault : ReadFault) → Breaks writer limits (root_of writer) bytes fault → UnlessOutOfMemory result (IsUnread result (λ e. read_fault e ≡ Some fault))
 
   of_ok : (r : Datum × ℕ) → Finds (Ok r) → IsAllAtFront writer reader limits bytes (datum (value_of r.0) r.1)
   of_ok r h = record { there = h.found; alone = alone }
     where
       alone : (other : Found) → IsAtFront writer reader limits bytes other → other ≡ datum (value_of r.0) r.1
       alone (datum u len) (v, begins, reads) = let p = h.begins v len begins in
-          same_datum u (value_of r.0) len r.1 (same_ok u (value_of r.0) (sym reads ∙ p.0)) (sym p.1)
+          same_datum u (value_of r.0) len r.1 (same_ok (read_as writer reader v) u (value_of r.0) reads p.0) (sym p.1)
       alone (broken fault) breaks = absurd (h.breaks fault breaks)
       alone (unresolved fault) (v, len, begins, reads) = let p = h.begins v len begins in let e = sym reads ∙ p.0 in absurd cc
 
@@ -70,15 +70,15 @@ module _ (writer : List Node) (reader : Option (List Node)) (limits : LimitValue
       alone : (other : Found) → IsAtFront writer reader limits bytes other → other ≡ unresolved (fault_of f)
       alone (datum u len) (v, begins, reads) = let e = sym reads ∙ h.begins v len begins in absurd cc
       alone (broken fault) breaks = absurd (h.breaks fault breaks)
-      alone (unresolved fault) (v, len, begins, reads) = ap unresolved (same_err fault (fault_of f) (sym reads ∙ h.begins v len begins))
+      alone (unresolved fault) (v, len, begins, reads) = ap unresolved (same_err (read_as writer reader v) fault (fault_of f) reads (h.begins v len begins))
 
   of_error : (e : ReadError) (fault : ReadFault) → read_fault e ≡ Some fault → Finds (Err (ReadResolveError.Read e)) → IsAllAtFront writer reader limits bytes (broken fault)
   of_error e fault is h = record { there = subst (λ o. IfSome o (Breaks writer limits (root_of writer) bytes)) is h.refused; alone = alone }
     where
       alone : (other : Found) → IsAtFront writer reader limits bytes other → other ≡ broken fault
-      alone (datum u len) (v, begins, reads) = absurd (reported e fault is (h.begins v len begins))
-      alone (broken other) breaks = ap broken (same_some other fault (sym (reported e fault is (h.breaks other breaks)) ∙ is))
-      alone (unresolved other) (v, len, begins, reads) = absurd (reported e fault is (h.begins v len begins))
+      alone (datum u len) (v, begins, reads) = absurd (reported ⊥ e fault is (h.begins v len begins))
+      alone (broken other) breaks = ap broken (same_some other fault (sym (reported (read_fault e ≡ Some other) e fault is (h.breaks other breaks)) ∙ is))
+      alone (unresolved other) (v, len, begins, reads) = absurd (reported ⊥ e fault is (h.begins v len begins))
 
   pub all_at_front : (result : Result (Datum × ℕ) ReadResolveError) → Finds result → IfSome (found_in result) (IsAllAtFront writer reader limits bytes)
   all_at_front (Ok r) h = of_ok r h
@@ -142,9 +142,9 @@ module _ (writer : List Node) (limits : LimitValues) (bytes : List ℕ) where
   read_broken e h = record {
     found = tt;
     faulty = tt;
-    begins = λ v len b. handed_on e (h.begins v b.front b.rest b.encoded b.within b.parted);
+    begins = λ v len b. handed_on ⊥ e (h.begins v b.front b.rest b.encoded b.within b.parted);
     refused = h.refused;
-    breaks = λ fault b. handed_on e (h.breaks fault b);
+    breaks = λ fault b. handed_on (read_fault e ≡ Some fault) e (h.breaks fault b);
   }
 
 module _ (writer : List Node) (reader : Option (List Node)) (limits : LimitValues) (skip : ℕ) (bytes : List ℕ) where

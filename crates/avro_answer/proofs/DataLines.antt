@@ -1,10 +1,10 @@
 -- The lines of several encoded data.
-use Rattle.std.proofs.Common.{◌≡◌, ◌≢◌, ◌∙◌, ℕ, ◌+◌, ◌<◌, ◌≤◌, Bool, true, false, List, [], ◌∷◌, ◌++◌, length, get_or, take, drop, max, codes, Option, Some, refl, sym, ap, subst, arith, append_assoc, append-nil}
+use Rattle.std.proofs.Common.{◌≡◌, ◌≢◌, ◌∙◌, ℕ, ◌+◌, ◌<◌, ◌≤◌, Bool, true, false, List, [], ◌∷◌, ◌++◌, length, get_or, take, drop, max, codes, Option, Some, Result, Ok, Err, refl, sym, ap, subst, arith, append_assoc, append-nil}
 use Rattle.std.proofs.lemmas.Grind.{flat_map-append}
 use Rattle.std.proofs.lemmas.List.{drop_all}
 use Rattle.std.proofs.lemmas.List.Folds.{list_all-append}
 use Rattle.std.proofs.lemmas.Slice.Zip.{all_zipped_more}
-use Rattle.std.specs.Prelude.{◌&&◌, if◌then◌else◌, flat_map, option_map}
+use Rattle.std.specs.Prelude.{◌&&◌, if◌then◌else◌, flat_map, option_map, IfOk}
 use Rattle.std.specs.List.{AllZip, list_all}
 use Rattle.std.specs.Option.{IfSome}
 use Rattle.avro_schema.specs.Node.{Node}
@@ -17,6 +17,7 @@ use Rattle.avro_answer.specs.DataRead.{error_text, fault_found, IsDatumTold}
 use Rattle.avro_answer.specs.HistoryAnswer.{cut_texts}
 use Rattle.avro_answer.specs.ReadAnswer.{Found, broken, unresolved, datum, IsAllFound, nodes_for}
 use Rattle.avro_answer.specs.ReadsAnswer.{LinesRead, all_status, found_line, is_datum}
+use Rattle.avro_answer.specs.declared.answer.Answer.{Answer}
 use Rattle.avro_answer.specs.declared.form.Form.{Form}
 use Rattle.avro_answer.specs.inside.AtFront.{IsFaultTold, IsLineTold}
 use Rattle.avro_answer.proofs.HistoryTexts.{cut_ahead}
@@ -33,7 +34,7 @@ status_more all found =
     ap (λ b. if b then 0 else 1) (list_all-append is_datum all (found ∷ [])) ∙ either (list_all is_datum all) (is_datum found)
 
 module _ (writer : List Node) (reader : Option (List Node)) (limits : LimitValues) (skip : ℕ) (bytes lengths : List ℕ) where
-  line : Found → List ℕ
+  abbrev line : Found → List ℕ
   line = found_line (nodes_for writer reader)
 
   -- the lines of the data that were passed
@@ -97,16 +98,17 @@ module _ (text : List ℕ) (status : ℕ) (is_one : status ≡ 1) where
   error_lined (ReadResolveError.Read e) other h = reading_lined e (λ is. other (ap ReadResolveError.Read is)) h
   error_lined (ReadResolveError.Resolve f) other h = fault_lined f h
 
-module _ (writer : List Node) (reader : Option (List Node)) (limits : LimitValues) (skip : ℕ) (bytes text : List ℕ) (status : ℕ) where
+module _ (writer : List Node) (reader : Option (List Node)) (limits : LimitValues) (skip : ℕ) (bytes : List ℕ) where
   -- a datum that is told, and a fault
-  pub datum_line : status ≡ 0 → IsDatumTold writer reader limits Form.Json skip bytes text → IsLineTold writer reader limits skip bytes text status
-  datum_line is h = record { found = datum h.value h.len; is_found = h.is_found; told = h.told; status_is = is }
+  pub datum_line : (text : List ℕ) (status : ℕ) → status ≡ 0 → IsDatumTold writer reader limits Form.Json skip bytes text → IsLineTold writer reader limits skip bytes text status
+  datum_line text status is h = record { found = datum h.value h.len; is_found = h.is_found; told = h.told; status_is = is }
 
-  pub line_of_fault : (e : ReadResolveError) → IfSome (fault_found e) (IsAllFound writer reader limits skip bytes) → IsFaultTold e text status
-      → IsLineTold writer reader limits skip bytes text status
-  line_of_fault e is_found h = record {
+  pub fault_line : {E : Type 0} (e : ReadResolveError) → IfSome (fault_found e) (IsAllFound writer reader limits skip bytes) → (result : Result Answer E)
+      → IfOk result (λ a. IsFaultTold e a.text.items a.status) → IfOk result (λ a. IsLineTold writer reader limits skip bytes a.text.items a.status)
+  fault_line e is_found (Ok a) h = record {
     found = h.found;
     is_found = subst (λ o. IfSome o (IsAllFound writer reader limits skip bytes)) h.says is_found;
     told = h.told _;
     status_is = h.status_is;
   }
+  fault_line e is_found (Err x) h = tt

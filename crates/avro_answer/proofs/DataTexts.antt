@@ -1,6 +1,6 @@
 -- The texts of what is found in data, and what a refusal of one text says of both.
-use Rattle.std.proofs.Common.{◌≡◌, ◌≢◌, ◌∙◌, ℕ, List, codes, Option, Some, None, refl, sym, ap, subst}
-use Rattle.std.specs.Prelude.{option_map}
+use Rattle.std.proofs.Common.{◌≡◌, ◌≢◌, ◌∙◌, ℕ, List, codes, Option, Some, None, Result, Ok, Err, refl, sym, ap, subst}
+use Rattle.std.specs.Prelude.{option_map, IfOk}
 use Rattle.std.specs.Option.{IfSome}
 use Rattle.avro_schema.specs.Node.{Node}
 use Rattle.avro_schema.specs.Fits.{LimitValues}
@@ -15,6 +15,7 @@ use Rattle.avro_answer.specs.ReadText.{IsReadAs}
 use Rattle.avro_answer.specs.RefusalText.{HasSchema, RefusesOne, refusal_text}
 use Rattle.avro_answer.specs.inside.AtFront.{IsRefusalTold}
 use Rattle.avro_answer.specs.inside.Read.{IsReaderSchema, RefusesReaderOf}
+use Rattle.avro_answer.specs.declared.answer.Answer.{Answer}
 use Rattle.avro_answer.specs.declared.form.Form.{Form}
 use Rattle.avro_answer.specs.declared.refusal.Refusal.{Refusal}
 use Rattle.avro_answer.proofs.Refused.{reader_of_pair}
@@ -44,19 +45,24 @@ module _ (text : List ℕ) (status : ℕ) (is_three : status ≡ 3) where
   error_told (ReadResolveError.Read e) other h = reading_told e (λ is. other (ap ReadResolveError.Read is)) h
   error_told (ReadResolveError.Resolve f) other h = fault_told f h
 
-module _ (writer : List Node) (reader : Option (List Node)) (limits : LimitValues) (form : Form) (skip : ℕ) (bytes text : List ℕ) (status : ℕ) where
+module _ (writer : List Node) (reader : Option (List Node)) (limits : LimitValues) (form : Form) (skip : ℕ) (bytes : List ℕ) where
   -- a datum that is told, and a fault
-  pub datum_answer : status ≡ 0 → IsDatumTold writer reader limits form skip bytes text → DataAnswer writer reader limits form skip bytes text status
-  datum_answer is h = record { found = datum h.value h.len; is_found = h.is_found; told = h.told; status_is = is }
+  pub datum_answer : (text : List ℕ) (status : ℕ) → status ≡ 0 → IsDatumTold writer reader limits form skip bytes text → DataAnswer writer reader limits form skip bytes text status
+  datum_answer text status is h = record { found = datum h.value h.len; is_found = h.is_found; told = h.told; status_is = is }
 
-  pub fault_answer : (e : ReadResolveError) → IfSome (fault_found e) (IsAllFound writer reader limits skip bytes) → IsRefusalTold e text status
+  fault_answer : (text : List ℕ) (status : ℕ) (e : ReadResolveError) → IfSome (fault_found e) (IsAllFound writer reader limits skip bytes) → IsRefusalTold e text status
       → DataAnswer writer reader limits form skip bytes text status
-  fault_answer e is_found h = record {
+  fault_answer text status e is_found h = record {
     found = h.found;
     is_found = subst (λ o. IfSome o (IsAllFound writer reader limits skip bytes)) h.says is_found;
     told = h.told form _;
     status_is = h.status_is;
   }
+
+  pub refused : {E : Type 0} (e : ReadResolveError) → IfSome (fault_found e) (IsAllFound writer reader limits skip bytes) → (result : Result Answer E)
+      → IfOk result (λ a. IsRefusalTold e a.text.items a.status) → IfOk result (λ a. DataAnswer writer reader limits form skip bytes a.text.items a.status)
+  refused e is_found (Ok a) h = fault_answer a.text.items a.status e is_found h
+  refused e is_found (Err x) h = tt
 
 module _ (writer : List ℕ) (written : List Node) (written_as : IsReadAs writer written) where
   pub reader_refused : (reader : Option (List ℕ)) (r : Refusal) → RefusesReaderOf reader r → RefusesTexts writer reader r

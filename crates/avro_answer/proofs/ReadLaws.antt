@@ -42,7 +42,7 @@ module _ (writer reader : List Node) (compatible : AreCompatible writer reader) 
     where
       by_result : (r : Resolved) → resolve_root writer reader v ≡ r → IsReadWith writer reader form v (length front) told status
       by_result (Err fault) is = absurd (compatible v fault (record { fitting = encoded.fitting; faulty = is }))
-      by_result (Ok u) is = let same = answer.is_found.alone (datum u (length front)) (inr (enough, v, begins, is)) in (
+      by_result (Ok u) is = let same = answer.is_found.alone (datum u (length front)) (inr (enough, (v, begins, is))) in (
         u,
         is,
         answer.told ∙ ap (found_text form (codes "data") reader) (sym same),

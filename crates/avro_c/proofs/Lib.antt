@@ -1,1 +1,2 @@
 pub mod HistoryStatuses
+pub mod ReadStatuses
