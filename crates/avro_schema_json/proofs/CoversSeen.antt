@@ -16,7 +16,7 @@ use Rattle.avro_schema_json.specs.DeclaredDefaults.{default_of, each_default, en
 use Rattle.avro_schema_json.specs.inside.OwnDefaults.{own_default}
 use Rattle.avro_schema_json.specs.inside.Covers.{place_of, owns, fits, Covers, own_ids}
 use Rattle.avro_schema_json.specs.inside.Parents.{Label, HasField, IsPart, IsStep}
-use Rattle.avro_schema_json.specs.inside.Rows.{has_place, IsWithin}
+use Rattle.avro_schema_json.specs.inside.Rows.{has_place}
 use Rattle.avro_schema_json.proofs.DeclarationLaws.{default_under-found}
 use Rattle.avro_schema_json.proofs.DefaultsSeen.{default-no_union, default-union}
 
@@ -157,24 +157,21 @@ pub kept : (all : Option Values) (b : Bool) → is_some (option_and_then (λ vs.
 kept None b h = absurd (false≢true h)
 kept (Some vs) b h = (refl, only b (Value.record_of vs) h)
 
-pub object-covered : (nodes : List Node) (last : ℕ) (ms : Members) (key : List ℕ) (e : Data) (row maps records parents : List ℕ) → get_member key ms ≡ Some e
-    → Covers nodes last e row → IsStep nodes last Label.values row maps → IsStep nodes last (Label.named key) row records
-    → IsWithin maps parents → IsWithin records parents → Covers nodes last (Data.object ms) parents
-object-covered nodes last ms key e row maps records parents at covers values named within also m = by (node_at nodes m) refl
+pub object-covered : (nodes : List Node) (last : ℕ) (ms : Members) (key : List ℕ) (e : Data) (row parents : List ℕ) → get_member key ms ≡ Some e
+    → Covers nodes last e row → IsStep nodes last Label.values row parents → IsStep nodes last (Label.named key) row parents
+    → Covers nodes last (Data.object ms) parents
+object-covered nodes last ms key e row parents at covers values named m = by (node_at nodes m) refl
   where
     by : (n : Node) → node_at nodes m ≡ n
         → is_some (object_default nodes (λ x. entries_default nodes ms x) (λ k. default_under nodes k ms) (member_keys ms) n) ≡ true → has_place parents (place_of last m) ≡ true
     by (Node.map_of t) is h =
         let each : is_some (entries_default nodes ms (node_at nodes t)) ≡ true = sym (mapped Value.map_of (entries_default nodes ms (node_at nodes t))) ∙ h in
-        within (place_of last m)
-        (stepped nodes last Label.values e row maps m t covers values (ap values_node is) (entry-fits nodes ms key e (node_at nodes t) at each))
+        stepped nodes last Label.values e row parents m t covers values (ap values_node is) (entry-fits nodes ms key e (node_at nodes t) at each)
     by (Node.record_of name aliases fields) is h =
         let all = kept (fields_default nodes (λ k. default_under nodes k ms) fields) (names_only (member_keys ms) fields) h in
         let f = named-field ms fields key e all.1 at in
         let field : HasField fields key f.1.node = record { field = f.1; at = f.0; there = f.2; named_so = f.3; node_is = refl } in
         let here : get_member f.1.name ms ≡ Some e = rw f.3 at in
-        also (place_of last m)
-        (stepped nodes last (Label.named key) e row records m f.1.node covers named
-        (subst (λ (n : Node). IsPart (Label.named key) n f.1.node) (sym is) field)
-        (field-fits nodes ms fields f.0 f.1 e f.2 here all.0))
+        stepped nodes last (Label.named key) e row parents m f.1.node covers named (subst (λ (n : Node). IsPart (Label.named key) n f.1.node) (sym is) field)
+        (field-fits nodes ms fields f.0 f.1 e f.2 here all.0)
     by _ is h = absurd (false≢true h)

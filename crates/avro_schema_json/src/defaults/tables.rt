@@ -60,11 +60,9 @@ pub(crate) fn add_symbol(row: &mut Row, tables: &Tables, symbol: &str)
     ensures kept { IsWithin row.old.words row.new.words }
     ensures added { (p : ℕ) → HasSymbol tables.now.labels tables.now.parents.items tables.now.last p symbol.now → has_place row.new.words p ≡ true }
 {
-    match label_of(&tables.labels, symbol) {
-        Some(label) => put_few(
-            row,
-            few_at(&tables.parents, tables.last as usize + 1, label),
-        ),
-        None => {}
-    }
+    let label = label_of(&tables.labels, symbol);
+    put_few(
+        row,
+        few_at(&tables.parents, tables.last as usize + 1, label),
+    );
 }

@@ -26,7 +26,7 @@ invariant-entry_defaults-loop-key l =
     let node = node_at nodes l.id.0 in
     record {
       firsts : AreFirsts l.walk l.firsts;
-      order : AreLeft l.members.entries l.key-iterator;
+      order : AreLeft l.members.entries l.key-iterator (length l.entries.items);
       left : option_map (after_entries l.entries.items) (entries_default nodes (members_view l.key-iterator) node) ≡ entries_default nodes (members_view l.members.entries) node;
     }
 
