@@ -1,19 +1,6 @@
 -- Nodes with their defaults are the completed nodes, and what is said of those.
-use Rattle.std.proofs.Common.{◌≡◌, ℕ, zero, suc, ◌<◌, Bool, false, ◌&&◌, List, [], ◌∷◌, length, map, refl, sym, ap, ◌∙◌, arith, nat_le, nat_lt}
-use Rattle.std.specs.Prelude.{Contains, slice_index_or}
-use Rattle.std.proofs.lemmas.Bool.{and_parts, false≢true, false_from_ne_true}
-use Rattle.std.proofs.lemmas.Bool.Decides.{nat_tests}
-use Rattle.avro_schema.specs.Faulty.{NodeFault, limit_exceeded, faults_of_nodes, IsThere}
-use Rattle.avro_schema.specs.Node.{Node}
-use Rattle.avro_schema.specs.WellFormed.{max_nodes}
-use Rattle.avro_schema.proofs.public.NodeFaults.{there-contains}
-use Rattle.avro_schema_json.specs.declared.error.SchemaError.{SchemaError}
-use Rattle.avro_schema_json.specs.Declares.{RawField, RawNode}
-use Rattle.avro_schema_json.specs.DeclaredAttributes.{unless}
-use Rattle.avro_schema_json.specs.DeclaredFaults.{refusals_of_nodes, or_else}
-use Rattle.avro_schema_json.specs.DeclaredSchema.{field_default, completed_field, completed_node}
-use Rattle.avro_schema_json.specs.Refusals.{refusal_of_fault}
-use Rattle.avro_schema_json.specs.inside.SeenDefaults.{defaults_of_node, fields_with_defaults, nodes_with_defaults}
+use Rattle.std.proofs.Common.{◌≡◌, ℕ, zero, suc, ◌<◌, Bool, false, ◌&&◌, List, [], ◌∷◌, length, map, refl, sym, ap, ◌∙◌, arith, nat_le, nat_lt, Contains, slice_index_or}
+use Rattle.avro_schema_json.proofs.Words.{and_parts, false≢true, false_from_ne_true, nat_tests, NodeFault, limit_exceeded, faults_of_nodes, IsThere, Node, max_nodes, there-contains, SchemaError, RawField, RawNode, unless, refusals_of_nodes, or_else, field_default, completed_field, completed_node, refusal_of_fault, defaults_of_node, fields_with_defaults, nodes_with_defaults}
 
 fields-completed : (nodes : List Node) (fields : List RawField) → fields_with_defaults fields (map (field_default nodes) fields) ≡ map (completed_field nodes) fields
 fields-completed nodes [] = refl

@@ -1,23 +1,6 @@
 -- What follows from the definitions: a tree declares one schema at most, and none exactly where a fault is there.
-use Rattle.std.proofs.Common.{◌≡◌, ℕ, Bool, true, false, not, ◌&&◌, List, [], ◌∷◌, Option, Some, None, refl, subst, ap, map, Ordering, arith}
-use Rattle.std.specs.Prelude.{option_map, option_and_then, if◌then◌else◌, Contains}
-use Rattle.std.specs.Ordering.{nat_cmp, match_ordering}
-use Rattle.std.specs.Cmp.Lexicographic.{slice_cmp}
-use Rattle.std.proofs.lemmas.Bool.{and_parts}
-use Rattle.avro_schema.specs.Node.{Node}
-use Rattle.avro_schema.specs.WellFormed.{is_schema}
-use Rattle.avro_schema.specs.Faulty.{NodeFault, faults_of_nodes}
-use Rattle.avro_schema.proofs.public.NodeFaults.{is_schema-from_no_faults, no_faults-from_is_schema}
-use Rattle.serde_json.specs.Data.{Data, Members, no_members, member}
-use Rattle.serde_json.specs.Find.{get_member}
-use Rattle.serde_json.specs.Written.{has_float}
-use Rattle.avro_schema_json.specs.declared.error.SchemaError.{SchemaError}
-use Rattle.avro_schema_json.specs.DeclaredAttributes.{unless}
-use Rattle.avro_schema_json.specs.Declares.{made_of, meaning_of, meaning_under, fields_from, fields_under}
-use Rattle.avro_schema_json.specs.DeclaredDefaults.{default_of, default_under}
-use Rattle.avro_schema_json.specs.DeclaredSchema.{declared, completed_nodes, are_all_defaults_read, is_empty, DeclaresSchema}
-use Rattle.avro_schema_json.specs.DeclaredFaults.{faults_of, refusals_of_nodes, or_else, HasFault}
-use Rattle.avro_schema_json.specs.Refusals.{refusal_of_fault}
+use Rattle.std.proofs.Common.{◌≡◌, ℕ, Bool, true, false, not, ◌&&◌, List, [], ◌∷◌, Option, Some, None, refl, subst, ap, map, Ordering, arith, option_map, option_and_then, if◌then◌else◌, Contains, nat_cmp}
+use Rattle.avro_schema_json.proofs.Words.{match_ordering, slice_cmp, and_parts, Node, is_schema, NodeFault, faults_of_nodes, is_schema-from_no_faults, no_faults-from_is_schema, Data, Members, no_members, member, get_member, has_float, SchemaError, unless, made_of, meaning_of, meaning_under, fields_from, fields_under, default_of, default_under, declared, completed_nodes, are_all_defaults_read, is_empty, DeclaresSchema, faults_of, refusals_of_nodes, or_else, HasFault, refusal_of_fault}
 
 -- ---- look-ups
 
@@ -68,11 +51,8 @@ no_refusals-from_is_schema nodes h = ap (map refusal_of_fault) (no_faults-from_i
 pub at_most_one_schema : (tree : Data) (a b : List Node) → DeclaresSchema tree a → DeclaresSchema tree b → a ≡ b
 at_most_one_schema tree a b g h = cc
 
-some-injective : {A : Type 0} (x y : A) → Some x ≡ Some y → x ≡ y
-some-injective x y h = cc
-
 only_where : {A : Type 0} (b : Bool) (x y : A) → (if b then Some x else None) ≡ Some y → (b ≡ true) × (x ≡ y)
-only_where true x y h = (refl, some-injective x y h)
+only_where true x y h = (refl, cc)
 only_where false x y h = cc
 
 -- the nodes that a tree declares are a schema
@@ -121,11 +101,8 @@ none_declared-from_faults tree e es h =
     rw (stages-faulty (has_float tree) (is_schema (completed_nodes raws)) (are_all_defaults_read raws) (made_of tree).faults
     (refusals_of_nodes (completed_nodes raws)) e es (no_refusals-from_is_schema (completed_nodes raws)) h) refl
 
-no_element : {A : Type 0} (x : A) → Contains [] x → ⊥
-no_element x c = omega (arith, c.1)
-
 none_declared-from_faults_of : (tree : Data) (fault : SchemaError) (es : List SchemaError) → faults_of tree ≡ es → Contains es fault → declared tree ≡ None
-none_declared-from_faults_of tree fault [] h c = absurd (no_element fault c)
+none_declared-from_faults_of tree fault [] h c = absurd (omega (arith, c.1))
 none_declared-from_faults_of tree fault (e ∷ es) h c = none_declared-from_faults tree e es h
 
 -- a tree in which a fault is there declares no schema
@@ -142,34 +119,3 @@ fault-from_none_declared_of tree (e ∷ es) h none = (e, rw h (0, omega arith, r
 
 pub fault-from_none_declared : (tree : Data) → declared tree ≡ None → (fault : SchemaError) × HasFault tree fault
 fault-from_none_declared tree none = fault-from_none_declared_of tree (faults_of tree) refl none
-
--- ---- the stage in which a fault is there
-
-or_else-first : {A : Type 0} (xs ys : List A) (x : A) → Contains xs x → Contains (or_else xs ys) x
-or_else-first [] ys x c = absurd (no_element x c)
-or_else-first (y ∷ xs) ys x c = c
-
-or_else-second : {A : Type 0} (xs ys : List A) (x : A) → xs ≡ [] → Contains ys x → Contains (or_else xs ys) x
-or_else-second xs ys x h c = rw h c
-
--- a number that is not whole
-pub fault-from_number : (tree : Data) → has_float tree ≡ true → HasFault tree SchemaError.UnsupportedNumber
-fault-from_number tree h = rw h (0, omega arith, refl)
-
--- a fault of declarations
-pub fault-from_declarations : (tree : Data) (fault : SchemaError) → has_float tree ≡ false → Contains (made_of tree).faults fault → HasFault tree fault
-fault-from_declarations tree fault whole c =
-    rw whole (or_else-first (made_of tree).faults _ fault c)
-
--- a fault of nodes
-pub fault-from_nodes : (tree : Data) (fault : SchemaError) → has_float tree ≡ false → (made_of tree).faults ≡ []
-    → Contains (refusals_of_nodes (completed_nodes (made_of tree).nodes)) fault → HasFault tree fault
-fault-from_nodes tree fault whole clean c =
-    rw (whole, clean) (or_else-first (refusals_of_nodes (completed_nodes (made_of tree).nodes)) _ fault c)
-
--- a default that is not a datum
-pub fault-from_defaults : (tree : Data) → has_float tree ≡ false → (made_of tree).faults ≡ []
-    → is_schema (completed_nodes (made_of tree).nodes) ≡ true → are_all_defaults_read (made_of tree).nodes ≡ false
-    → HasFault tree SchemaError.InvalidDefault
-fault-from_defaults tree whole clean formed unread =
-    rw (whole, clean, no_refusals-from_is_schema (completed_nodes (made_of tree).nodes) formed, unread) (0, omega arith, refl)

@@ -1,18 +1,7 @@
 -- One step of reading the defaults of items, of entries and of fields.
-use Rattle.std.proofs.Common.{◌≡◌, ℕ, zero, suc, ◌+◌, ◌<◌, ◌≤◌, List, [], ◌∷◌, ◌++◌, length, Option, Some, None, option_map, option_and_then, get_or, drop, refl, ap, ◌∙◌, sym, add-one}
-use Rattle.std.specs.Prelude.{String, string_bytes, slice_get}
-use Rattle.std.specs.declared.alloc.Global.{Global}
-use Rattle.std.proofs.lemmas.List.{drop_more}
-use Rattle.avro_schema.specs.Node.{Node, FieldNode, node_at}
-use Rattle.avro_schema.specs.Seen.{value_of, values_of}
-use Rattle.avro_schema.specs.Value.{Value, Values, Entries}
+use Rattle.std.proofs.Common.{◌≡◌, ℕ, zero, suc, ◌+◌, ◌<◌, ◌≤◌, List, [], ◌∷◌, ◌++◌, length, Option, Some, None, option_map, option_and_then, get_or, drop, refl, ap, ◌∙◌, sym, add-one, String, string_bytes, slice_get, Global}
+use Rattle.avro_schema_json.proofs.Words.{drop_more, Node, FieldNode, node_at, value_of, values_of, Value, Values, Entries, Data, get_member, view, items_view, members_view, Tree, Entry, default_of, default_under, each_default, entries_default, fields_default}
 use Rattle.avro_schema.specs.declared.datum.Datum.{Datum}
-use Rattle.serde_json.specs.Data.{Data}
-use Rattle.serde_json.specs.Find.{get_member}
-use Rattle.serde_json.specs.View.{view, items_view, members_view}
-use Rattle.serde_json.specs.declared.value.Value.{Value as Tree}
-use Rattle.serde_json.proofs.Views.{Entry}
-use Rattle.avro_schema_json.specs.DeclaredDefaults.{default_of, default_under, each_default, entries_default, fields_default}
 use Rattle.avro_schema_json.proofs.RawSeen.{name_and_node}
 use Rattle.avro_schema_json.proofs.DeclarationLaws.{default_under-found}
 use Rattle.avro_schema_json.proofs.DefaultsSeen.{drop_past, after_values, after_entries, value_step, value_stop, values_end, entry_step}

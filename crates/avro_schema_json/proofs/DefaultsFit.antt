@@ -1,22 +1,10 @@
 -- The default that JSON is for a node is a datum of the node.
-use Rattle.std.proofs.Common.{◌≡◌, ℕ, suc, ◌+◌, ◌≤◌, Bool, true, false, ◌&&◌, List, [], ◌∷◌, length, Option, Some, None, refl, sym, ap, subst, ◌∙◌, arith, Ordering}
-use Rattle.std.specs.Prelude.{option_map, option_and_then, bytes_eq, nat_lt, ◌==◌, chars, slice_get, if◌then◌else◌}
-use Rattle.std.specs.List.{list_all}
+use Rattle.std.proofs.Common.{◌≡◌, ℕ, suc, ◌+◌, ◌≤◌, Bool, true, false, ◌&&◌, List, [], ◌∷◌, length, Option, Some, None, refl, sym, ap, subst, ◌∙◌, arith, Ordering, option_map, option_and_then, bytes_eq, nat_lt, ◌==◌, chars, slice_get, if◌then◌else◌, nat_cmp}
+use Rattle.avro_schema_json.proofs.Words.{list_all, match_ordering, slice_cmp, and_parts, nat_tests, Value, Values, value, Entries, no_entries, entry, values_count, entries_count, keys_of, Node, FieldNode, node_at, field_ids, are_distinct, Num, Data, Items, no_items, item, Members, no_members, member, as_i64, symbol_index, only_if, first_fit, by_first_fit, null_default, boolean_default, number_default, text_default, bytes_of_text, items_default, fields_default, object_default, names_only, member_keys, default_of, each_default, entries_default, default_under}
 use Rattle.std.specs.Option.{option_or}
-use Rattle.std.specs.Ordering.{nat_cmp, match_ordering}
-use Rattle.std.specs.Cmp.Lexicographic.{slice_cmp}
 use Rattle.std.specs.Str.{is_utf8}
-use Rattle.std.proofs.lemmas.Bool.{and_parts}
-use Rattle.std.proofs.lemmas.Bool.Decides.{nat_tests}
 use Rattle.std.proofs.lemmas.Str.{IsUtf8-from_is_utf8, length-le-encodes, encodes-chars}
-use Rattle.avro_schema.specs.Value.{Value, Values, value, Entries, no_entries, entry, values_count, entries_count, keys_of}
-use Rattle.avro_schema.specs.Node.{Node, FieldNode, node_at, field_ids}
 use Rattle.avro_schema.specs.Fits.{fits, each_fits, entries_fit, fields_fit, is_int, is_long, is_count, is_text, are_bytes}
-use Rattle.avro_schema.specs.Distinct.{are_distinct}
-use Rattle.serde_json.specs.Data.{Num, Data, Items, no_items, item, Members, no_members, member}
-use Rattle.serde_json.specs.Find.{as_i64}
-use Rattle.avro_schema_json.specs.DeclaredAttributes.{symbol_index}
-use Rattle.avro_schema_json.specs.DeclaredDefaults.{only_if, first_fit, by_first_fit, null_default, boolean_default, number_default, text_default, bytes_of_text, items_default, fields_default, object_default, names_only, member_keys, default_of, each_default, entries_default, default_under}
 use Rattle.avro_schema_json.specs.PlainTree.{items_count, is_plain_tree, are_plain_items, are_plain_members}
 
 -- ---- options
@@ -72,21 +60,21 @@ bytes-are_bytes text b p h =
     let found = only_if-some (list_all (λ c. nat_lt c 256) (chars text)) (chars text) b h in
     subst (λ l. are_bytes l ≡ true) found.1 (rw (chars-counted text p, found.0) refl)
 
-nat_lt-first : (n : ℕ) → nat_lt 0 (suc n) ≡ true
-nat_lt-first n = grind (arith, nat_tests)
-
-nat_lt-next : (m n : ℕ) → nat_lt m n ≡ true → nat_lt (suc m) (suc n) ≡ true
-nat_lt-next m n h = grind (arith, nat_tests)
-
 symbol_index-below : (word : List ℕ) (symbols : List (List ℕ)) (k : ℕ) → symbol_index word symbols ≡ Some k → nat_lt k (length symbols) ≡ true
 symbol_index-below word [] k h = cc
 symbol_index-below word (symbol ∷ symbols) k h = by_test (bytes_eq word symbol) (symbol_index word symbols) (symbol_index-below word symbols) h
   where
+    first : (n : ℕ) → nat_lt 0 (suc n) ≡ true
+    first n = grind (arith, nat_tests)
+
+    next : (m n : ℕ) → nat_lt m n ≡ true → nat_lt (suc m) (suc n) ≡ true
+    next m n h = grind (arith, nat_tests)
+
     by_test : (b : Bool) (o : Option ℕ) → ((j : ℕ) → o ≡ Some j → nat_lt j (length symbols) ≡ true)
         → (if b then Some 0 else option_map suc o) ≡ Some k → nat_lt k (suc (length symbols)) ≡ true
-    by_test true o below g = subst (λ i. nat_lt i (suc (length symbols)) ≡ true) (some-injective g) (nat_lt-first (length symbols))
+    by_test true o below g = subst (λ i. nat_lt i (suc (length symbols)) ≡ true) (some-injective g) (first (length symbols))
     by_test false None below g = cc
-    by_test false (Some j) below g = subst (λ i. nat_lt i (suc (length symbols)) ≡ true) (some-injective g) (nat_lt-next j (length symbols) (below j refl))
+    by_test false (Some j) below g = subst (λ i. nat_lt i (suc (length symbols)) ≡ true) (some-injective g) (next j (length symbols) (below j refl))
 
 text-fits : (nodes : List Node) (text : List ℕ) (n : Node) (v : Value) → is_text text ≡ true → text_default text n ≡ Some v → fits nodes n v ≡ true
 text-fits nodes text Node.string v p h = subst (λ w. fits nodes Node.string w ≡ true) (some-injective h) p
@@ -133,17 +121,7 @@ by_first_fit-fits nodes read (Node.union ids) v fit h =
     let found = first_fit-found nodes read 0 ids v h in
     subst (λ w. fits nodes (Node.union ids) w ≡ true) found.3
     (union-fits nodes ids (0 + found.0) found.0 found.1 found.2 (omega arith) found.4 (fit (node_at nodes found.1) found.2 found.5))
-by_first_fit-fits nodes read Node.null v fit h = fit Node.null v h
-by_first_fit-fits nodes read Node.boolean v fit h = fit Node.boolean v h
-by_first_fit-fits nodes read Node.int v fit h = fit Node.int v h
-by_first_fit-fits nodes read Node.long v fit h = fit Node.long v h
-by_first_fit-fits nodes read Node.bytes v fit h = fit Node.bytes v h
-by_first_fit-fits nodes read Node.string v fit h = fit Node.string v h
-by_first_fit-fits nodes read (Node.array id) v fit h = fit (Node.array id) v h
-by_first_fit-fits nodes read (Node.map_of id) v fit h = fit (Node.map_of id) v h
-by_first_fit-fits nodes read (Node.record_of name aliases fields) v fit h = fit (Node.record_of name aliases fields) v h
-by_first_fit-fits nodes read (Node.enum name aliases symbols default) v fit h = fit (Node.enum name aliases symbols default) v h
-by_first_fit-fits nodes read (Node.fixed name aliases count) v fit h = fit (Node.fixed name aliases count) v h
+by_first_fit-fits nodes read n v fit h = fit n v h
 
 -- ---- items, entries and fields
 

@@ -1,21 +1,10 @@
 -- The ids of names and the numbers of namespaces, as one is added.
-use Rattle.std.proofs.Common.{◌≡◌, ◌⊎◌, inl, inr, ⊎_elim, ℕ, ◌+◌, ◌≤◌, Bool, true, false, not, ◌&&◌, ◌==◌, cond, List, length, [], ◌∷◌, ◌++◌, Option, Some, None, refl, sym, ap, ◌∙◌, arith, ne_eqb}
-use Rattle.std.specs.Prelude.{bytes_eq, String, string_bytes, Result, Ok, Err, IfOk, OnOk, OnErr, is_some, if◌then◌else◌}
-use Rattle.std.specs.declared.alloc.Global.{Global}
-use Rattle.std.specs.BTreeMap.{BTreeMap, get, is_at, btree_map_len, Updates}
+use Rattle.std.proofs.Common.{◌≡◌, ◌⊎◌, inl, inr, ⊎_elim, ℕ, ◌+◌, ◌≤◌, Bool, true, false, not, ◌&&◌, ◌==◌, cond, List, length, [], ◌∷◌, ◌++◌, Option, Some, None, refl, sym, ap, ◌∙◌, arith, ne_eqb, bytes_eq, String, string_bytes, Result, Ok, Err, IfOk, OnOk, OnErr, is_some, if◌then◌else◌, Global, BTreeMap, btree_map_len, is_eq, nat_cmp}
+use Rattle.avro_schema_json.proofs.Words.{get, is_at, Updates, slice_cmp, cond-true, cond-false, false_from_ne_true, Decides-eqb, is_eq-slice_cmp, bytes_eq-Decides, Name, same_name, name_of, split_name, has_dot, is_dotted_name, is_primitive_word, is_eq-then, same_name-is, same_name-sym, bytes_eq-self, Known, id_of, defining, Key, key_cmp, number_of, IsIndexOf}
 use Rattle.std.specs.Map.{lookup}
 use Rattle.std.specs.Cmp.{unsigned_tied, both_ways}
-use Rattle.std.specs.Ordering.{is_eq, nat_cmp}
 use Rattle.std.specs.String.{string_cmp}
-use Rattle.std.specs.Cmp.Lexicographic.{slice_cmp}
-use Rattle.std.proofs.lemmas.Bool.{cond-true, cond-false, false_from_ne_true}
-use Rattle.std.proofs.lemmas.Bool.Decides.{Decides-eqb}
-use Rattle.std.proofs.lemmas.Map.Text.{is_eq-slice_cmp}
-use Rattle.std.proofs.lemmas.Slice.Eq.{bytes_eq-Decides}
-use Rattle.avro_name.specs.Name.{Name, same_name, name_of, split_name, has_dot, is_dotted_name, is_primitive_word}
-use Rattle.avro_name.proofs.public.Names.{is_eq-then, same_name-is, same_name-sym, bytes_eq-self}
-use Rattle.avro_schema_json.specs.Declares.{Known, id_of, defining}
-use Rattle.avro_schema_json.specs.inside.KnownNames.{Key, key_cmp, number_of, IsIndexOf}
+use Rattle.std.proofs.Math.Bool.{and_comm}
 use Rattle.avro_schema_json.specs.inside.KnownSeen.{known_of, IsNumbered}
 use Rattle.avro_schema_json.specs.declared.declarations.name_table.NameTable.{NameTable}
 use Rattle.avro_schema_json.specs.declared.declarations.name_table.Space.{Space}
@@ -46,11 +35,6 @@ found_after q name id (first ∷ known) absent = by (found_after q name id known
         → id_of q ((first ∷ known) ++ (name, id) ∷ []) ≡ cond (same_name q name) (Some id) (id_of q (first ∷ known))
     by rest true h = let other = taken q name known first h absent in rw (h, other) refl
     by rest false h = rw h rest
-
--- a result that is one is the other
-pub answers_so : {T E : Type 0} {P Q : T → Type 0} (r : Result T E) → IfOk r P → ((x : T) → P x → Q x) → IfOk r Q
-answers_so (Ok x) h f = f x h
-answers_so (Err e) h f = h
 
 -- a name is found by its namespace's number and its simple part
 pub found_in : (names : NameTable) (space : Space) (name : Name) (simple : List ℕ) (id : Option ℕ) (known : Known) → IsNumbered names space
@@ -86,12 +70,6 @@ or_none (Some x) = inr (x, refl)
 one_bytes : (xs ys : List ℕ) → bytes_eq xs ys ≡ true → xs ≡ ys
 one_bytes xs ys h = (bytes_eq-Decides xs ys).0 h
 
-and-comm : (a b : Bool) → (a && b) ≡ (b && a)
-and-comm true true = refl
-and-comm true false = refl
-and-comm false true = refl
-and-comm false false = refl
-
 is_eq-keys : (a b : Key) → is_eq (key_cmp a b) ≡ ((a.0 == b.0) && bytes_eq (string_bytes a.1) (string_bytes b.1))
 is_eq-keys a b =
     is_eq-then (nat_cmp a.0 b.0) (string_cmp a.1 b.1)
@@ -114,7 +92,7 @@ module _ (known : Known) (numbers : BTreeMap (List ℕ) ℕ) (ids : BTreeMap Key
     key_of : (namespace : List ℕ) (n : ℕ) (s : String Global) → number_of numbers namespace ≡ Some n
         → is_eq (key_cmp (number, simple) (n, s)) ≡ same_name (record { namespace = namespace; simple = string_bytes s }) name
     key_of namespace n s h =
-        is_eq-keys (number, simple) (n, s) ∙ and-comm (number == n) (bytes_eq (string_bytes simple) (string_bytes s))
+        is_eq-keys (number, simple) (n, s) ∙ and_comm (number == n) (bytes_eq (string_bytes simple) (string_bytes s))
         ∙ ap (λ b. bytes_eq (string_bytes simple) (string_bytes s) && b) (one_number name.namespace namespace number n numbered h)
         ∙ ap (λ t. bytes_eq t (string_bytes s) && bytes_eq name.namespace namespace) spelled
         ∙ same_name-sym name (record { namespace = namespace; simple = string_bytes s })
@@ -168,9 +146,6 @@ module _ (known : Known) (numbers : BTreeMap (List ℕ) ℕ) (ids : BTreeMap Key
         let other : bytes_eq namespace q ≡ false = false_from_ne_true (bytes_eq namespace q) (λ e.
         let found : None ≡ Some n = sym new ∙ ap (number_of numbers) (one_bytes namespace q e) ∙ h in absurd (cc)) in
         put_text q ∙ ap (λ b. cond b (Some number) (number_of numbers q)) other ∙ h
-
-    pub number_put : number_of later namespace ≡ Some number
-    number_put = put_text namespace ∙ ap (λ b. cond b (Some number) (number_of numbers namespace)) (bytes_eq-self namespace)
 
     pub numbered_after : IsIndexOf known later ids
     numbered_after = record {

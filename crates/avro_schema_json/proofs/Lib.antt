@@ -1,3 +1,4 @@
+pub mod Words
 pub mod RowsDeclared
 mod RowsDefaults
 mod RowsFaults

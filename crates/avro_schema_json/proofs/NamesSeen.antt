@@ -1,14 +1,6 @@
 -- The names of fields as they are gathered.
-use Rattle.std.proofs.Common.{◌≡◌, ℕ, suc, ◌+◌, ◌≤◌, Bool, true, false, ◌||◌, cond, List, [], ◌∷◌, length, Option, Some, None, option_map, drop, refl, ap, sym, ◌∙◌, add-one}
-use Rattle.std.specs.Prelude.{String, string_bytes, slice_get, bytes_eq, is_some}
-use Rattle.std.specs.declared.alloc.Global.{Global}
-use Rattle.std.specs.List.{list_any}
-use Rattle.avro_name.proofs.public.Names.{bytes_eq-sym}
-use Rattle.avro_schema.specs.Node.{FieldNode}
-use Rattle.serde_json.specs.View.{members_view}
-use Rattle.serde_json.specs.declared.value.Value.{Value as Tree}
-use Rattle.serde_json.proofs.Views.{Entry}
-use Rattle.avro_schema_json.specs.DeclaredDefaults.{member_keys, names_only}
+use Rattle.std.proofs.Common.{◌≡◌, ℕ, suc, ◌+◌, ◌≤◌, Bool, true, false, ◌||◌, cond, List, [], ◌∷◌, length, Option, Some, None, option_map, drop, refl, ap, sym, ◌∙◌, add-one, String, string_bytes, slice_get, bytes_eq, is_some, Global}
+use Rattle.avro_schema_json.proofs.Words.{list_any, bytes_eq-sym, FieldNode, members_view, Tree, Entry, member_keys, names_only}
 use Rattle.avro_schema_json.proofs.RawSeen.{name_and_node}
 use Rattle.avro_schema_json.proofs.DefaultSteps.{drop_at, field_at-found}
 use Rattle.avro_schema_json.proofs.DefaultsSeen.{drop_past}

@@ -1,17 +1,7 @@
 -- How objects are read: what their members mean.
-use Rattle.std.proofs.Common.{◌≡◌, ℕ, List, [], ◌∷◌, ◌++◌, Option, Some, None, refl, subst, arith, sym, ap, ◌∙◌, inr, BTreeMap, String, Global}
-use Rattle.std.specs.Prelude.{option_map, option_and_then, codes}
-use Rattle.std.specs.BTreeMap.{get_by_text}
-use Rattle.avro_schema.specs.Node.{Node}
-use Rattle.serde_json.specs.Data.{Data, Members, object}
-use Rattle.serde_json.specs.Find.{get_member}
-use Rattle.serde_json.specs.View.{view, members_view}
+use Rattle.std.proofs.Common.{◌≡◌, ℕ, List, [], ◌∷◌, ◌++◌, Option, Some, None, refl, subst, arith, sym, ap, ◌∙◌, inr, BTreeMap, String, Global, option_map, option_and_then, codes}
+use Rattle.avro_schema_json.proofs.Words.{get_by_text, Node, Data, Members, object, get_member, view, members_view, view-lookup, SchemaError, needed, text_in, alias_texts_in, RawField, Meaning, faulty, container_of, meaning_of, fields_under, fields_from, field_meaning, field_of, form_of, array_form, map_form, State, Reads, Refuses, IsRefusal, IsAttribute}
 use Rattle.serde_json.specs.declared.value.Value.{Value}
-use Rattle.serde_json.proofs.Views.{view-lookup}
-use Rattle.avro_schema_json.specs.declared.error.SchemaError.{SchemaError}
-use Rattle.avro_schema_json.specs.DeclaredAttributes.{needed, text_in, alias_texts_in}
-use Rattle.avro_schema_json.specs.Declares.{RawField, Meaning, faulty, container_of, meaning_of, fields_under, fields_from, field_meaning, field_of, form_of, array_form, map_form}
-use Rattle.avro_schema_json.specs.inside.Reading.{State, Reads, Refuses, IsRefusal, IsAttribute}
 use Rattle.avro_schema_json.proofs.DeclarationLaws.{meaning_under-found, fields_under-found}
 use Rattle.avro_schema_json.proofs.TypesRead.{first-refused, second-refused}
 

@@ -1,12 +1,6 @@
 -- How the parts of a declaration are read.
-use Rattle.std.proofs.Common.{◌≡◌, ℕ, true, false, List, [], Option, Some, None, refl, arith, sym, inr}
-use Rattle.std.specs.Prelude.{◌⊎◌, IsErrOf, is_some, ok_or, Result, Ok, Contains}
-use Rattle.std.proofs.lemmas.List.{append-nil}
-use Rattle.std.proofs.lemmas.List.Elements.{Contains-append_right}
-use Rattle.avro_name.specs.Name.{Name, name_of}
-use Rattle.avro_schema_json.specs.declared.error.SchemaError.{SchemaError}
-use Rattle.avro_schema_json.specs.Declares.{name_faults, Known, id_of, reference}
-use Rattle.avro_schema_json.specs.inside.Reading.{State, made_at, IsRead, IsRefusal, limit_faults, beginning_faults}
+use Rattle.std.proofs.Common.{◌≡◌, ℕ, true, false, List, [], Option, Some, None, refl, arith, sym, inr, ◌⊎◌, IsErrOf, is_some, ok_or, Result, Ok, Contains, append-nil}
+use Rattle.avro_schema_json.proofs.Words.{Contains-append_right, Name, name_of, SchemaError, name_faults, Known, id_of, reference, State, made_at, IsRead, IsRefusal, limit_faults, beginning_faults}
 
 -- ---- references
 

@@ -1,12 +1,6 @@
 -- How the program's nodes and fields are seen before their defaults are read.
-use Rattle.std.proofs.Common.{◌≡◌, ℕ, zero, suc, ◌<◌, ◌≤◌, List, [], ◌∷◌, length, Option, Some, None, option_map, get_or, map, refl, ap, ◌∙◌, sym, arith}
-use Rattle.std.specs.Prelude.{slice_get, string_bytes}
-use Rattle.std.proofs.lemmas.List.{length-map}
-use Rattle.std.proofs.lemmas.Option.{slice_get-map}
-use Rattle.avro_schema.specs.Node.{FieldNode}
-use Rattle.avro_schema_json.specs.DeclaredSchema.{field_without_default}
-use Rattle.avro_schema_json.specs.inside.OwnDefaults.{fields_seen}
-use Rattle.avro_schema_json.specs.inside.SeenRaw.{raw_field_of, raw_fields_of}
+use Rattle.std.proofs.Common.{◌≡◌, ℕ, zero, suc, ◌<◌, ◌≤◌, List, [], ◌∷◌, length, Option, Some, None, option_map, get_or, map, refl, ap, ◌∙◌, sym, arith, slice_get, string_bytes}
+use Rattle.avro_schema_json.proofs.Words.{length-map, slice_get-map, slice_get_read, FieldNode, field_without_default, fields_seen, raw_field_of, raw_fields_of}
 use Rattle.avro_schema_json.specs.declared.raw.RawField.{RawField}
 
 -- the name and the node of a field
@@ -24,16 +18,11 @@ raw_field_at fs i =
     seen None = refl
     seen (Some f) = refl
 
-pub at_index : {A : Type 0} (xs : List A) (i : ℕ) (x : A) → i < length xs → x ≡ get_or xs i x → slice_get xs i ≡ Some x
-at_index [] i x below at = absurd (omega arith)
-at_index (y ∷ ys) zero x below at = ap Some (sym at)
-at_index (y ∷ ys) (suc i) x below at = at_index ys i x (omega arith) at
-
 -- the field of an index, by its name
 pub field_item : (fs : List RawField) (i : ℕ) (f : RawField) (name : List ℕ) → i < length fs → f ≡ get_or fs i f → name ≡ string_bytes f.name
     → Some (name, f.node.0) ≡ option_map name_and_node (slice_get (fields_seen fs) i)
 field_item fs i f name below at named =
-    let found = at_index fs i f below at in
+    let found = slice_get_read fs (length fs) i f refl below at in
     rw named (ap (option_map {U = List ℕ × ℕ} (λ g. (string_bytes g.name, g.node.0))) (sym found) ∙ raw_field_at fs i)
 
 -- no field is left

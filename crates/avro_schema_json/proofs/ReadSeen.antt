@@ -1,15 +1,6 @@
 -- What a tree declares, stage by stage.
-use Rattle.std.proofs.Common.{◌≡◌, true, false, List, [], refl, ap, sym, ◌∙◌}
-use Rattle.std.specs.Prelude.{Contains}
-use Rattle.avro_schema.specs.Node.{Node}
-use Rattle.avro_schema.specs.WellFormed.{is_schema}
-use Rattle.serde_json.specs.Data.{Data}
-use Rattle.serde_json.specs.Written.{has_float}
-use Rattle.avro_schema_json.specs.declared.error.SchemaError.{SchemaError}
-use Rattle.avro_schema_json.specs.Declares.{RawNode, made_of}
-use Rattle.avro_schema_json.specs.DeclaredAttributes.{unless}
-use Rattle.avro_schema_json.specs.DeclaredFaults.{refusals_of_nodes, or_else, HasFault}
-use Rattle.avro_schema_json.specs.DeclaredSchema.{completed_nodes, are_all_defaults_read, DeclaresSchema}
+use Rattle.std.proofs.Common.{◌≡◌, true, false, List, [], refl, ap, sym, ◌∙◌, Contains}
+use Rattle.avro_schema_json.proofs.Words.{Node, is_schema, Data, has_float, SchemaError, RawNode, made_of, unless, refusals_of_nodes, or_else, HasFault, completed_nodes, are_all_defaults_read, DeclaresSchema}
 
 -- the nodes of a tree without a fault are what it declares
 pub declared-found : (tree : Data) (raws : List RawNode) (nodes : List Node) → false ≡ has_float tree → (made_of tree).faults ≡ [] → raws ≡ (made_of tree).nodes

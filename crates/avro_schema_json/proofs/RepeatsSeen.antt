@@ -1,32 +1,12 @@
 -- A union in which a branch occurs twice, and a record that has two fields of one name, is a fault of the nodes with their defaults.
-use Rattle.std.proofs.Common.{◌≡◌, ℕ, zero, suc, ◌+◌, ◌<◌, ◌≤◌, Bool, true, false, not, ◌&&◌, ◌||◌, cond, List, [], ◌∷◌, ◌++◌, length, map, filter_map, Option, Some, None, get_or, ◌⊎◌, inl, inr, refl, sym, ap, subst, ◌∙◌, arith, nat_lt}
-use Rattle.std.specs.Prelude.{slice_get, is_some, bytes_eq, flat_map}
-use Rattle.std.specs.List.{list_all, list_any, cons_option, AllByRecursion, IsDistinct}
-use Rattle.std.specs.Ordering.{nat_cmp}
-use Rattle.std.specs.BTreeSet.{BTreeSet, contains}
-use Rattle.std.proofs.lemmas.Bool.{and_parts, or_parts, false≢true, not-true, false_from_ne_true}
-use Rattle.std.proofs.lemmas.Bool.Decides.{Decides-eqb}
-use Rattle.std.proofs.lemmas.List.{length-map}
-use Rattle.std.proofs.lemmas.Option.{slice_get_within}
-use Rattle.std.proofs.lemmas.Slice.Eq.{bytes_eq-Decides}
-use denote.Ref.{Bor}
-use Rattle.std.specs.BTreeMap.{BTreeMap}
+use Rattle.std.proofs.Common.{◌≡◌, ℕ, zero, suc, ◌+◌, ◌<◌, ◌≤◌, Bool, true, false, not, ◌&&◌, ◌||◌, cond, List, [], ◌∷◌, ◌++◌, length, map, filter_map, Option, Some, None, get_or, ◌⊎◌, inl, inr, refl, sym, ap, subst, ◌∙◌, arith, nat_lt, slice_get, is_some, bytes_eq, flat_map, nat_cmp, BTreeSet, Bor, BTreeMap}
+use Rattle.avro_schema_json.proofs.Words.{list_all, list_any, cons_option, AllByRecursion, and_parts, or_parts, false≢true, not-true, false_from_ne_true, Decides-eqb, length-map, list_any-append, slice_get_within, bytes_eq-Decides, Name, same_name-self, are_distinct, invalid_union, duplicate_field, breaks, has_fields_rule, IsThere, Node, FieldNode, node_at, node_name, ids_of, field_names, is_edge, is_union, BranchKind, unnamed, named, branch_kind, same_kind, broken-there, RawField, RawNode, field_without_default, node_without_defaults, completed_field, completed_node, without_defaults, all_without_defaults, fields_seen, KeptField, KeptNode, kind_code, code_by, Repeats, SomeRepeats, RepeatsName, RecordRepeatsName, SomeRepeatsName, AreFieldsDistinct}
+use Rattle.std.specs.BTreeSet.{contains}
 use Rattle.avro_schema_json.specs.inside.Parents.{label_of}
-use Rattle.avro_name.proofs.public.Names.{same_name-self}
-use Rattle.avro_schema.specs.Distinct.{are_distinct}
-use Rattle.avro_schema.specs.Faulty.{invalid_union, duplicate_field, breaks, has_fields_rule, IsThere}
-use Rattle.avro_schema.specs.Node.{Node, FieldNode, node_at, node_name, branches_of}
-use Rattle.avro_schema.specs.Seen.{ids_of}
+use Rattle.avro_schema.specs.Node.{branches_of}
 use Rattle.avro_schema.specs.declared.schema.NodeId.{NodeId}
 use Rattle.avro_schema.specs.SeenKind.{kind_at, has_kind}
-use Rattle.avro_schema.specs.WellFormed.{field_names, is_edge, is_union, BranchKind, unnamed, named, branch_kind, same_kind}
-use Rattle.avro_schema.proofs.public.NodeFaults.{broken-there}
-use Rattle.avro_schema_json.specs.Declares.{RawField, RawNode}
-use Rattle.avro_schema_json.specs.DeclaredSchema.{field_without_default, node_without_defaults, completed_field, completed_node}
-use Rattle.avro_schema_json.specs.inside.OwnDefaults.{without_defaults, all_without_defaults, fields_seen}
-use Rattle.avro_schema_json.specs.declared.raw.RawField.{RawField as KeptField}
-use Rattle.avro_schema_json.specs.declared.raw.RawNode.{RawNode as KeptNode}
-use Rattle.avro_schema_json.specs.inside.Repeats.{kind_code, code_by, Repeats, SomeRepeats, RepeatsName, RecordRepeatsName, SomeRepeatsName, AreFieldsDistinct}
+use Rattle.std.specs.List.{IsDistinct}
 use Rattle.avro_schema_json.proofs.NodesSeen.{node_here, as_many}
 
 -- ---- one code, one kind
@@ -55,42 +35,42 @@ module _ (nodes : List Node) where
       let same : k ≡ j = same_code x y k j (λ xy. one_kind (kind_at nodes x) (kind_at nodes y) k j (ap (kind_at nodes) xy) e f) h' in
       ap (same_kind k) (sym same) ∙ same_kind-self k
 
+  -- the first of branches that have kinds
+  first_kind : (z : ℕ) (zs : List ℕ) → list_all (has_kind nodes) (z ∷ zs) ≡ true
+      → (k : BranchKind) × (kind_at nodes z ≡ Some k) × (list_all (has_kind nodes) zs ≡ true) × (filter_map (kind_at nodes) (z ∷ zs) ≡ k ∷ filter_map (kind_at nodes) zs)
+  first_kind z zs some =
+      let parts = and_parts (has_kind nodes z) (list_all (has_kind nodes) zs) some in
+      let found = has_some (kind_at nodes z) parts.0 in
+      (found.0, found.1, parts.1, ap (λ (o : Option BranchKind). cons_option o (filter_map (kind_at nodes) zs)) found.1)
+
   -- no later branch is of the kind of one
   none_later : (y x : ℕ) (k : BranchKind) (xs : List ℕ) (i : ℕ) → kind_at nodes y ≡ Some k → list_all (has_kind nodes) xs ≡ true
       → list_any (same_kind k) (filter_map (kind_at nodes) xs) ≡ false → slice_get xs i ≡ Some x → code_by nodes x ≡ code_by nodes y → ⊥
   none_later y x k [] i e some none at h = absurd cc
-  none_later y x k (z ∷ zs) zero e some none at h =
-      let parts = and_parts (has_kind nodes z) (list_all (has_kind nodes) zs) some in
-      let found = has_some (kind_at nodes z) parts.0 in
-      let none' = subst (λ (o : Option BranchKind). list_any (same_kind k) (cons_option o (filter_map (kind_at nodes) zs)) ≡ false) found.1 none in
-      let both = or_parts (same_kind k found.0) (list_any (same_kind k) (filter_map (kind_at nodes) zs)) none' in
-      let same : x ≡ z = cc in
-      false≢true (sym both.0 ∙ kinds_alike y z k found.0 e found.1 (sym h ∙ ap (code_by nodes) same))
-  none_later y x k (z ∷ zs) (suc i) e some none at h =
-      let parts = and_parts (has_kind nodes z) (list_all (has_kind nodes) zs) some in
-      let found = has_some (kind_at nodes z) parts.0 in
-      let none' = subst (λ (o : Option BranchKind). list_any (same_kind k) (cons_option o (filter_map (kind_at nodes) zs)) ≡ false) found.1 none in
-      let both = or_parts (same_kind k found.0) (list_any (same_kind k) (filter_map (kind_at nodes) zs)) none' in
-      none_later y x k zs i e parts.1 both.1 at h
+  none_later y x k (z ∷ zs) i e some none at h =
+      let first = first_kind z zs some in
+      let both = or_parts (same_kind k first.0) (list_any (same_kind k) (filter_map (kind_at nodes) zs)) (ap (list_any (same_kind k)) (sym first.3) ∙ none) in
+      by i at first.0 first.1 both.0 (λ m there. none_later y x k zs m e first.2 both.1 there h)
+    where
+      by : (i : ℕ) → slice_get (z ∷ zs) i ≡ Some x → (j : BranchKind) → kind_at nodes z ≡ Some j → same_kind k j ≡ false → ((m : ℕ) → slice_get zs m ≡ Some x → ⊥) → ⊥
+      by zero here j is other later = let same : x ≡ z = cc in false≢true (sym other ∙ kinds_alike y z k j e is (sym h ∙ ap (code_by nodes) same))
+      by (suc m) here j is other later = later m here
 
   distinct_codes : (xs : List ℕ) (i j x y : ℕ) → list_all (has_kind nodes) xs ≡ true → are_distinct same_kind (filter_map (kind_at nodes) xs) ≡ true
       → j < i → slice_get xs i ≡ Some x → slice_get xs j ≡ Some y → code_by nodes x ≡ code_by nodes y → ⊥
   distinct_codes [] i j x y some h below at_x at_y same = absurd cc
   distinct_codes (z ∷ zs) zero j x y some h below at_x at_y same = absurd (omega (arith, below))
-  distinct_codes (z ∷ zs) (suc i) zero x y some h below at_x at_y same =
-      let parts = and_parts (has_kind nodes z) (list_all (has_kind nodes) zs) some in
-      let found = has_some (kind_at nodes z) parts.0 in
-      let h' = subst (λ (o : Option BranchKind). are_distinct same_kind (cons_option o (filter_map (kind_at nodes) zs)) ≡ true) found.1 h in
-      let both = and_parts (not (list_any (same_kind found.0) (filter_map (kind_at nodes) zs))) (are_distinct same_kind (filter_map (kind_at nodes) zs)) h' in
-      let first : y ≡ z = cc in
-      none_later z x found.0 zs i found.1 parts.1 (not-true (list_any (same_kind found.0) (filter_map (kind_at nodes) zs)) both.0) at_x
-      (same ∙ ap (code_by nodes) first)
-  distinct_codes (z ∷ zs) (suc i) (suc j) x y some h below at_x at_y same =
-      let parts = and_parts (has_kind nodes z) (list_all (has_kind nodes) zs) some in
-      let found = has_some (kind_at nodes z) parts.0 in
-      let h' = subst (λ (o : Option BranchKind). are_distinct same_kind (cons_option o (filter_map (kind_at nodes) zs)) ≡ true) found.1 h in
-      let both = and_parts (not (list_any (same_kind found.0) (filter_map (kind_at nodes) zs))) (are_distinct same_kind (filter_map (kind_at nodes) zs)) h' in
-      distinct_codes zs i j x y parts.1 both.1 (omega (arith, below)) at_x at_y same
+  distinct_codes (z ∷ zs) (suc i) j x y some h below at_x at_y same =
+      let first = first_kind z zs some in
+      let rest = filter_map (kind_at nodes) zs in
+      let both = and_parts (not (list_any (same_kind first.0) rest)) (are_distinct same_kind rest) (ap (are_distinct same_kind) (sym first.3) ∙ h) in
+      by j below at_y first.0 first.1 first.2 (not-true (list_any (same_kind first.0) rest) both.0)
+      (λ m less there. distinct_codes zs i m x y first.2 both.1 less at_x there same)
+    where
+      by : (j : ℕ) → j < suc i → slice_get (z ∷ zs) j ≡ Some y → (k : BranchKind) → kind_at nodes z ≡ Some k → list_all (has_kind nodes) zs ≡ true
+          → list_any (same_kind k) (filter_map (kind_at nodes) zs) ≡ false → ((m : ℕ) → m < i → slice_get zs m ≡ Some y → ⊥) → ⊥
+      by zero less here k is all none later = let first : y ≡ z = cc in none_later z x k zs i is all none at_x (same ∙ ap (code_by nodes) first)
+      by (suc m) less here k is all none later = later m (omega (arith, less)) here
 
   -- where a branch occurs twice there is no union
   repeated_branch : (ids : List ℕ) → Repeats nodes ids → is_union nodes ids ≡ false
@@ -102,31 +82,19 @@ module _ (nodes : List Node) where
 
 -- ---- from the nodes without their defaults to those with them
 
-completed_kind : (nodes : List Node) (raws : List RawNode) (m : ℕ) → branch_kind (node_at (map (completed_node nodes) raws) m) ≡ branch_kind (node_at (map node_without_defaults raws) m)
-completed_kind nodes [] m = refl
-completed_kind nodes (RawNode.plain n ∷ raws) zero = refl
-completed_kind nodes (RawNode.record_of name aliases fields ∷ raws) zero = refl
-completed_kind nodes (RawNode.plain n ∷ raws) (suc m) = completed_kind nodes raws m
-completed_kind nodes (RawNode.record_of name aliases fields ∷ raws) (suc m) = completed_kind nodes raws m
-
-completed_branches : (nodes : List Node) (raws : List RawNode) (m : ℕ) → branches_of (node_at (map (completed_node nodes) raws) m) ≡ branches_of (node_at (map node_without_defaults raws) m)
-completed_branches nodes [] m = refl
-completed_branches nodes (RawNode.plain n ∷ raws) zero = refl
-completed_branches nodes (RawNode.record_of name aliases fields ∷ raws) zero = refl
-completed_branches nodes (RawNode.plain n ∷ raws) (suc m) = completed_branches nodes raws m
-completed_branches nodes (RawNode.record_of name aliases fields ∷ raws) (suc m) = completed_branches nodes raws m
-
-completed_name : (nodes : List Node) (raws : List RawNode) (m : ℕ) → node_name (node_at (map (completed_node nodes) raws) m) ≡ node_name (node_at (map node_without_defaults raws) m)
-completed_name nodes [] m = refl
-completed_name nodes (RawNode.plain n ∷ raws) zero = refl
-completed_name nodes (RawNode.record_of name aliases fields ∷ raws) zero = refl
-completed_name nodes (RawNode.plain n ∷ raws) (suc m) = completed_name nodes raws m
-completed_name nodes (RawNode.record_of name aliases fields ∷ raws) (suc m) = completed_name nodes raws m
+-- what is asked of a node, but for its fields, is the same of the completed one
+completed_at : {A : Type 0} (f : Node → A) → ((name : Name) (aliases : List Name) (gs hs : List FieldNode) → f (Node.record_of name aliases gs) ≡ f (Node.record_of name aliases hs))
+    → (nodes : List Node) (raws : List RawNode) (m : ℕ) → f (node_at (map (completed_node nodes) raws) m) ≡ f (node_at (map node_without_defaults raws) m)
+completed_at f alike nodes [] m = refl
+completed_at f alike nodes (RawNode.plain n ∷ raws) zero = refl
+completed_at f alike nodes (RawNode.record_of name aliases fields ∷ raws) zero = alike name aliases (map (completed_field nodes) fields) (map field_without_default fields)
+completed_at f alike nodes (RawNode.plain n ∷ raws) (suc m) = completed_at f alike nodes raws m
+completed_at f alike nodes (RawNode.record_of name aliases fields ∷ raws) (suc m) = completed_at f alike nodes raws m
 
 completed_edge : (nodes : List Node) (raws : List RawNode) (m p : ℕ) → is_edge (map (completed_node nodes) raws) m p ≡ is_edge (map node_without_defaults raws) m p
 completed_edge nodes raws m p =
     let count : length (map (completed_node nodes) raws) ≡ length (map node_without_defaults raws) = simp length-map in
-    rw (count, completed_name nodes raws p) refl
+    rw (count, completed_at node_name (λ name aliases gs hs. refl) nodes raws p) refl
 
 completed_edges : (nodes : List Node) (raws : List RawNode) (m : ℕ) (ids : List ℕ)
     → list_all (is_edge (map (completed_node nodes) raws) m) ids ≡ list_all (is_edge (map node_without_defaults raws) m) ids
@@ -144,11 +112,11 @@ pub repeated-there : (nodes : List Node) (raws : List RawNode) → SomeRepeats (
 repeated-there nodes raws some =
     let r = some.5 in
     let completed = map (completed_node nodes) raws in
-    let code : (p : ℕ) → code_by completed p ≡ code_by (map node_without_defaults raws) p = λ p. ap (kind_code p) (completed_kind nodes raws p) in
+    let code : (p : ℕ) → code_by completed p ≡ code_by (map node_without_defaults raws) p = λ p. ap (kind_code p) (completed_at branch_kind (λ name aliases gs hs. refl) nodes raws p) in
     let count : length completed ≡ length (map node_without_defaults raws) = simp length-map in
     let broken = repeated_branch completed some.1 (r.0, r.1, r.2, r.3, r.4, r.5, r.6, code r.2 ∙ r.7 ∙ sym (code r.3)) in
     broken-there invalid_union completed some.0 (rw count some.2)
-    (no_union completed some.0 (node_at completed some.0) some.1 (completed_branches nodes raws some.0 ∙ some.3) (completed_edges nodes raws some.0 some.1 ∙ some.4) broken)
+    (no_union completed some.0 (node_at completed some.0) some.1 (completed_at branches_of (λ name aliases gs hs. refl) nodes raws some.0 ∙ some.3) (completed_edges nodes raws some.0 some.1 ∙ some.4) broken)
 
 -- ---- as they are looked for
 
@@ -187,20 +155,16 @@ some-repeats raws i raw ids below at are edges repeats =
 -- ---- names of fields
 
 any_behind : {A : Type 0} (p : A → Bool) (xs ys : List A) → list_any p ys ≡ true → list_any p (xs ++ ys) ≡ true
-any_behind p [] ys h = h
-any_behind p (x ∷ xs) ys h = rw (any_behind p xs ys h) (either (p x))
+any_behind p xs ys h = rw (list_any-append p xs ys, h) (or_true-right (list_any p xs))
   where
-    either : (b : Bool) → (b || true) ≡ true
-    either true = refl
-    either false = refl
+    or_true-right : (b : Bool) → (b || true) ≡ true
+    or_true-right true = refl
+    or_true-right false = refl
 
 distinct_behind : {A : Type 0} (equal : A → A → Bool) (xs ys : List A) → are_distinct equal ys ≡ false → are_distinct equal (xs ++ ys) ≡ false
 distinct_behind equal [] ys h = h
-distinct_behind equal (x ∷ xs) ys h = rw (distinct_behind equal xs ys h) (neither (not (list_any (equal x) (xs ++ ys))))
-  where
-    neither : (b : Bool) → (b && false) ≡ false
-    neither true = refl
-    neither false = refl
+distinct_behind equal (x ∷ xs) ys h = false_from_ne_true _ (λ all.
+    false≢true (sym (distinct_behind equal xs ys h) ∙ (and_parts (not (list_any (equal x) (xs ++ ys))) (are_distinct equal (xs ++ ys)) all).1))
 
 name_among : (fields : List FieldNode) (i : ℕ) (f : FieldNode) (name : List ℕ) → slice_get fields i ≡ Some f → name ≡ f.name
     → list_any (bytes_eq name) (flat_map field_names fields) ≡ true

@@ -1,10 +1,7 @@
 -- Limits of what is declared: computed.
 use Rattle.std.proofs.Common.{◌≡◌, refl, ℕ, zero, suc, List, [], ◌∷◌, ◌++◌, Some, None, codes, option_map, length}
-use Rattle.serde_json.specs.Data.{Data}
-use Rattle.serde_json.specs.Read.{read}
+use Rattle.avro_schema_json.proofs.Words.{Data, read, SchemaError, meaning_of}
 use Rattle.serde_json.proofs.OnLiterals.{serde_json_on_literals}
-use Rattle.avro_schema_json.specs.declared.error.SchemaError.{SchemaError}
-use Rattle.avro_schema_json.specs.Declares.{meaning_of}
 use Rattle.avro_schema_json.proofs.RowsDeclared.{declared_by}
 
 -- a number of arrays in one another, of null

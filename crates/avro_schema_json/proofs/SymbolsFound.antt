@@ -1,10 +1,6 @@
 -- The indices of symbols, as they are gathered from the last.
-use Rattle.std.proofs.Common.{◌≡◌, ℕ, suc, ◌+◌, ◌<◌, Bool, true, false, cond, List, [], ◌∷◌, length, Option, Some, None, option_map, get_or, drop, drop-cons, refl, ap, sym, ◌∙◌, arith}
-use Rattle.std.specs.Prelude.{String, string_bytes, bytes_eq}
-use Rattle.std.specs.declared.alloc.Global.{Global}
-use Rattle.avro_schema.specs.Seen.{texts_of}
-use Rattle.avro_schema_json.specs.DeclaredAttributes.{symbol_index}
-use Rattle.avro_name.proofs.public.Names.{bytes_eq-sym}
+use Rattle.std.proofs.Common.{◌≡◌, ℕ, suc, ◌+◌, ◌<◌, Bool, true, false, cond, List, [], ◌∷◌, length, Option, Some, None, option_map, get_or, drop, drop-cons, refl, ap, sym, ◌∙◌, arith, String, string_bytes, bytes_eq, Global}
+use Rattle.avro_schema_json.proofs.Words.{texts_of, symbol_index, bytes_eq-sym}
 
 -- the first index of a word among the symbols from an index on
 abbrev pub index_from : List ℕ → List (String Global) → ℕ → Option ℕ
@@ -14,20 +10,9 @@ one_later : (o : Option ℕ) (n : ℕ) → option_map (λ k. k + n) (option_map 
 one_later None n = refl
 one_later (Some index) n = ap Some (omega arith)
 
-none_later : (o : Option ℕ) → option_map (λ k. k + 0) o ≡ o
-none_later None = refl
-none_later (Some index) = ap Some (omega arith)
-
 pub next_here : (symbols : List (String Global)) (n : ℕ) (symbol : String Global) → n < length symbols → symbol ≡ get_or symbols n symbol
     → drop n symbols ≡ symbol ∷ drop (suc n) symbols
 next_here symbols n symbol within is = drop-cons symbols n symbol within ∙ ap (λ s. s ∷ drop (suc n) symbols) (sym is)
-
-pub indices_start : (word : List ℕ) (symbols : List (String Global)) (n : ℕ) → n ≡ length symbols → None ≡ index_from word symbols n
-indices_start word symbols n is = rw is (past symbols)
-  where
-    past : (xs : List (String Global)) → None ≡ option_map (λ k. k + length symbols) (symbol_index word (texts_of (drop (length xs) xs)))
-    past [] = refl
-    past (x ∷ xs) = past xs
 
 pub index_next : (symbols : List (String Global)) (n : ℕ) (symbol key : String Global) (index : ℕ) (word : List ℕ) (before after : Option ℕ)
     → n < length symbols → symbol ≡ get_or symbols n symbol → string_bytes key ≡ string_bytes symbol → index ≡ n → before ≡ index_from word symbols (suc n)
@@ -38,8 +23,3 @@ index_next symbols n symbol key index word before after within at copied indexed
     by : (same : Bool) → bytes_eq word (string_bytes symbol) ≡ same → cond (bytes_eq word (string_bytes symbol)) (Some n) before ≡ index_from word symbols n
     by true h = rw (next_here symbols n symbol within at, h) (ap Some (omega arith))
     by false h = rw (next_here symbols n symbol within at, h) (known ∙ sym (one_later (symbol_index word (texts_of (drop (suc n) symbols))) n))
-
-pub indices_end : (word : List ℕ) (symbols : List (String Global)) (n : ℕ) (found : Option ℕ) → n ≡ 0 → found ≡ index_from word symbols n
-    → found ≡ symbol_index word (texts_of symbols)
-indices_end word symbols n found is whole =
-    whole ∙ ap (index_from word symbols) is ∙ none_later (symbol_index word (texts_of symbols))

@@ -1,16 +1,9 @@
 -- How types are read: a node above its parts, and parts one after another.
-use Rattle.std.proofs.Common.{◌≡◌, ℕ, suc, ◌+◌, ◌<◌, ◌≤◌, true, List, [], ◌∷◌, ◌++◌, refl, subst, length, get_or, arith, sym, ap, ◌∙◌, inl, inr, length-append, drop, drop-cons, add-one}
-use Rattle.std.specs.Prelude.{slice_set, nat_lt}
-use Rattle.std.proofs.lemmas.List.{append_assoc, append-nil}
-use Rattle.std.proofs.lemmas.List.Elements.{Contains-append_left, Contains-append_right}
+use Rattle.std.proofs.Common.{◌≡◌, ℕ, suc, ◌+◌, ◌<◌, ◌≤◌, true, List, [], ◌∷◌, ◌++◌, refl, subst, length, get_or, arith, sym, ap, ◌∙◌, inl, inr, length-append, drop, slice_set, nat_lt, append_assoc, append-nil}
+use Rattle.avro_schema_json.proofs.Words.{drop_more, Contains-append_left, Contains-append_right, Node, max_nodes, view, items_view, SchemaError, RawNode, RawField, Known, Made, Meaning, node_with, in_turn, meaning_of, branches_of, field_meaning, field_meanings, State, made_at, IsRead, Reads, IsRefusal, Refuses, IsAdded, limit_faults}
 use Rattle.std.proofs.Math.ListN.{drop_of_length-le}
 use Rattle.std.proofs.Math.Seq.{set-append_seam}
-use Rattle.avro_schema.specs.WellFormed.{max_nodes}
-use Rattle.serde_json.specs.View.{view, items_view}
 use Rattle.serde_json.specs.declared.value.Value.{Value}
-use Rattle.avro_schema_json.specs.declared.error.SchemaError.{SchemaError}
-use Rattle.avro_schema_json.specs.Declares.{RawNode, RawField, Known, Made, Meaning, node_with, in_turn, meaning_of, branches_of, field_meaning, field_meanings}
-use Rattle.avro_schema_json.specs.inside.Reading.{State, made_at, IsRead, Reads, IsRefusal, Refuses, limit_faults}
 
 -- ---- refusals of a part are refusals of the whole
 
@@ -27,53 +20,50 @@ grown-refused xs ys zs e h = rw (← append_assoc xs ys zs) (first-refused (xs +
 
 -- ---- a node above its parts
 
--- what a part makes inside a node, of which the id is kept
-inside-made : {A : Type 0} (part : Meaning A) (space : List ℕ) (before inside : State) (held : RawNode) (known : Known)
-    → inside.nodes ≡ before.nodes ++ held ∷ [] → inside.known ≡ known
-    → made_at part space inside ≡ part space known (suc (length before.nodes))
-inside-made part space before inside held known nodes names =
-    let next : length inside.nodes ≡ suc (length before.nodes) = ap length nodes ∙ length-append before.nodes (held ∷ []) ∙ omega arith in
-    rw (names, next) refl
+-- A node is held at its id, until its parts are read.
+pub record IsHeld (before inside : State) (known : Known) (id : ℕ) : Type 0 where
+  pub id_is : id ≡ length before.nodes
+  pub within : nat_lt (length before.nodes) max_nodes ≡ true
+  pub nodes_are : inside.nodes ≡ before.nodes ++ RawNode.plain Node.null ∷ []
+  pub known_are : inside.known ≡ known
 
--- a node is put at the id that is kept for it
-put-node : (before parts inside after last : List RawNode) (held node : RawNode) (id : ℕ) → id ≡ length before
-    → inside ≡ before ++ held ∷ [] → after ≡ inside ++ parts → last ≡ slice_set after id node → last ≡ before ++ node ∷ parts
-put-node before parts inside after last held node id at kept added put =
-    let whole : after ≡ before ++ held ∷ parts = added ∙ ap (λ xs. xs ++ parts) kept ∙ append_assoc before (held ∷ []) parts in
-    put ∙ rw (whole, at) (set-append_seam before held parts node)
+pub held-added : {before inside : State} {id : ℕ} → IsAdded before inside (RawNode.plain Node.null) id → IsHeld before inside before.known id
+held-added added = record { id_is = added.id_is; within = added.within; nodes_are = added.nodes_are; known_are = added.known_are }
 
-pub node_with-read : {A : Type 0} (part : Meaning A) (space : List ℕ) (before inside after last : State) (held put : RawNode) (node : A → RawNode)
-    (faults : List SchemaError) (known : Known) (result : A) (id : ℕ)
-    → id ≡ length before.nodes → nat_lt (length before.nodes) max_nodes ≡ true → faults ≡ []
-    → inside.nodes ≡ before.nodes ++ held ∷ [] → inside.known ≡ known → Reads part space inside after result
-    → put ≡ node result → last.nodes ≡ slice_set after.nodes id put → last.known ≡ after.known
-    → IsRead (node_with (length before.nodes) node faults (part space known (suc (length before.nodes)))) before last id
-node_with-read part space before inside after last held put node faults known result id at within clean kept names read is nodes last_names =
-    let made = made_at part space inside in
-    let same = inside-made part space before inside held known kept names in
-    let put_is : put ≡ node made.result = is ∙ ap node (sym read.result_is) in
-    subst (λ parts. IsRead (node_with (length before.nodes) node faults parts) before last id) same
-    (record {
-      no_faults = rw (within, clean, read.no_faults) refl;
-      result_is = sym at;
-      nodes_are = put-node before.nodes made.nodes inside.nodes after.nodes last.nodes held (node made.result) id at kept read.nodes_are
-          (nodes ∙ ap (λ n. slice_set after.nodes id n) put_is);
-      known_are = last_names ∙ read.known_are;
-    })
+module _ {A : Type 0} (part : Meaning A) (space : List ℕ) {before inside : State} {known : Known} {id : ℕ} (held : IsHeld before inside known id)
+    (node : A → RawNode) (faults : List SchemaError) where
+  -- what a part makes inside the node
+  inside-made : made_at part space inside ≡ part space known (suc (length before.nodes))
+  inside-made =
+      let next : length inside.nodes ≡ suc (length before.nodes) = ap length held.nodes_are ∙ length-append before.nodes (RawNode.plain Node.null ∷ []) ∙ omega arith in
+      rw (held.known_are, next) refl
 
--- a fault of the node's own, and one of a part
-pub node_with-own : {A : Type 0} (before : State) (node : A → RawNode) (faults : List SchemaError) (parts : Made A) (e : SchemaError)
-    → IsRefusal faults e → IsRefusal (node_with (length before.nodes) node faults parts).faults e
-node_with-own before node faults parts e h =
-    first-refused (limit_faults before ++ faults) parts.faults e (second-refused (limit_faults before) faults e h)
+  pub node_with-read : (after last : State) (result : A) → faults ≡ [] → Reads part space inside after result
+      → last.nodes ≡ slice_set after.nodes id (node result) → last.known ≡ after.known
+      → IsRead (node_with (length before.nodes) node faults (part space known (suc (length before.nodes)))) before last id
+  node_with-read after last result clean read put kept =
+      let made = made_at part space inside in
+      let at : id ≡ length before.nodes = held.id_is in
+      let whole : after.nodes ≡ before.nodes ++ RawNode.plain Node.null ∷ made.nodes =
+      read.nodes_are ∙ ap (λ xs. xs ++ made.nodes) held.nodes_are ∙ append_assoc before.nodes (RawNode.plain Node.null ∷ []) made.nodes in
+      subst (λ parts. IsRead (node_with (length before.nodes) node faults parts) before last id) inside-made
+      (record {
+        no_faults = rw (held.within, clean, read.no_faults) refl;
+        result_is = sym held.id_is;
+        nodes_are = put ∙ ap (λ (x : A). slice_set after.nodes id (node x)) (sym read.result_is)
+            ∙ rw (whole, at) (set-append_seam before.nodes (RawNode.plain Node.null) made.nodes (node made.result));
+        known_are = kept ∙ read.known_are;
+      })
 
-pub node_with-part : {A : Type 0} (part : Meaning A) (space : List ℕ) (before inside : State) (held : RawNode) (node : A → RawNode)
-    (faults : List SchemaError) (known : Known) (e : SchemaError)
-    → inside.nodes ≡ before.nodes ++ held ∷ [] → inside.known ≡ known → Refuses part space inside e
-    → IsRefusal (node_with (length before.nodes) node faults (part space known (suc (length before.nodes)))).faults e
-node_with-part part space before inside held node faults known e kept names refused =
-    let same = inside-made part space before inside held known kept names in
-    second-refused (limit_faults before ++ faults) _ e (subst (λ (made : Made _). IsRefusal made.faults e) same refused)
+  -- a fault of the node's own, and one of a part
+  pub node_with-own : (e : SchemaError) → IsRefusal faults e
+      → IsRefusal (node_with (length before.nodes) node faults (part space known (suc (length before.nodes)))).faults e
+  node_with-own e h = first-refused (limit_faults before ++ faults) _ e (second-refused (limit_faults before) faults e h)
+
+  pub node_with-part : (e : SchemaError) → Refuses part space inside e
+      → IsRefusal (node_with (length before.nodes) node faults (part space known (suc (length before.nodes)))).faults e
+  node_with-part e refused =
+      second-refused (limit_faults before ++ faults) _ e (subst (λ (made : Made A). IsRefusal made.faults e) inside-made refused)
 
 -- ---- parts one after another
 
@@ -87,74 +77,46 @@ pub record IsReading {A : Type 0} (whole rest : Made (List A)) (before now : Sta
 pub reading-begun : {A : Type 0} (whole : Made (List A)) (before : State) → IsReading whole whole before before []
 reading-begun whole before = record { nodes_are = refl; results_are = refl; known_are = refl; faults_are = refl }
 
--- a part is read
-pub reading-next : {A : Type 0} (whole : Made (List A)) (meaning : Meaning A) (meanings : List (Meaning A)) (enclosing : List ℕ) (before now later : State)
-    (results : List A) (result : A) → IsReading whole (made_at (in_turn (meaning ∷ meanings)) enclosing now) before now results
-    → Reads meaning enclosing now later result → IsReading whole (made_at (in_turn meanings) enclosing later) before later (results ++ result ∷ [])
-reading-next whole meaning meanings enclosing before now later results result reading read =
-    let first = made_at meaning enclosing now in
-    let next : length now.nodes + length first.nodes ≡ length later.nodes = sym (ap length read.nodes_are ∙ length-append now.nodes first.nodes) in
-    let rest = in_turn meanings enclosing first.known (length now.nodes + length first.nodes) in
-    let same : rest ≡ made_at (in_turn meanings) enclosing later = rw (← read.known_are, next) refl in
-    let none : first.faults ++ rest.faults ≡ rest.faults = rw read.no_faults refl in
-    subst (λ made. IsReading whole made before later (results ++ result ∷ [])) same
-    (record {
-      nodes_are = reading.nodes_are ∙ sym (append_assoc now.nodes first.nodes rest.nodes) ∙ ap (λ xs. xs ++ rest.nodes) (sym read.nodes_are);
-      results_are = reading.results_are ∙ ap (λ r. results ++ r ∷ rest.result) read.result_is ∙ sym (append_assoc results (result ∷ []) rest.result);
-      known_are = reading.known_are;
-      faults_are = reading.faults_are ∙ none;
-    })
-
--- the next part is refused
-pub reading-refused : {A : Type 0} (whole : Made (List A)) (meaning : Meaning A) (meanings : List (Meaning A)) (enclosing : List ℕ) (before now : State)
-    (results : List A) (e : SchemaError) → IsReading whole (made_at (in_turn (meaning ∷ meanings)) enclosing now) before now results
-    → Refuses meaning enclosing now e → IsRefusal whole.faults e
-reading-refused whole meaning meanings enclosing before now results e reading refused =
-    rw reading.faults_are (first-refused (made_at meaning enclosing now).faults _ e refused)
-
--- nothing is left
-pub reading-done : {A : Type 0} (whole : Made (List A)) (enclosing : List ℕ) (before now : State) (results : List A)
-    → IsReading whole (made_at (in_turn []) enclosing now) before now results → IsRead whole before now results
-reading-done whole enclosing before now results reading =
-    record {
-      no_faults = reading.faults_are;
-      result_is = reading.results_are ∙ append-nil results;
-      nodes_are = sym (reading.nodes_are ∙ append-nil now.nodes);
-      known_are = sym reading.known_are;
-    }
-
--- ---- items one after another
-
+-- items one after another
 module _ {A : Type 0} (meaning : Value → Meaning A) (meanings : List Value → List (Meaning A))
-    (of_next : (item : Value) (items : List Value) → meanings (item ∷ items) ≡ meaning item ∷ meanings items) (of_none : meanings [] ≡ []) where
-  at_item : (items : List Value) (i : ℕ) (item : Value) → i < length items → item ≡ get_or items i item
-      → meanings (drop i items) ≡ meaning item ∷ meanings (drop (i + 1) items)
-  at_item items i item within is =
-      ap meanings (drop-cons items i item within) ∙ ap (λ x. meanings (x ∷ drop (suc i) items)) (sym is) ∙ of_next item (drop (suc i) items)
-      ∙ ap (λ n. meaning item ∷ meanings (drop n items)) (sym (add-one i))
+    (of_next : (item : Value) (items : List Value) → meanings (item ∷ items) ≡ meaning item ∷ meanings items) (of_none : meanings [] ≡ [])
+    (whole : Made (List A)) (enclosing : List ℕ) (before now : State) (results : List A) (items : List Value) (i : ℕ)
+    (reading : IsReading whole (made_at (in_turn (meanings (drop i items))) enclosing now) before now results) where
+  module _ (item : Value) (within : i < length items) (is : item ≡ get_or items i item) where
+    at_item : IsReading whole (made_at (in_turn (meaning item ∷ meanings (drop (i + 1) items))) enclosing now) before now results
+    at_item =
+        subst (λ (ms : List (Meaning A)). IsReading whole (made_at (in_turn ms) enclosing now) before now results)
+        (ap meanings (drop_more items i item within) ∙ ap (λ x. meanings (x ∷ drop (i + 1) items)) (sym is) ∙ of_next item (drop (i + 1) items)) reading
 
-  pub item-read : (whole : Made (List A)) (enclosing : List ℕ) (before now later : State) (results : List A) (result : A) (items : List Value) (i : ℕ) (item : Value)
-      → i < length items → item ≡ get_or items i item
-      → IsReading whole (made_at (in_turn (meanings (drop i items))) enclosing now) before now results → Reads (meaning item) enclosing now later result
-      → IsReading whole (made_at (in_turn (meanings (drop (i + 1) items))) enclosing later) before later (results ++ result ∷ [])
-  item-read whole enclosing before now later results result items i item within is reading read =
-      reading-next whole (meaning item) (meanings (drop (i + 1) items)) enclosing before now later results result
-      (subst (λ (ms : List (Meaning A)). IsReading whole (made_at (in_turn ms) enclosing now) before now results) (at_item items i item within is) reading) read
+    pub item-read : (later : State) (result : A) → Reads (meaning item) enclosing now later result
+        → IsReading whole (made_at (in_turn (meanings (drop (i + 1) items))) enclosing later) before later (results ++ result ∷ [])
+    item-read later result read =
+        let first = made_at (meaning item) enclosing now in
+        let next : length now.nodes + length first.nodes ≡ length later.nodes = sym (ap length read.nodes_are ∙ length-append now.nodes first.nodes) in
+        let rest = in_turn (meanings (drop (i + 1) items)) enclosing first.known (length now.nodes + length first.nodes) in
+        let same : rest ≡ made_at (in_turn (meanings (drop (i + 1) items))) enclosing later = rw (← read.known_are, next) refl in
+        let none : first.faults ++ rest.faults ≡ rest.faults = rw read.no_faults refl in
+        subst (λ made. IsReading whole made before later (results ++ result ∷ [])) same
+        (record {
+          nodes_are = at_item.nodes_are ∙ sym (append_assoc now.nodes first.nodes rest.nodes) ∙ ap (λ xs. xs ++ rest.nodes) (sym read.nodes_are);
+          results_are = at_item.results_are ∙ ap (λ r. results ++ r ∷ rest.result) read.result_is ∙ sym (append_assoc results (result ∷ []) rest.result);
+          known_are = at_item.known_are;
+          faults_are = at_item.faults_are ∙ none;
+        })
 
-  pub item-refused : (whole : Made (List A)) (enclosing : List ℕ) (before now : State) (results : List A) (items : List Value) (i : ℕ) (item : Value) (e : SchemaError)
-      → i < length items → item ≡ get_or items i item
-      → IsReading whole (made_at (in_turn (meanings (drop i items))) enclosing now) before now results → Refuses (meaning item) enclosing now e
-      → IsRefusal whole.faults e
-  item-refused whole enclosing before now results items i item e within is reading refused =
-      reading-refused whole (meaning item) (meanings (drop (i + 1) items)) enclosing before now results e
-      (subst (λ (ms : List (Meaning A)). IsReading whole (made_at (in_turn ms) enclosing now) before now results) (at_item items i item within is) reading) refused
+    pub item-refused : (e : SchemaError) → Refuses (meaning item) enclosing now e → IsRefusal whole.faults e
+    item-refused e refused = rw at_item.faults_are (first-refused (made_at (meaning item) enclosing now).faults _ e refused)
 
-  pub items-read : (whole : Made (List A)) (enclosing : List ℕ) (before now : State) (results : List A) (items : List Value) (i : ℕ) → length items ≤ i
-      → IsReading whole (made_at (in_turn (meanings (drop i items))) enclosing now) before now results → IsRead whole before now results
-  items-read whole enclosing before now results items i past reading =
-      reading-done whole enclosing before now results
-      (subst (λ (ms : List (Meaning A)). IsReading whole (made_at (in_turn ms) enclosing now) before now results)
-      (ap meanings (drop_of_length-le items past) ∙ of_none) reading)
+  pub items-read : length items ≤ i → IsRead whole before now results
+  items-read past =
+      let none : meanings (drop i items) ≡ [] = ap meanings (drop_of_length-le items past) ∙ of_none in
+      let done = subst (λ (ms : List (Meaning A)). IsReading whole (made_at (in_turn ms) enclosing now) before now results) none reading in
+      record {
+        no_faults = done.faults_are;
+        result_is = done.results_are ∙ append-nil results;
+        nodes_are = sym (done.nodes_are ∙ append-nil now.nodes);
+        known_are = sym done.known_are;
+      }
 
 -- the meanings of branches and of fields
 abbrev pub branch_meanings : List Value → List (Meaning ℕ)

@@ -14,7 +14,7 @@ ghost use Rattle.avro_schema_json.specs.inside.Repeats.{AreNamesDistinct};
 ghost use Rattle.avro_schema_json.specs.inside.Tables.{AreTables};
 ghost use Rattle.avro_schema_json.specs.inside.OwnDefaults.{all_without_defaults};
 ghost use Rattle.avro_schema_json.specs.inside.SeenDefaults.{data_seen, lists_seen, defaults_of_node as node_defaults_by, first_or, others_of, fields_with_defaults, node_with_defaults, nodes_with_defaults};
-ghost use Rattle.avro_schema_json.specs.inside.SeenRaw.{raw_field_of, raw_fields_of, raw_record_of, raw_node_of, raw_nodes_of};
+ghost use Rattle.avro_schema_json.specs.inside.SeenRaw.{raw_field_of, raw_fields_of, raw_node_of, raw_nodes_of};
 ghost use Rattle.avro_schema_json.specs.declared.error.SchemaError.TheVariants.{InvalidDefault, OutOfMemory};
 
 use crate::defaults::tables::{Tables, tables_of};
@@ -209,27 +209,6 @@ fn complete_fields(
     Ok(completed)
 }
 
-/// The record with these defaults.
-fn complete_record(
-    alloc: Global,
-    raw: RawRecord<'_>,
-    defaults: Vec<Option<Datum>>,
-) -> Result<Node, Memory>
-    ensures { IfOk result (λ node. node_of node ≡ node_with_defaults (raw_record_of raw.entry) (data_seen defaults.items)) }
-{
-    let RawRecord {
-        name,
-        aliases,
-        fields,
-    } = raw;
-    let fields = complete_fields(alloc, fields, defaults)?;
-    Ok(Node::Record(RecordNode {
-        name,
-        aliases,
-        fields,
-    }))
-}
-
 /// The node with these defaults.
 fn complete_node(
     alloc: Global,
@@ -248,7 +227,20 @@ fn complete_node(
         RawNode::Array(items) => Ok(Node::Array(items)),
         RawNode::Map(values) => Ok(Node::Map(values)),
         RawNode::Union(branches) => Ok(Node::Union(branches)),
-        RawNode::Record(record) => complete_record(alloc, record, defaults),
+        RawNode::Record(
+            RawRecord {
+                name,
+                aliases,
+                fields,
+            },
+        ) => {
+            let fields = complete_fields(alloc, fields, defaults)?;
+            Ok(Node::Record(RecordNode {
+                name,
+                aliases,
+                fields,
+            }))
+        }
         RawNode::Enum(RawEnum { node, indices: _ }) => Ok(Node::Enum(node)),
         RawNode::Fixed(node) => Ok(Node::Fixed(node)),
     }

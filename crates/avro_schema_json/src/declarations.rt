@@ -15,7 +15,7 @@ mod progress;
 mod words;
 
 use crate::declarations::attributes::{Members, alias_texts, aliases, field_name, form, member};
-use crate::declarations::name_table::Space;
+use crate::declarations::name_table::{NameTable, Space};
 use crate::declarations::progress::{Definition, Progress};
 use crate::declarations::words::Form;
 use crate::error::SchemaError;
@@ -232,7 +232,10 @@ pub(crate) fn declarations<'a>(
     ensures found { IfOk result (λ raws. ((made_of (view tree.now)).faults ≡ []) × (raw_nodes_of raws.items ≡ (made_of (view tree.now)).nodes)) }
     ensures refused { IfErr result (IsRefusal (made_of (view tree.now)).faults) }
 {
-    let mut progress = Progress::new(alloc);
+    let mut progress = Progress {
+        nodes: Vec::new(alloc),
+        names: NameTable::new(alloc),
+    };
     let root = progress.names.space(&Namespace::null(alloc))?;
     progress.read_type(alloc, &root, tree)?;
     let Progress { nodes, names: _ } = progress;

@@ -37,24 +37,14 @@ pub(crate) fn branches_at<'a>(raws: &'a [RawNode<'_>], id: NodeId) -> Option<&'a
     }
 }
 
-/// Whether a node is a record, an enum or a fixed.
-fn has_name(raw: &RawNode) -> bool
-    ensures { result ≡ is_some (node_name (without_defaults raw.now)) }
-{
-    matches!(
-        raw,
-        RawNode::Record(_) | RawNode::Enum(_) | RawNode::Fixed(_)
-    )
-}
-
-/// Whether the node of an id is one of these.
+/// Whether the node of an id is a record, an enum or a fixed.
 fn is_named(raws: &[RawNode], id: NodeId) -> bool
     ensures { result ≡ is_some (node_name (node_at (all_without_defaults raws.now) id.0)) }
 {
-    match raw_at(raws, id) {
-        Some(raw) => has_name(raw),
-        None => false,
-    }
+    matches!(
+        raw_at(&*raws, id),
+        Some(RawNode::Record(_) | RawNode::Enum(_) | RawNode::Fixed(_))
+    )
 }
 
 /// Whether an edge stays among the nodes, and goes to a later one or to a record, an enum or a fixed.

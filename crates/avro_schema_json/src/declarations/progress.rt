@@ -1,10 +1,10 @@
-ghost use Rattle.std.specs.Prelude.{◌≡◌, ◌<◌, [], Some, Ok, length, slice_set, IfOk, IfErr, Contains};
+ghost use Rattle.std.specs.Prelude.{◌≡◌, ◌<◌, Some, Ok, length, slice_set, IfOk, IfErr, Contains};
 ghost use Rattle.avro_name.specs.Name.{name_of};
 ghost use Rattle.avro_schema.specs.Node.Node.{null as NullNode};
 ghost use Rattle.avro_schema_json.specs.DeclaredAttributes.{name_in};
 ghost use Rattle.avro_schema_json.specs.Declares.RawNode.{plain as plain_node};
 ghost use Rattle.avro_schema_json.specs.Declares.{reference, id_of};
-ghost use Rattle.avro_schema_json.specs.inside.Reading.{State, made_at, IsRead, IsRefusal, IsAdded, IsBegun, limit_faults, beginning_faults};
+ghost use Rattle.avro_schema_json.specs.inside.Reading.{made_at, IsRead, IsRefusal, IsAdded, IsBegun, limit_faults, beginning_faults};
 ghost use Rattle.avro_schema_json.specs.inside.ReadingSeen.{state_of, IsEnclosed, Keeps};
 ghost use Rattle.avro_schema_json.specs.inside.SeenRaw.{raw_node_of};
 ghost use Rattle.serde_json.specs.View.{members_view};
@@ -35,16 +35,6 @@ pub(crate) struct Definition {
 }
 
 impl<'a> Progress<'a> {
-    /// No nodes and no names.
-    pub fn new(alloc: Global) -> Progress<'a>
-        ensures { state_of result ≡ record { nodes = []; known = [] } }
-    {
-        Progress {
-            nodes: Vec::new(alloc),
-            names: NameTable::new(alloc),
-        }
-    }
-
     /// Adds a node.
     pub fn add(&mut self, node: RawNode<'a>) -> Result<NodeId, SchemaError>
         ensures added { IfOk result (λ id. IsAdded (state_of self.old) (state_of self.new) (raw_node_of node.entry) id.0) }

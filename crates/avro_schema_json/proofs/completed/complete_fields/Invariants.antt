@@ -1,8 +1,5 @@
 use Rattle.std.proofs.Common.{◌≡◌, ◌++◌}
-use Rattle.std.specs.Vec.Iter.{into_iter_items}
-use Rattle.avro_schema.specs.Seen.{seen_fields}
-use Rattle.avro_schema_json.specs.inside.SeenDefaults.{data_seen, fields_with_defaults}
-use Rattle.avro_schema_json.specs.inside.SeenRaw.{raw_fields_of}
+use Rattle.avro_schema_json.proofs.Words.{into_iter_items, seen_fields, data_seen, fields_with_defaults, raw_fields_of}
 use Rattle.avro_schema_json.proofs.completed.complete_fields.Given as goal
 
 abbrev pub invariant-loop-field : goal.invariant-loop-field

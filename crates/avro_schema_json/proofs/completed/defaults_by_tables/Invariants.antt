@@ -1,9 +1,5 @@
 use Rattle.std.proofs.Common.{◌≡◌, ◌++◌, ◌&&◌, map, drop}
-use Rattle.std.specs.List.{list_all}
-use Rattle.avro_schema_json.specs.DeclaredSchema.{are_defaults_read, are_all_defaults_read}
-use Rattle.avro_schema_json.specs.inside.OwnDefaults.{all_without_defaults}
-use Rattle.avro_schema_json.specs.inside.SeenDefaults.{lists_seen, defaults_of_node}
-use Rattle.avro_schema_json.specs.inside.SeenRaw.{raw_nodes_of}
+use Rattle.avro_schema_json.proofs.Words.{list_all, are_defaults_read, are_all_defaults_read, all_without_defaults, lists_seen, defaults_of_node, raw_nodes_of}
 use Rattle.avro_schema_json.proofs.completed.defaults_by_tables.Given as goal
 
 abbrev pub invariant-loop-raw : goal.invariant-loop-raw

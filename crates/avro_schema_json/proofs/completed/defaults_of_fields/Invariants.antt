@@ -1,9 +1,5 @@
 use Rattle.std.proofs.Common.{◌≡◌, ◌++◌, ◌&&◌, map, drop}
-use Rattle.std.specs.List.{list_all}
-use Rattle.avro_schema_json.specs.DeclaredSchema.{field_default, is_default_read}
-use Rattle.avro_schema_json.specs.inside.OwnDefaults.{all_without_defaults}
-use Rattle.avro_schema_json.specs.inside.SeenDefaults.{data_seen}
-use Rattle.avro_schema_json.specs.inside.SeenRaw.{raw_fields_of}
+use Rattle.avro_schema_json.proofs.Words.{list_all, field_default, is_default_read, all_without_defaults, data_seen, raw_fields_of}
 use Rattle.avro_schema_json.proofs.completed.defaults_of_fields.Given as goal
 
 abbrev pub invariant-loop-field : goal.invariant-loop-field

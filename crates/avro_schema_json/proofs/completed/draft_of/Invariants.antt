@@ -1,8 +1,5 @@
 use Rattle.std.proofs.Common.{◌≡◌, ◌+◌, ◌++◌, length}
-use Rattle.std.specs.Vec.Iter.{into_iter_items}
-use Rattle.avro_schema.specs.SeenSchema.{draft_nodes}
-use Rattle.avro_schema_json.specs.inside.SeenDefaults.{lists_seen, nodes_with_defaults}
-use Rattle.avro_schema_json.specs.inside.SeenRaw.{raw_nodes_of}
+use Rattle.avro_schema_json.proofs.Words.{into_iter_items, draft_nodes, lists_seen, nodes_with_defaults, raw_nodes_of}
 use Rattle.avro_schema_json.proofs.completed.draft_of.Given as goal
 
 abbrev pub invariant-loop-raw : goal.invariant-loop-raw

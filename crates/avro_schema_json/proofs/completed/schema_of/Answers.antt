@@ -1,34 +1,17 @@
-use Rattle.std.proofs.Common.{◌≡◌, ◌<◌, ◌⊎◌, inl, inr, true, false, List, length, map, refl, sym, ap, subst, ◌∙◌}
-use Rattle.std.specs.Prelude.{Contains, Option, Some, None, IfSome, option_map, unwrap_or}
-use Rattle.std.proofs.lemmas.List.{length-map}
-use Rattle.std.proofs.lemmas.Result.{err_from_is_err_and}
-use Rattle.avro_schema.specs.Node.{Node}
-use Rattle.avro_schema.specs.Faulty.{NodeFault, invalid_union, duplicate_field, limit_exceeded, fault_of, IsThere, IsRefused}
-use Rattle.avro_schema.specs.SeenSchema.{draft_nodes}
-use Rattle.avro_schema.specs.WellFormed.{is_schema}
-use Rattle.avro_schema.specs.Value.{Value}
+use Rattle.std.proofs.Common.{◌≡◌, ◌<◌, ◌⊎◌, inl, inr, true, false, List, length, map, refl, sym, ap, subst, ◌∙◌, Contains, Option, Some, None, IfSome, option_map}
+use Rattle.avro_schema_json.proofs.Words.{length-map, err_from_is_err_and, Node, NodeFault, invalid_union, duplicate_field, limit_exceeded, fault_of, IsThere, IsRefused, draft_nodes, is_schema, Value, SchemaError, KeptNode, RawNode, unless, refusals_of_nodes, or_else, nodes_without_defaults, completed_nodes, are_all_defaults_read, all_without_defaults, refusal_of_fault, refusal_of, lists_seen, defaults_of_node, nodes_with_defaults, raw_nodes_of, SomeRepeats, SomeRepeatsName}
+use Rattle.std.specs.Prelude.{unwrap_or}
 use Rattle.avro_schema.specs.declared.fault.DraftError.{DraftError}
-use Rattle.avro_schema_json.specs.declared.error.SchemaError.{SchemaError}
-use Rattle.avro_schema_json.specs.declared.raw.RawNode.{RawNode as KeptNode}
-use Rattle.avro_schema_json.specs.Declares.{RawNode}
-use Rattle.avro_schema_json.specs.DeclaredAttributes.{unless}
-use Rattle.avro_schema_json.specs.DeclaredFaults.{refusals_of_nodes, or_else}
-use Rattle.avro_schema_json.specs.DeclaredSchema.{nodes_without_defaults, completed_nodes, are_all_defaults_read}
-use Rattle.avro_schema_json.specs.inside.OwnDefaults.{all_without_defaults}
-use Rattle.avro_schema_json.specs.Refusals.{refusal_of_fault, refusal_of}
-use Rattle.avro_schema_json.specs.inside.SeenDefaults.{lists_seen, defaults_of_node, nodes_with_defaults}
-use Rattle.avro_schema_json.specs.inside.SeenRaw.{raw_nodes_of}
-use Rattle.avro_schema_json.specs.inside.Repeats.{SomeRepeats, SomeRepeatsName}
 use Rattle.avro_schema_json.proofs.RepeatsSeen.{repeated-there, repeated_field-there}
 use Rattle.avro_schema_json.proofs.DeclarationLaws.{no_refusals-from_is_schema}
 use Rattle.avro_schema_json.proofs.CompletedSeen.{nodes-completed, or_else-first, or_else-unread, too_many-there, refusal-contains}
 use Rattle.avro_schema_json.proofs.completed.schema_of.Goals as goal
 
 -- the nodes of the draft are the completed ones
-completed_draft : (raws read : List KeptNode) (lists : List (List (Option Value))) (nodes : List Node) → read ≡ raws
+completed_draft : {raws read : List KeptNode} {lists : List (List (Option Value))} {nodes : List Node} → read ≡ raws
     → lists ≡ map (defaults_of_node (all_without_defaults read)) (raw_nodes_of read) → nodes ≡ nodes_with_defaults (raw_nodes_of raws) lists
     → nodes ≡ completed_nodes (raw_nodes_of raws)
-completed_draft raws read lists nodes same listed is =
+completed_draft {raws} same listed is =
     let d = rw same at listed in
     is ∙ ap (nodes_with_defaults (raw_nodes_of raws)) d ∙ nodes-completed (all_without_defaults raws) (raw_nodes_of raws)
 
@@ -85,8 +68,7 @@ returns-in_err-draft-clause-refused c =
 
 pub returns-in_err-schema-clause-refused : goal.returns-in_err-schema-clause-refused
 returns-in_err-schema-clause-refused c =
-    let completed = completed_draft c.args.raws.items c.deref-3.result.now (lists_seen c.in_ok-of_nodes.field-0.of_nodes.items) (draft_nodes c.in_ok-draft.draft)
-    c.deref-3.ensures.value c.in_ok-of_nodes.ensures.data c.in_ok-draft.ensures.nodes in
+    let completed = completed_draft c.deref-3.ensures.value c.in_ok-of_nodes.ensures.data c.in_ok-draft.ensures.nodes in
     let p = err_from_is_err_and c.from_residual-in_err-schema.result c.from_residual-in_err-schema.ensures.1 in
     rw p.1 (of_draft (raw_nodes_of c.args.raws.items) (draft_nodes c.in_ok-draft.draft) c.in_err-schema.field-0.0 p.0 completed
     c.in_err-schema.ensures.faulty p.2)
@@ -94,8 +76,7 @@ returns-in_err-schema-clause-refused c =
 pub returns-then-not-are_read-clause-refused : goal.returns-then-not-are_read-clause-refused
 returns-then-not-are_read-clause-refused c =
     let raws = raw_nodes_of c.args.raws.items in
-    let completed = completed_draft c.args.raws.items c.deref-3.result.now (lists_seen c.in_ok-of_nodes.field-0.of_nodes.items) (draft_nodes c.in_ok-draft.draft)
-    c.deref-3.ensures.value c.in_ok-of_nodes.ensures.data c.in_ok-draft.ensures.nodes in
+    let completed = completed_draft c.deref-3.ensures.value c.in_ok-of_nodes.ensures.data c.in_ok-draft.ensures.nodes in
     let formed : is_schema (completed_nodes raws) ≡ true = ap is_schema (sym completed) ∙ c.in_ok-schema.ensures.formed in
     let unread : are_all_defaults_read raws ≡ false =
     ap (λ (ns : List KeptNode). are_all_defaults_read (raw_nodes_of ns)) (sym c.deref-3.ensures.value) ∙ sym c.in_ok-of_nodes.ensures.read ∙ c.if-not-are_read.true in
@@ -103,12 +84,10 @@ returns-then-not-are_read-clause-refused c =
 
 pub returns-clause-found : goal.returns-clause-found
 returns-clause-found c =
-    let completed = completed_draft c.args.raws.items c.deref-3.result.now (lists_seen c.in_ok-of_nodes.field-0.of_nodes.items) (draft_nodes c.in_ok-draft.draft)
-    c.deref-3.ensures.value c.in_ok-of_nodes.ensures.data c.in_ok-draft.ensures.nodes in
+    let completed = completed_draft c.deref-3.ensures.value c.in_ok-of_nodes.ensures.data c.in_ok-draft.ensures.nodes in
     c.in_ok-schema.ensures.schema ∙ completed
 
 pub returns-clause-formed : goal.returns-clause-formed
 returns-clause-formed c =
-    let completed = completed_draft c.args.raws.items c.deref-3.result.now (lists_seen c.in_ok-of_nodes.field-0.of_nodes.items) (draft_nodes c.in_ok-draft.draft)
-    c.deref-3.ensures.value c.in_ok-of_nodes.ensures.data c.in_ok-draft.ensures.nodes in
+    let completed = completed_draft c.deref-3.ensures.value c.in_ok-of_nodes.ensures.data c.in_ok-draft.ensures.nodes in
     ap is_schema (sym completed) ∙ c.in_ok-schema.ensures.formed

@@ -1,6 +1,5 @@
 use Rattle.std.proofs.Common.{◌≡◌, drop}
-use Rattle.serde_json.specs.View.{items_view, members_view}
-use Rattle.serde_json.specs.Written.{items_have_float, members_have_float}
+use Rattle.avro_schema_json.proofs.Words.{items_view, members_view, items_have_float, members_have_float}
 use Rattle.avro_schema_json.proofs.floats.+floats.Given as goal
 
 abbrev pub invariant-items_have_float-loop-item : goal.invariant-items_have_float-loop-item

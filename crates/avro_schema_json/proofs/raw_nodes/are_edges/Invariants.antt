@@ -1,8 +1,5 @@
 use Rattle.std.proofs.Common.{◌≡◌, drop}
-use Rattle.std.specs.List.{list_all}
-use Rattle.avro_schema.specs.Seen.{ids_of}
-use Rattle.avro_schema.specs.WellFormed.{is_edge}
-use Rattle.avro_schema_json.specs.inside.OwnDefaults.{all_without_defaults}
+use Rattle.avro_schema_json.proofs.Words.{list_all, ids_of, is_edge, all_without_defaults}
 use Rattle.avro_schema_json.proofs.raw_nodes.are_edges.Given as goal
 
 abbrev pub invariant-loop-branch : goal.invariant-loop-branch

@@ -1,18 +1,5 @@
-use Rattle.std.proofs.Common.{◌≡◌, ◌⊎◌, inl, inr, true, false, List, [], Result, Ok, Err, sym, ◌∙◌}
-use Rattle.std.specs.Prelude.{Contains, IfOk, IfErr, OnOk}
-use Rattle.std.proofs.lemmas.Result.{err_from_is_err_and}
-use Rattle.avro_schema.specs.SeenSchema.{schema_nodes}
-use Rattle.avro_schema.specs.WellFormed.{is_schema}
-use Rattle.avro_schema.specs.declared.schema.Schema.{Schema}
-use Rattle.serde_json.specs.Data.{Data}
-use Rattle.serde_json.specs.Written.{has_float}
-use Rattle.serde_json.specs.View.{view}
-use Rattle.avro_schema_json.specs.declared.error.SchemaError.{SchemaError}
-use Rattle.avro_schema_json.specs.Declares.{RawNode, made_of}
-use Rattle.avro_schema_json.specs.DeclaredAttributes.{unless}
-use Rattle.avro_schema_json.specs.DeclaredFaults.{refusals_of_nodes, or_else, HasFault}
-use Rattle.avro_schema_json.specs.DeclaredSchema.{completed_nodes, are_all_defaults_read, DeclaresSchema}
-use Rattle.avro_schema_json.specs.inside.SeenRaw.{raw_nodes_of}
+use Rattle.std.proofs.Common.{◌≡◌, ◌⊎◌, inl, inr, true, false, List, [], Result, Ok, Err, sym, ◌∙◌, Contains, IfOk, IfErr, OnOk}
+use Rattle.avro_schema_json.proofs.Words.{err_from_is_err_and, schema_nodes, is_schema, Schema, Data, has_float, view, SchemaError, RawNode, made_of, unless, refusals_of_nodes, or_else, HasFault, completed_nodes, are_all_defaults_read, DeclaresSchema, raw_nodes_of}
 use Rattle.avro_schema_json.proofs.MadeSound.{made_fault, fault-other}
 use Rattle.avro_schema_json.proofs.ReadSeen.{declared-found, fault-found}
 use Rattle.avro_schema_json.proofs.read.declared_schema.Goals as goal

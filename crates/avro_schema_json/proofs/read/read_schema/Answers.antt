@@ -1,13 +1,6 @@
-use Rattle.std.proofs.Common.{◌≡◌, ◌⊎◌, inl, inr, List, ℕ, Some, None, Result, Ok, Err, ap, sym, ◌∙◌}
-use Rattle.std.specs.Prelude.{IfErr}
-use Rattle.avro_schema.specs.Node.{Node}
-use Rattle.avro_schema.specs.declared.schema.Schema.{Schema}
-use Rattle.serde_json.specs.Data.{Data}
-use Rattle.serde_json.specs.View.{view}
-use Rattle.avro_schema_json.specs.declared.error.SchemaError.{SchemaError}
+use Rattle.std.proofs.Common.{◌≡◌, ◌⊎◌, inl, inr, List, ℕ, Some, None, Result, Ok, Err, ap, sym, ◌∙◌, IfErr}
+use Rattle.avro_schema_json.proofs.Words.{Node, Schema, Data, view, SchemaError, HasFault, declared, DeclaresSchema}
 use Rattle.avro_schema_json.specs.Declaration.{HasTree}
-use Rattle.avro_schema_json.specs.DeclaredFaults.{HasFault}
-use Rattle.avro_schema_json.specs.DeclaredSchema.{declared, DeclaresSchema}
 use Rattle.avro_schema_json.proofs.DeclarationLaws.{none_declared-from_fault}
 use Rattle.avro_schema_json.proofs.read.read_schema.Goals as goal
 

@@ -1,7 +1,5 @@
-use Rattle.std.proofs.Common.{List, ℕ, refl, sym, ap, ◌∙◌}
-use Rattle.std.specs.Prelude.{slice_get, string_bytes}
-use Rattle.std.proofs.lemmas.Map.Text.{btree_map_updates_str}
-use Rattle.avro_schema_json.specs.inside.OwnDefaults.{fields_seen}
+use Rattle.std.proofs.Common.{List, ℕ, refl, sym, ap, ◌∙◌, slice_get, string_bytes}
+use Rattle.avro_schema_json.proofs.Words.{btree_map_updates_str, fields_seen}
 use Rattle.avro_schema_json.specs.declared.raw.RawField.{RawField}
 use Rattle.avro_schema_json.proofs.DefaultSteps.{field_at-found}
 use Rattle.avro_schema_json.proofs.RawSeen.{field_item}

@@ -1,8 +1,5 @@
-use Rattle.std.proofs.Common.{◌≡◌, ◌++◌, drop}
-use Rattle.std.specs.Prelude.{filter_map, is_some}
-use Rattle.std.specs.List.{list_all}
-use Rattle.avro_name.specs.Name.{name_of}
-use Rattle.avro_schema.specs.Seen.{texts_of}
+use Rattle.std.proofs.Common.{◌≡◌, ◌++◌, drop, filter_map, is_some}
+use Rattle.avro_schema_json.proofs.Words.{list_all, name_of, texts_of}
 use Rattle.avro_schema_json.proofs.declarations.attributes.full_names.Given as goal
 
 abbrev pub invariant-loop-text : goal.invariant-loop-text

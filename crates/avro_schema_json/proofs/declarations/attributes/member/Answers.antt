@@ -1,6 +1,5 @@
 use Rattle.std.proofs.Common.{option_map, ap, ◌∙◌}
-use Rattle.serde_json.specs.View.{view}
-use Rattle.serde_json.proofs.Views.{view_of_ref, view-lookup}
+use Rattle.avro_schema_json.proofs.Words.{view, view_of_ref, view-lookup}
 use Rattle.avro_schema_json.proofs.declarations.attributes.member.Goals as goal
 
 pub returns : goal.returns

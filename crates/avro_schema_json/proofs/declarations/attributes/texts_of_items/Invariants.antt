@@ -1,7 +1,5 @@
 use Rattle.std.proofs.Common.{◌≡◌, ◌++◌, drop, option_map}
-use Rattle.avro_schema.specs.Seen.{texts_of}
-use Rattle.serde_json.specs.View.{items_view}
-use Rattle.avro_schema_json.specs.DeclaredAttributes.{texts_of as texts_in}
+use Rattle.avro_schema_json.proofs.Words.{texts_of, items_view, texts_in}
 use Rattle.avro_schema_json.proofs.declarations.attributes.texts_of_items.Given as goal
 
 abbrev pub invariant-loop-item : goal.invariant-loop-item

@@ -1,7 +1,5 @@
 use Rattle.std.proofs.Common.{rules, ◌≡◌, ap, ◌∙◌}
-use Rattle.std.specs.BTreeMap.{get}
-use Rattle.avro_schema_json.specs.Declares.{id_of}
-use Rattle.avro_schema_json.specs.inside.KnownNames.{key_cmp}
+use Rattle.avro_schema_json.proofs.Words.{get, id_of, key_cmp}
 use Rattle.avro_schema_json.proofs.declarations.name_table.NameTable.id_in.Goals as goal
 
 pub returns : goal.returns

@@ -1,50 +1,31 @@
 use Rattle.std.proofs.Common.{ℕ, ◌∷◌, [], List, Option, IfOk, IfErr, codes, refl, sym, ap, ◌∙◌, subst}
-use Rattle.std.proofs.lemmas.List.{map-append}
-use Rattle.std.proofs.lemmas.Result.{err_from_is_err_and}
-use Rattle.avro_schema.specs.Node.{Node}
-use Rattle.avro_schema.specs.Seen.{ids_of}
-use Rattle.serde_json.specs.View.{view, items_view, members_view}
-use Rattle.serde_json.proofs.Views.{view-Array, view-Object}
-use Rattle.avro_schema_json.specs.declared.error.SchemaError.{SchemaError}
-use Rattle.avro_schema_json.specs.Declares.{RawNode, RawField, Meaning, meaning_of, in_turn, field_meaning, field_meanings, fields_under}
-use Rattle.avro_schema_json.specs.inside.KnownSeen.{known_of}
-use Rattle.avro_schema_json.specs.inside.Reading.{made_at, Reads, Refuses, fields_meaning}
-use Rattle.avro_schema_json.specs.inside.ReadingSeen.{state_of}
-use Rattle.avro_schema_json.specs.inside.SeenRaw.{raw_field_of, raw_fields_of}
-use Rattle.avro_schema_json.proofs.DefinitionsRead.{record-unbegun, record-misnamed, record-fields_refused, record-read}
+use Rattle.avro_schema_json.proofs.Words.{map-append, err_from_is_err_and, Node, ids_of, view, items_view, members_view, view-Array, view-Object, SchemaError, RawNode, RawField, Meaning, meaning_of, in_turn, field_meaning, field_meanings, fields_under, made_at, Reads, Refuses, fields_meaning, state_of, raw_field_of, raw_fields_of}
+use Rattle.avro_schema_json.proofs.DefinitionsRead.{record-definition, unbegun, misnamed, part-refused, definition-read}
 use Rattle.avro_schema_json.proofs.ObjectsRead.{member-found, member-missing, refuses-faulty, object-array, object-no_items, object-map, object-no_values, fields-found, fields-missing, field-unnamed, field-refused, field-untyped, field-read}
-use Rattle.avro_schema_json.proofs.TypesRead.{node_with-read, node_with-part, reading-begun, item-read, item-refused, items-read, branch_meanings, list_meanings, next_branch, next_field}
+use Rattle.avro_schema_json.proofs.TypesRead.{held-added, node_with-read, node_with-part, reading-begun, item-read, item-refused, items-read, branch_meanings, list_meanings, next_branch, next_field}
 use Rattle.avro_schema_json.proofs.declarations.progress.Progress.+types.Goals as goal
 
 pub read_array-returns-in_err-part-clause-refused : goal.read_array-returns-in_err-part-clause-refused
 read_array-returns-in_err-part-clause-refused t c =
     let p = err_from_is_err_and c.from_residual-in_err-part.result c.from_residual-in_err-part.ensures.1 in
-    let added = c.in_ok-id.ensures.added in
-    rw (p.1, p.2) (node_with-part (meaning_of (view c.args.items.now)) c.args.enclosing.now.namespace (state_of c.args.self.now) (state_of c.reserve.new.self) (RawNode.plain Node.null)
-    (λ id. RawNode.plain (Node.array id)) [] (known_of c.args.self.now.names) c.in_err-part.field-0.0 added.nodes_are added.known_are c.in_err-part.ensures.refused)
+    rw (p.1, p.2) (node_with-part (meaning_of (view c.args.items.now)) c.args.enclosing.now.namespace (held-added c.in_ok-id.ensures.added)
+    (λ id. RawNode.plain (Node.array id)) [] c.in_err-part.field-0.0 c.in_err-part.ensures.refused)
 
 pub read_array-returns-clause-read : goal.read_array-returns-clause-read
 read_array-returns-clause-read t c =
-    let added = c.in_ok-id.ensures.added in
-    node_with-read (meaning_of (view c.args.items.now)) c.args.enclosing.now.namespace (state_of c.args.self.now) (state_of c.reserve.new.self)
-    (state_of c.read_type.new.self) (state_of c.put.new.self) (RawNode.plain Node.null) (RawNode.plain (Node.array c.in_ok-part.part.0))
-    (λ id. RawNode.plain (Node.array id)) [] (known_of c.args.self.now.names) c.in_ok-part.part.0 c.in_ok-id.id.0
-    added.id_is added.within refl added.nodes_are added.known_are c.in_ok-part.ensures.read refl c.put.ensures.nodes c.put.ensures.names
+    node_with-read (meaning_of (view c.args.items.now)) c.args.enclosing.now.namespace (held-added c.in_ok-id.ensures.added) (λ id. RawNode.plain (Node.array id)) []
+    (state_of c.read_type.new.self) (state_of c.put.new.self) c.in_ok-part.part.0 refl c.in_ok-part.ensures.read c.put.ensures.nodes c.put.ensures.names
 
 pub read_map-returns-in_err-part-clause-refused : goal.read_map-returns-in_err-part-clause-refused
 read_map-returns-in_err-part-clause-refused t c =
     let p = err_from_is_err_and c.from_residual-in_err-part.result c.from_residual-in_err-part.ensures.1 in
-    let added = c.in_ok-id.ensures.added in
-    rw (p.1, p.2) (node_with-part (meaning_of (view c.args.values.now)) c.args.enclosing.now.namespace (state_of c.args.self.now) (state_of c.reserve.new.self) (RawNode.plain Node.null)
-    (λ id. RawNode.plain (Node.map_of id)) [] (known_of c.args.self.now.names) c.in_err-part.field-0.0 added.nodes_are added.known_are c.in_err-part.ensures.refused)
+    rw (p.1, p.2) (node_with-part (meaning_of (view c.args.values.now)) c.args.enclosing.now.namespace (held-added c.in_ok-id.ensures.added)
+    (λ id. RawNode.plain (Node.map_of id)) [] c.in_err-part.field-0.0 c.in_err-part.ensures.refused)
 
 pub read_map-returns-clause-read : goal.read_map-returns-clause-read
 read_map-returns-clause-read t c =
-    let added = c.in_ok-id.ensures.added in
-    node_with-read (meaning_of (view c.args.values.now)) c.args.enclosing.now.namespace (state_of c.args.self.now) (state_of c.reserve.new.self)
-    (state_of c.read_type.new.self) (state_of c.put.new.self) (RawNode.plain Node.null) (RawNode.plain (Node.map_of c.in_ok-part.part.0))
-    (λ id. RawNode.plain (Node.map_of id)) [] (known_of c.args.self.now.names) c.in_ok-part.part.0 c.in_ok-id.id.0
-    added.id_is added.within refl added.nodes_are added.known_are c.in_ok-part.ensures.read refl c.put.ensures.nodes c.put.ensures.names
+    node_with-read (meaning_of (view c.args.values.now)) c.args.enclosing.now.namespace (held-added c.in_ok-id.ensures.added) (λ id. RawNode.plain (Node.map_of id)) []
+    (state_of c.read_type.new.self) (state_of c.put.new.self) c.in_ok-part.part.0 refl c.in_ok-part.ensures.read c.put.ensures.nodes c.put.ensures.names
 
 pub read_field-returns-in_err-name-clause-refused : goal.read_field-returns-in_err-name-clause-refused
 read_field-returns-in_err-name-clause-refused t c =
@@ -83,34 +64,28 @@ read_fields-loop-item-init t c =
 pub read_fields-returns-in_err-read_field-clause-refused : goal.read_fields-returns-in_err-read_field-clause-refused
 read_fields-returns-in_err-read_field-clause-refused t c =
     let p = err_from_is_err_and c.from_residual.result c.from_residual.ensures.1 in
-    let items = c.deref-item-items.result.now in
     let seen = ap view c.in-Array.is ∙ view-Array c.in-Array.items in
     rw (p.1, p.2, seen, ← c.deref-item-items.ensures.value)
-    (item-refused (λ v. field_meaning (view v)) list_meanings next_field refl
-    (made_at (in_turn (list_meanings items)) c.args.enclosing.now.namespace (state_of c.args.self.now)) c.args.enclosing.now.namespace (state_of c.args.self.now)
-    (state_of c.loop-item.self) (raw_fields_of c.loop-item.fields.items) items c.loop-item.item-index c.item-item.result c.in_err-read_field.field-0.0
-    c.loop-item-test.true c.item-item.is c.loop-item.invariant.1 c.in_err-read_field.ensures.refused)
+    (item-refused (λ v. field_meaning (view v)) list_meanings next_field refl _ c.args.enclosing.now.namespace (state_of c.args.self.now)
+    (state_of c.loop-item.self) (raw_fields_of c.loop-item.fields.items) c.deref-item-items.result.now c.loop-item.item-index c.loop-item.invariant.1
+    c.item-item.result c.loop-item-test.true c.item-item.is c.in_err-read_field.field-0.0 c.in_err-read_field.ensures.refused)
 
 pub read_fields-loop-item-preserved : goal.read_fields-loop-item-preserved
 read_fields-loop-item-preserved t c =
-    let items = c.deref-item-items.result.now in
     let pushed = ap raw_fields_of c.in_ok-push.ensures.items ∙ map-append raw_field_of c.loop-item.fields.items (c.in_ok-read_field.field-0 ∷ []) in
     rw pushed (
       (λ namespace number h. c.in_ok-read_field.ensures.kept namespace number (c.loop-item.invariant.0 namespace number h)),
-      item-read (λ v. field_meaning (view v)) list_meanings next_field refl
-          (made_at (in_turn (list_meanings items)) c.args.enclosing.now.namespace (state_of c.args.self.now)) c.args.enclosing.now.namespace (state_of c.args.self.now)
-          (state_of c.loop-item.self) (state_of c.read_field.new.self) (raw_fields_of c.loop-item.fields.items) (raw_field_of c.in_ok-read_field.field-0) items
-          c.loop-item.item-index c.item-item.result c.loop-item-test.true c.item-item.is c.loop-item.invariant.1 c.in_ok-read_field.ensures.read,
+      item-read (λ v. field_meaning (view v)) list_meanings next_field refl _ c.args.enclosing.now.namespace (state_of c.args.self.now)
+          (state_of c.loop-item.self) (raw_fields_of c.loop-item.fields.items) c.deref-item-items.result.now c.loop-item.item-index c.loop-item.invariant.1
+          c.item-item.result c.loop-item-test.true c.item-item.is (state_of c.read_field.new.self) (raw_field_of c.in_ok-read_field.field-0) c.in_ok-read_field.ensures.read,
     )
 
 pub read_fields-returns-clause-read : goal.read_fields-returns-clause-read
 read_fields-returns-clause-read t c =
-    let items = c.deref-item-items.result.now in
     let seen = ap view c.in-Array.is ∙ view-Array c.in-Array.items in
     rw (seen, ← c.deref-item-items.ensures.value)
-    (items-read (λ v. field_meaning (view v)) list_meanings next_field refl
-    (made_at (in_turn (list_meanings items)) c.args.enclosing.now.namespace (state_of c.args.self.now)) c.args.enclosing.now.namespace (state_of c.args.self.now)
-    (state_of c.loop-item.self) (raw_fields_of c.loop-item.fields.items) items c.loop-item.item-index c.loop-item-test.false c.loop-item.invariant.1)
+    (items-read (λ v. field_meaning (view v)) list_meanings next_field refl _ c.args.enclosing.now.namespace (state_of c.args.self.now)
+    (state_of c.loop-item.self) (raw_fields_of c.loop-item.fields.items) c.deref-item-items.result.now c.loop-item.item-index c.loop-item.invariant.1 c.loop-item-test.false)
 
 pub read_object-returns-in-Some-clause-read : goal.read_object-returns-in-Some-clause-read
 read_object-returns-in-Some-clause-read t c =
@@ -156,15 +131,13 @@ pub read_record-returns-in_err-id-clause-refused : goal.read_record-returns-in_e
 read_record-returns-in_err-id-clause-refused t c =
     let p = err_from_is_err_and c.from_residual.result c.from_residual.ensures.1 in
     let ms = members_view c.args.members.now.entries in
-    rw (p.1, p.2) (record-unbegun ms (fields_under (codes "fields") ms) c.args.enclosing.now.namespace (state_of c.args.self.now) c.in_err-id.field-0.0 c.in_err-id.ensures.refused)
+    rw (p.1, p.2) (unbegun (record-definition ms (fields_under (codes "fields") ms)) c.args.enclosing.now.namespace (state_of c.args.self.now) _ c.in_err-id.ensures.refused)
 
 pub read_record-returns-in_err-aliases-clause-refused : goal.read_record-returns-in_err-aliases-clause-refused
 read_record-returns-in_err-aliases-clause-refused t c =
     let p = err_from_is_err_and c.from_residual-in_err-aliases.result c.from_residual-in_err-aliases.ensures.1 in
     let ms = members_view c.args.members.now.entries in
-    rw (p.1, p.2) (record-misnamed ms (fields_under (codes "fields") ms) c.args.enclosing.now.namespace (state_of c.args.self.now) (state_of c.begin.new.self)
-    c.in_ok-id.field-0.name c.in_ok-id.field-0.space.namespace c.in_ok-id.field-0.id.0 c.in_ok-id.ensures.begun c.in_ok-id.ensures.namespace
-    c.in_err-aliases.field-0.0 c.in_err-aliases.ensures.refused)
+    rw (p.1, p.2) (misnamed (record-definition ms (fields_under (codes "fields") ms)) _ _ c.in_ok-id.ensures.begun c.in_ok-id.ensures.namespace _ c.in_err-aliases.ensures.refused)
 
 pub read_record-returns-in_err-fields-in-Some-clause-refused : goal.read_record-returns-in_err-fields-in-Some-clause-refused
 read_record-returns-in_err-fields-in-Some-clause-refused t c =
@@ -173,9 +146,7 @@ read_record-returns-in_err-fields-in-Some-clause-refused t c =
     let found = fields-found ms (view c.in-Some.list.now) (member-found (codes "fields") c.args.members.now c.in-Some.list.now c.in-Some.ensures.value) in
     let refused = subst (λ (fields : Option (List (Meaning RawField))). Refuses (fields_meaning fields) c.in_ok-id.field-0.space.namespace (state_of c.begin.new.self) c.in_err-fields-in-Some.field-0.0)
     (sym found) c.in_err-fields-in-Some.ensures.refused in
-    rw (p.1, p.2) (record-fields_refused ms (fields_under (codes "fields") ms) c.args.enclosing.now.namespace (state_of c.args.self.now) (state_of c.begin.new.self)
-    c.in_ok-id.field-0.name c.in_ok-id.field-0.space.namespace c.in_ok-id.field-0.id.0 c.in_ok-id.ensures.begun c.in_ok-id.ensures.namespace
-    c.in_err-fields-in-Some.field-0.0 refused)
+    rw (p.1, p.2) (part-refused (record-definition ms (fields_under (codes "fields") ms)) _ _ c.in_ok-id.ensures.begun c.in_ok-id.ensures.namespace _ refused)
 
 pub read_record-returns-in-None-clause-refused : goal.read_record-returns-in-None-clause-refused
 read_record-returns-in-None-clause-refused t c =
@@ -183,9 +154,7 @@ read_record-returns-in-None-clause-refused t c =
     let missing = fields-missing ms (member-missing (codes "fields") c.args.members.now c.in-None.ensures.value) in
     let refused = subst (λ (fields : Option (List (Meaning RawField))). Refuses (fields_meaning fields) c.in_ok-id.field-0.space.namespace (state_of c.begin.new.self) SchemaError.InvalidDeclaration)
     (sym missing) (refuses-faulty {A = List RawField} [] SchemaError.InvalidDeclaration c.in_ok-id.field-0.space.namespace (state_of c.begin.new.self)) in
-    record-fields_refused ms (fields_under (codes "fields") ms) c.args.enclosing.now.namespace (state_of c.args.self.now) (state_of c.begin.new.self)
-    c.in_ok-id.field-0.name c.in_ok-id.field-0.space.namespace c.in_ok-id.field-0.id.0 c.in_ok-id.ensures.begun c.in_ok-id.ensures.namespace
-    SchemaError.InvalidDeclaration refused
+    part-refused (record-definition ms (fields_under (codes "fields") ms)) _ _ c.in_ok-id.ensures.begun c.in_ok-id.ensures.namespace _ refused
 
 pub read_record-returns-clause-kept : goal.read_record-returns-clause-kept
 read_record-returns-clause-kept t c = λ namespace number h.
@@ -198,33 +167,24 @@ read_record-returns-clause-read t c =
     let fields = raw_fields_of c.in_ok-fields-in-Some.fields.items in
     let read = subst (λ (declared : Option (List (Meaning RawField))). Reads (fields_meaning declared) c.in_ok-id.field-0.space.namespace (state_of c.begin.new.self) (state_of c.read_fields.new.self) fields)
     (sym found) c.in_ok-fields-in-Some.ensures.read in
-    record-read ms (fields_under (codes "fields") ms) c.args.enclosing.now.namespace (state_of c.args.self.now) (state_of c.begin.new.self)
-    c.in_ok-id.field-0.name c.in_ok-id.field-0.space.namespace c.in_ok-id.field-0.id.0 c.in_ok-id.ensures.begun c.in_ok-id.ensures.namespace
-    (state_of c.read_fields.new.self) (state_of c.put.new.self) c.in_ok-aliases.aliases.items fields
-    c.in_ok-aliases.ensures.found read c.put.ensures.nodes c.put.ensures.names
+    definition-read (record-definition ms (fields_under (codes "fields") ms)) _ _ c.in_ok-id.ensures.begun c.in_ok-id.ensures.namespace (state_of c.read_fields.new.self)
+    (state_of c.put.new.self) c.in_ok-aliases.aliases.items tt fields c.in_ok-aliases.ensures.found (record { no_faults = refl; value_is = refl }) read c.put.ensures.nodes c.put.ensures.names
 
 pub read_union-returns-in_err-read_type-clause-refused : goal.read_union-returns-in_err-read_type-clause-refused
 read_union-returns-in_err-read_type-clause-refused t c =
     let p = err_from_is_err_and c.from_residual-in_err-read_type.result c.from_residual-in_err-read_type.ensures.1 in
     let items = c.args.branches.now in
-    let inside = state_of c.reserve.new.self in
-    let added = c.in_ok-id.ensures.added in
-    let refused = item-refused (λ v. meaning_of (view v)) branch_meanings next_branch refl
-    (made_at (in_turn (branch_meanings items)) c.args.enclosing.now.namespace inside) c.args.enclosing.now.namespace inside
-    (state_of c.loop-branch.self) (ids_of c.loop-branch.ids.items) items c.loop-branch.branch-index c.branch-item.result c.in_err-read_type.field-0.0
-    c.loop-branch-test.true c.branch-item.is c.loop-branch.invariant.1 c.in_err-read_type.ensures.refused in
-    rw (p.1, p.2) (node_with-part (in_turn (branch_meanings items)) c.args.enclosing.now.namespace (state_of c.args.self.now) inside (RawNode.plain Node.null)
-    (λ ids. RawNode.plain (Node.union ids)) [] (known_of c.args.self.now.names) c.in_err-read_type.field-0.0 added.nodes_are added.known_are refused)
+    let refused = item-refused (λ v. meaning_of (view v)) branch_meanings next_branch refl _ c.args.enclosing.now.namespace (state_of c.reserve.new.self)
+    (state_of c.loop-branch.self) (ids_of c.loop-branch.ids.items) items c.loop-branch.branch-index c.loop-branch.invariant.1
+    c.branch-item.result c.loop-branch-test.true c.branch-item.is c.in_err-read_type.field-0.0 c.in_err-read_type.ensures.refused in
+    rw (p.1, p.2) (node_with-part (in_turn (branch_meanings items)) c.args.enclosing.now.namespace (held-added c.in_ok-id.ensures.added)
+    (λ ids. RawNode.plain (Node.union ids)) [] c.in_err-read_type.field-0.0 refused)
 
 pub read_union-returns-clause-read : goal.read_union-returns-clause-read
 read_union-returns-clause-read t c =
     let items = c.args.branches.now in
-    let inside = state_of c.reserve.new.self in
-    let added = c.in_ok-id.ensures.added in
-    let read = items-read (λ v. meaning_of (view v)) branch_meanings next_branch refl
-    (made_at (in_turn (branch_meanings items)) c.args.enclosing.now.namespace inside) c.args.enclosing.now.namespace inside
-    (state_of c.loop-branch.self) (ids_of c.loop-branch.ids.items) items c.loop-branch.branch-index c.loop-branch-test.false c.loop-branch.invariant.1 in
-    node_with-read (in_turn (branch_meanings items)) c.args.enclosing.now.namespace (state_of c.args.self.now) inside (state_of c.loop-branch.self) (state_of c.put.new.self)
-    (RawNode.plain Node.null) (RawNode.plain (Node.union (ids_of c.loop-branch.ids.items))) (λ ids. RawNode.plain (Node.union ids)) []
-    (known_of c.args.self.now.names) (ids_of c.loop-branch.ids.items) c.in_ok-id.id.0
-    added.id_is added.within refl added.nodes_are added.known_are read refl c.put.ensures.nodes c.put.ensures.names
+    let read = items-read (λ v. meaning_of (view v)) branch_meanings next_branch refl (made_at (in_turn (branch_meanings items)) c.args.enclosing.now.namespace (state_of c.reserve.new.self))
+    c.args.enclosing.now.namespace (state_of c.reserve.new.self) (state_of c.loop-branch.self) (ids_of c.loop-branch.ids.items) items c.loop-branch.branch-index
+    c.loop-branch.invariant.1 c.loop-branch-test.false in
+    node_with-read (in_turn (branch_meanings items)) c.args.enclosing.now.namespace (held-added c.in_ok-id.ensures.added) (λ ids. RawNode.plain (Node.union ids)) []
+    (state_of c.loop-branch.self) (state_of c.put.new.self) (ids_of c.loop-branch.ids.items) refl read c.put.ensures.nodes c.put.ensures.names

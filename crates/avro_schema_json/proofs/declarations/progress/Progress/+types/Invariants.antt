@@ -1,10 +1,5 @@
 use Rattle.std.proofs.Common.{drop}
-use Rattle.avro_schema.specs.Seen.{ids_of}
-use Rattle.serde_json.specs.View.{items_view}
-use Rattle.avro_schema_json.specs.Declares.{branches_of, field_meanings, in_turn}
-use Rattle.avro_schema_json.specs.inside.Reading.{made_at}
-use Rattle.avro_schema_json.specs.inside.ReadingSeen.{state_of, Keeps}
-use Rattle.avro_schema_json.specs.inside.SeenRaw.{raw_fields_of}
+use Rattle.avro_schema_json.proofs.Words.{ids_of, items_view, branches_of, field_meanings, in_turn, made_at, state_of, Keeps, raw_fields_of}
 use Rattle.avro_schema_json.proofs.TypesRead.{IsReading}
 use Rattle.avro_schema_json.proofs.declarations.progress.Progress.+types.Given as goal
 

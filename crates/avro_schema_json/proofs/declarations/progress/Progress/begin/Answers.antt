@@ -1,11 +1,5 @@
-use Rattle.std.proofs.Common.{refl, subst, sym, ap, ◌∙◌}
-use Rattle.serde_json.specs.View.{members_view}
-use Rattle.avro_schema.specs.Node.{Node}
-use Rattle.avro_schema_json.specs.DeclaredAttributes.{name_in}
-use Rattle.std.specs.Prelude.{is_some}
-use Rattle.avro_schema_json.specs.Declares.{RawNode, defining, id_of}
-use Rattle.avro_schema_json.specs.inside.Reading.{State, IsAdded}
-use Rattle.avro_schema_json.specs.inside.ReadingSeen.{state_of}
+use Rattle.std.proofs.Common.{refl, subst, sym, ap, ◌∙◌, is_some}
+use Rattle.avro_schema_json.proofs.Words.{members_view, Node, name_in, RawNode, defining, id_of, State, IsAdded, state_of}
 use Rattle.avro_schema_json.proofs.KnownFound.{found_in}
 use Rattle.avro_schema_json.proofs.PartsRead.{ok-or_memory, not_some, name_faults-new, beginning-known}
 use Rattle.avro_schema_json.proofs.declarations.progress.Progress.begin.Goals as goal

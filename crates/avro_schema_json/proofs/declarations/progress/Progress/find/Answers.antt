@@ -1,7 +1,5 @@
 use Rattle.std.proofs.Common.{sym, ◌∙◌, inr}
-use Rattle.avro_name.specs.Name.{name_of}
-use Rattle.avro_schema_json.specs.inside.ReadingSeen.{state_of}
-use Rattle.avro_schema_json.specs.declared.error.SchemaError.{SchemaError}
+use Rattle.avro_schema_json.proofs.Words.{name_of, state_of, SchemaError}
 use Rattle.avro_schema_json.proofs.PartsRead.{reference-read, reference-unknown, ok-or_memory, some-from_ok_or}
 use Rattle.avro_schema_json.proofs.declarations.progress.Progress.find.Goals as goal
 

@@ -1,5 +1,4 @@
-use Rattle.std.proofs.lemmas.List.{map-set}
-use Rattle.avro_schema_json.specs.inside.SeenRaw.{raw_node_of}
+use Rattle.avro_schema_json.proofs.Words.{map-set, raw_node_of}
 use Rattle.avro_schema_json.proofs.declarations.progress.Progress.put.Goals as goal
 
 pub returns-clause-nodes : goal.returns-clause-nodes

@@ -1,7 +1,5 @@
 use Rattle.std.proofs.Common.{ℕ, IfErr, subst}
-use Rattle.avro_schema_json.specs.Declares.{Meaning}
-use Rattle.avro_schema_json.specs.inside.Reading.{Refuses}
-use Rattle.avro_schema_json.specs.inside.ReadingSeen.{state_of}
+use Rattle.avro_schema_json.proofs.Words.{Meaning, Refuses, state_of}
 use Rattle.avro_schema_json.proofs.declarations.progress.Progress.read_word.Goals as goal
 
 pub returns-in-TypeName-clause-refused : goal.returns-in-TypeName-clause-refused
