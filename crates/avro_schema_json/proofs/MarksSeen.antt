@@ -101,31 +101,31 @@ whole-marked nodes last before after d row ps m stays appended found first count
     (parts j e p here (sym (append-at before.all.items ps m.parts j first) ∙ ap (λ xs. slice_get xs (m.parts + j)) (sym appended) ∙ at)))
 
 -- what is so of JSON while its parts are marked one after another
-pub record Gathers (tables : Tables) (d : Data) (start now : Marks) (row : List ℕ) (ps : List Mark) : Type 0 where
+pub record Gathers (tables : Tables) (d : Data) (start now : Marks) (first row : List ℕ) (ps : List Mark) : Type 0 where
   pub steps : AreSteps tables.parents.items now.memo
   pub stays : Stays start now
-  pub covers : (nodes : List Node) → AreTables nodes tables → Covers nodes tables.last d row
+  pub covers : (nodes : List Node) → AreTables nodes tables → Covers nodes tables.last d first → Covers nodes tables.last d row
   pub parts : (nodes : List Node) → AreTables nodes tables → ArePartsMarked nodes tables.last now d ps
 
 pub gathers-none : (tables : Tables) (d : Data) (marks : Marks) (row : List ℕ) → AreSteps tables.parents.items marks.memo
-    → ((nodes : List Node) → AreTables nodes tables → Covers nodes tables.last d row) → Gathers tables d marks marks row []
-gathers-none tables d marks row steps covers = record {
+    → Gathers tables d marks marks row row []
+gathers-none tables d marks row steps = record {
   steps = steps;
   stays = record { rows = λ n words at. at; longer = omega arith; marks = λ i below. refl };
-  covers = covers;
+  covers = λ nodes are covers. covers;
   parts = λ nodes are j e p here at. absurd (none-some p at);
 }
 
-pub gathers-next : (tables : Tables) (d e : Data) (start now after : Marks) (memo : Memo) (row next : List ℕ) (ps : List Mark) (mark : Mark) (label : ℕ)
-    → Gathers tables d start now row ps → Stays now after → ((nodes : List Node) → AreTables nodes tables → IsMarked nodes tables.last after e mark)
+pub gathers-next : (tables : Tables) (d e : Data) (start now after : Marks) (memo : Memo) (first row next : List ℕ) (ps : List Mark) (mark : Mark) (label : ℕ)
+    → Gathers tables d start now first row ps → Stays now after → ((nodes : List Node) → AreTables nodes tables → IsMarked nodes tables.last after e mark)
     → AreSteps tables.parents.items memo → KeepsRows after.memo.sets memo.sets
     → ((nodes : List Node) (f g : Data) → AreTables nodes tables → IsPartUnder tables.labels label f g → IsSetOf nodes tables.last after.memo.sets g mark.set
     → Covers nodes tables.last f row → Covers nodes tables.last f next)
-    → IsPartUnder tables.labels label d e → part_at (length ps) d ≡ Some e → Gathers tables d start (record { memo = memo; all = after.all }) next (ps ++ mark ∷ [])
-gathers-next tables d e start now after memo row next ps mark label so stays this steps kept keeps under here = record {
+    → IsPartUnder tables.labels label d e → part_at (length ps) d ≡ Some e → Gathers tables d start (record { memo = memo; all = after.all }) first next (ps ++ mark ∷ [])
+gathers-next tables d e start now after memo first row next ps mark label so stays this steps kept keeps under here = record {
   steps = steps;
   stays = stays-twice start now later so.stays later_stays;
-  covers = λ nodes are. keeps nodes d e are under (marked-set nodes tables.last after e mark (this nodes are)) (so.covers nodes are);
+  covers = λ nodes are begun. keeps nodes d e are under (marked-set nodes tables.last after e mark (this nodes are)) (so.covers nodes are begun);
   parts = λ nodes are. parts-push nodes tables.last now later d ps mark e later_stays (so.parts nodes are) here
       (still-marked nodes tables.last after later e mark memo_stays (this nodes are));
 }
@@ -139,13 +139,22 @@ gathers-next tables d e start now after memo row next ps mark label so stays thi
     later_stays : Stays now later
     later_stays = stays-twice now after later stays memo_stays
 
-pub gathered : {E : Type 0} (r : Result Mark E) (tables : Tables) (d : Data) (start now after : Marks) (row words : List ℕ) (ps qs : List Mark)
-    → Gathers tables d start now words ps → row ≡ words → qs ≡ ps
+pub gathered : {E : Type 0} (r : Result Mark E) (tables : Tables) (d : Data) (start now after : Marks) (first row words : List ℕ) (ps qs : List Mark)
+    → Gathers tables d start now first words ps → row ≡ words → qs ≡ ps
     → IfOk r (λ mark. (nodes : List Node) (last : ℕ) (f : Data) → Covers nodes last f row → ArePartsMarked nodes last now f qs → IsMarked nodes last after f mark)
+    → IfOk r (λ mark. (nodes : List Node) → AreTables nodes tables → Covers nodes tables.last d first → IsMarked nodes tables.last after d mark)
+gathered (Ok m) tables d start now after first row words ps qs so same equal all = λ nodes are begun.
+    all nodes tables.last d (subst (Covers nodes tables.last d) (sym same) (so.covers nodes are begun)) (subst (ArePartsMarked nodes tables.last now d) (sym equal) (so.parts nodes are))
+gathered (Err e) tables d start now after first row words ps qs so same equal all = tt
+
+-- what a row covers is marked
+pub covered-marked : {E : Type 0} (r : Result Mark E) (tables : Tables) (after : Marks) (d e : Data) (row : List ℕ) → d ≡ e
+    → ((nodes : List Node) → AreTables nodes tables → Covers nodes tables.last d row)
+    → IfOk r (λ mark. (nodes : List Node) → AreTables nodes tables → Covers nodes tables.last e row → IsMarked nodes tables.last after e mark)
     → IfOk r (λ mark. (nodes : List Node) → AreTables nodes tables → IsMarked nodes tables.last after d mark)
-gathered (Ok m) tables d start now after row words ps qs so same equal all = λ nodes are.
-    all nodes tables.last d (subst (Covers nodes tables.last d) (sym same) (so.covers nodes are)) (subst (ArePartsMarked nodes tables.last now d) (sym equal) (so.parts nodes are))
-gathered (Err e) tables d start now after row words ps qs so same equal all = tt
+covered-marked (Ok m) tables after d e row same covers all = λ nodes are.
+    subst (λ (x : Data). IsMarked nodes tables.last after x m) (sym same) (all nodes are (subst (λ (x : Data). Covers nodes tables.last x row) same (covers nodes are)))
+covered-marked (Err f) tables after d e row same covers all = tt
 
 -- an item at an index
 pub item-at : (xs ys : List Tree) (i j : ℕ) (x : Tree) → xs ≡ ys → j ≡ i → i < length xs → x ≡ get_or xs i x → get_item j (items_view ys) ≡ Some (view x)

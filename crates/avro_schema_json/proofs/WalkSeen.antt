@@ -50,6 +50,11 @@ known-part walk d e m j (marked set ends parts) below here = by (slice_get walk.
     by None at = tt
     by (Some p) at = parts j e p below here at
 
+pub known-same : (walk : Walk) (d e : Data) (o : Option Mark) → Some d ≡ Some e → IsKnown walk d o → IsKnown walk e o
+known-same walk d e o is known =
+    let same : d ≡ e = one d e is in
+    subst (λ (x : Data). IsKnown walk x o) same known
+
 -- the mark of one more member
 pub member-known : (walk : Walk) (ms : Members) (old new : BTreeMap (Bor (List ℕ)) (Option Mark)) (key : List ℕ) (o : Option Mark) → AreMemberMarks walk ms old
     → ((other : List ℕ) → get_by (λ k. slice_cmp nat_cmp other k.now) new ≡ cond (bytes_eq key other) (Some o) (get_by (λ k. slice_cmp nat_cmp other k.now) old))

@@ -33,7 +33,7 @@ use crate::defaults::plain_defaults::{
 };
 use crate::defaults::tables::Tables;
 use crate::defaults::walk::{
-    Firsts, Walk, first_branch, is_ruled_out, marks_of_members, part_mark,
+    Firsts, Walk, first_branch, is_ruled_out, marks_of_members, member_mark, part_mark,
 };
 use crate::raw::{RawField, RawNode};
 use crate::raw_nodes::{branches_at, raw_at};
@@ -253,7 +253,8 @@ fn item_defaults(
 {
     let mut values: Vec<Datum> = Vec::with_capacity(alloc, items.len())?;
     for item in items {
-        let part = part_mark(walk, mark, values.len());
+        let index = values.len();
+        let part = part_mark(walk, item, mark, index);
         let Some(value) = known_default(alloc, walk, item, id, part, firsts)? else {
             return Ok(None);
         };
@@ -309,7 +310,8 @@ fn entry_defaults(
 {
     let mut entries: Vec<(String, Datum)> = Vec::with_capacity(alloc, members.len())?;
     for (key, tree) in members.iter() {
-        let part = part_mark(walk, mark, entries.len());
+        let index = entries.len();
+        let part = part_mark(walk, tree, mark, index);
         let Some(value) = known_default(alloc, walk, tree, id, part, firsts)? else {
             return Ok(None);
         };
@@ -367,7 +369,7 @@ fn field_defaults(
         let Some(tree) = members.get(name) else {
             return Ok(None);
         };
-        let part = marks.get(name).copied().unwrap_or(None);
+        let part = member_mark(walk, members, tree, &marks, name);
         let Some(value) = known_default(alloc, walk, tree, field.node, part, firsts)? else {
             return Ok(None);
         };

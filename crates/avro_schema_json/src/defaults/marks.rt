@@ -73,7 +73,7 @@ fn row_apart(alloc: Global, tables: &Tables, tree: &Value) -> Result<Box<Row>, M
     Ok(Box::new(alloc, row_of_leaf(tables, tree))?)
 }
 
-/// Marks an array and its items.
+/// Marks an array and its items, by a row that has the nodes that it may be a default of.
 #[cycle(marks)]
 fn mark_array(
     alloc: Global,
@@ -82,11 +82,11 @@ fn mark_array(
     mut row: Box<Row>,
     marks: &mut Marks,
 ) -> Result<Mark, Memory>
-    requires row { (nodes : List Node) → AreTables nodes tables.now → Covers nodes tables.now.last (Data.array (items_view items.now.items)) row.value.words }
     requires steps { AreSteps tables.now.parents.items marks.old.memo }
     ensures steps { OnOk result (AreSteps tables.now.parents.items marks.new.memo) }
     ensures stays { OnOk result (Stays marks.old marks.new) }
-    ensures marked { IfOk result (λ mark. (nodes : List Node) → AreTables nodes tables.now → IsMarked nodes tables.now.last marks.new (Data.array (items_view items.now.items)) mark) }
+    ensures marked { IfOk result (λ mark. (nodes : List Node) → AreTables nodes tables.now → Covers nodes tables.now.last (Data.array (items_view items.now.items)) row.value.words
+        → IsMarked nodes tables.now.last marks.new (Data.array (items_view items.now.items)) mark) }
 {
     let mut parts: Vec<Mark> = Vec::with_capacity(alloc, items.len())?;
     for item in items {
@@ -97,7 +97,7 @@ fn mark_array(
     mark_whole(alloc, tables, &row, &parts, marks)
 }
 
-/// Marks an object and its members.
+/// Marks an object and its members, by a row that has the nodes that it may be a default of.
 #[cycle(marks)]
 fn mark_object(
     alloc: Global,
@@ -106,11 +106,11 @@ fn mark_object(
     mut row: Box<Row>,
     marks: &mut Marks,
 ) -> Result<Mark, Memory>
-    requires row { (nodes : List Node) → AreTables nodes tables.now → Covers nodes tables.now.last (Data.object (members_view members.now.entries)) row.value.words }
     requires steps { AreSteps tables.now.parents.items marks.old.memo }
     ensures steps { OnOk result (AreSteps tables.now.parents.items marks.new.memo) }
     ensures stays { OnOk result (Stays marks.old marks.new) }
-    ensures marked { IfOk result (λ mark. (nodes : List Node) → AreTables nodes tables.now → IsMarked nodes tables.now.last marks.new (Data.object (members_view members.now.entries)) mark) }
+    ensures marked { IfOk result (λ mark. (nodes : List Node) → AreTables nodes tables.now → Covers nodes tables.now.last (Data.object (members_view members.now.entries)) row.value.words
+        → IsMarked nodes tables.now.last marks.new (Data.object (members_view members.now.entries)) mark) }
 {
     let mut parts: Vec<Mark> = Vec::with_capacity(alloc, members.len())?;
     for (key, member) in members.iter() {

@@ -7,7 +7,8 @@ ghost use Rattle.avro_schema_json.specs.inside.OwnDefaults.{own_default};
 ghost use Rattle.avro_schema_json.specs.inside.Marks.{part_at};
 ghost use Rattle.avro_schema_json.specs.inside.Walk.{AreFirsts, AreMemberMarks, FitsNoneBefore, HasNoneBefore, IsKnown, nodes_of};
 ghost use Rattle.serde_json.specs.Data.{Data};
-ghost use Rattle.serde_json.specs.View.{members_view};
+ghost use Rattle.serde_json.specs.Find.{get_member};
+ghost use Rattle.serde_json.specs.View.{view, members_view};
 
 use crate::defaults::parts::{Mark, Marks};
 use crate::defaults::rows::{Row, has, place_of};
@@ -37,9 +38,15 @@ fn mark_at(marks: &[Mark], index: usize) -> Option<Mark>
     marks.get(index).copied()
 }
 
-/// The mark of the part of JSON at an index: of an item, or of a member in the order of keys.
-pub(crate) fn part_mark(walk: &Walk, mark: Option<Mark>, index: usize) -> Option<Mark>
-    ensures { (d e : Data) → IsKnown walk.now d mark → part_at index d ≡ Some e → IsKnown walk.now e result }
+/// The mark of a part of JSON by its index: of an item, or of a member in the order of keys.
+pub(crate) fn part_mark(
+    walk: &Walk,
+    part: &Value,
+    mark: Option<Mark>,
+    index: usize,
+) -> Option<Mark>
+    requires { (d : Data) × IsKnown walk.now d mark × (part_at index d ≡ Some (view part.now)) }
+    ensures { IsKnown walk.now (view part.now) result }
 {
     let Some(mark) = mark else {
         return None;
@@ -62,14 +69,30 @@ pub(crate) fn marks_of_members<'v>(
 {
     let mut marks: BTreeMap<&'v str, Option<Mark>> = BTreeMap::new(alloc);
     let mut index: usize = 0;
-    for (key, _) in members.iter() {
-        marks.insert(key.as_str(), part_mark(walk, mark, index))?;
+    for (key, member) in members.iter() {
+        let part = part_mark(walk, member, mark, index);
+        marks.insert(key.as_str(), part)?;
         let Some(next) = index.checked_add(1) else {
             return Err(Memory);
         };
         index = next;
     }
     Ok(marks)
+}
+
+/// The mark of a member, which is that of its key.
+pub(crate) fn member_mark(
+    walk: &Walk,
+    members: &Map<String, Value>,
+    member: &Value,
+    marks: &BTreeMap<&str, Option<Mark>>,
+    key: &str,
+) -> Option<Mark>
+    requires marks { AreMemberMarks walk.now (members_view members.now.entries) marks.now }
+    requires member { get_member key.now (members_view members.now.entries) ≡ Some (view member.now) }
+    ensures { IsKnown walk.now (view member.now) result }
+{
+    marks.get(key).copied().unwrap_or(None)
 }
 
 /// Whether JSON is no default of the node of an id, since its set has not the node.

@@ -47,13 +47,13 @@ branch_default-loop-i-preserved-then-is_ruled_out t c =
           c.loop-i.invariant.left;
     }
 
-pub item_defaults-known_default-requires : goal.item_defaults-known_default-requires
-item_defaults-known_default-requires t c =
+pub item_defaults-part_mark-part-requires : goal.item_defaults-part_mark-part-requires
+item_defaults-part_mark-part-requires t c =
     let l = c.loop-item in
     let counted : vec_len l.values ≡ length l.values.items = search rules in
-    let at = (item-at c.deref-item-items.result.now c.args.items.now.items l.item-index c.len.result c.item-item.result c.deref-item-items.ensures.value
-    (c.len.ensures ∙ counted ∙ l.invariant.count) c.loop-item-test.true c.item-item.is) in
-    (search rules, record { known = c.part_mark-part.ensures (Data.array (items_view c.args.items.now.items)) (view c.item-item.result) c.requires.known at; firsts = l.invariant.firsts })
+    let at = item-at c.deref-item-items.result.now c.args.items.now.items l.item-index c.len-index.result c.item-item.result c.deref-item-items.ensures.value
+    (c.len-index.ensures ∙ counted ∙ l.invariant.count) c.loop-item-test.true c.item-item.is in
+    (Data.array (items_view c.args.items.now.items), c.requires.known, at)
 
 pub item_defaults-loop-item-preserved : goal.item_defaults-loop-item-preserved
 item_defaults-loop-item-preserved t c =
@@ -79,14 +79,13 @@ item_defaults-returns-clause-default t c =
     items_end nodes n xs l.item-index (each_default nodes (items_view xs) n) l.values.items c.loop-item-test.false l.invariant.left
     ∙ ap (λ ys. each_default nodes (items_view ys) n) c.deref-item-items.ensures.value
 
-pub entry_defaults-known_default-requires : goal.entry_defaults-known_default-requires
-entry_defaults-known_default-requires t c =
+pub entry_defaults-part_mark-part-requires : goal.entry_defaults-part_mark-part-requires
+entry_defaults-part_mark-part-requires t c =
     let l = c.loop-key in
     let es = c.args.members.now.entries in
     let counted : vec_len l.entries ≡ length l.entries.items = search rules in
-    let at = (ap (λ k. member_at k (members_view es)) (c.len.ensures ∙ counted)
-    ∙ (left-first es l.key-iterator c.next.new.self (length l.entries.items) c.in-Some.key.now c.in-Some.tree.now c.in-Some.ensures.steps l.invariant.order).1) in
-    (search rules, record { known = c.part_mark-part.ensures (Data.object (members_view es)) (view c.in-Some.tree.now) c.requires.known at; firsts = l.invariant.firsts })
+    let first = left-first es l.key-iterator c.next.new.self (length l.entries.items) c.in-Some.key.now c.in-Some.tree.now c.in-Some.ensures.steps l.invariant.order in
+    (Data.object (members_view es), c.requires.known, ap (λ k. member_at k (members_view es)) (c.len-index.ensures ∙ counted) ∙ first.1)
 
 pub entry_defaults-loop-key-preserved : goal.entry_defaults-loop-key-preserved
 entry_defaults-loop-key-preserved t c =
@@ -136,13 +135,9 @@ field_defaults-returns-in_default-2-clause-default t c =
     field_stop nodes es (fields_seen fs) l.field-index key f.node.0 (view c.in-Some.tree.now) (fields_left nodes es (fields_seen fs)) l.values.items
     got member l.invariant.left none
 
-pub field_defaults-known_default-requires : goal.field_defaults-known_default-requires
-field_defaults-known_default-requires t c =
-    let key = c.as_str-name.result.now in
-    let es = c.args.members.now.entries in
-    let member = ap (option_map view) c.in-Some.ensures.value ∙ view-lookup key es in
-    let known = c.in_ok-marks.ensures key (view c.in-Some.tree.now) (sym member) in
-    (search rules, record { known = ?; firsts = c.loop-field.invariant.firsts })
+pub field_defaults-member_mark-part-requires-clause-member : goal.field_defaults-member_mark-part-requires-clause-member
+field_defaults-member_mark-part-requires-clause-member t c =
+    sym (ap (option_map view) c.in-Some.ensures.value ∙ view-lookup c.as_str-name.result.now c.args.members.now.entries)
 
 pub field_defaults-loop-field-preserved : goal.field_defaults-loop-field-preserved
 field_defaults-loop-field-preserved t c =

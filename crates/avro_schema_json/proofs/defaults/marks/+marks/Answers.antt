@@ -1,27 +1,27 @@
-use Rattle.std.proofs.Common.{◌≡◌, ℕ, ◌+◌, List, [], ◌∷◌, ◌++◌, arith, length, length-append, refl, sym, ap, subst, ◌∙◌, rules}
+use Rattle.std.proofs.Common.{◌≡◌, ℕ, ◌+◌, List, [], ◌∷◌, ◌++◌, arith, length, length-append, refl, sym, ap, ◌∙◌, rules}
 use Rattle.serde_json.specs.Data.{Data}
 use Rattle.serde_json.specs.Find.{get_member}
 use Rattle.serde_json.specs.View.{view, items_view, members_view}
 use Rattle.serde_json.proofs.Views.{view-Array, view-Object}
-use Rattle.avro_schema_json.specs.inside.Covers.{Covers}
 use Rattle.avro_schema_json.specs.declared.defaults.rows.Row.{Row}
-use Rattle.avro_schema_json.proofs.MarksSeen.{item-at, gathers-none, gathers-next, gathered, on-ok, stays-twice}
+use Rattle.avro_schema_json.proofs.MarksSeen.{item-at, gathers-none, gathers-next, gathered, covered-marked, on-ok, stays-twice}
 use Rattle.avro_schema_json.proofs.WalkSeen.{all-left, left-first, left-pushed}
 use Rattle.avro_schema_json.proofs.defaults.marks.+marks.Goals as goal
 
-pub mark_tree-mark_array-requires-clause-row : goal.mark_tree-mark_array-requires-clause-row
-mark_tree-mark_array-requires-clause-row t c = λ nodes are.
-    subst (λ (d : Data). Covers nodes c.args.tables.now.last d c.in_ok-row.row.value.words) (ap view c.in-Array.is ∙ view-Array c.in-Array.items) (c.in_ok-row.ensures nodes are)
+pub mark_tree-returns-in_ok-row-in-Array-clause-marked : goal.mark_tree-returns-in_ok-row-in-Array-clause-marked
+mark_tree-returns-in_ok-row-in-Array-clause-marked t c =
+    covered-marked c.mark_array.result c.args.tables.now c.mark_array.new.marks (view c.args.tree.now) _ c.in_ok-row-in-Array.row.value.words (ap view c.in-Array.is ∙ view-Array c.in-Array.items)
+    c.in_ok-row-in-Array.ensures c.mark_array.ensures.marked
 
-pub mark_tree-mark_object-requires-clause-row : goal.mark_tree-mark_object-requires-clause-row
-mark_tree-mark_object-requires-clause-row t c = λ nodes are.
-    subst (λ (d : Data). Covers nodes c.args.tables.now.last d c.in_ok-row-in-Object.row.value.words) (ap view c.in-Object.is ∙ view-Object c.in-Object.members)
-    (c.in_ok-row-in-Object.ensures nodes are)
+pub mark_tree-returns-in_ok-row-in-Object-clause-marked : goal.mark_tree-returns-in_ok-row-in-Object-clause-marked
+mark_tree-returns-in_ok-row-in-Object-clause-marked t c =
+    covered-marked c.mark_object.result c.args.tables.now c.mark_object.new.marks (view c.args.tree.now) _ c.in_ok-row-in-Object.row.value.words (ap view c.in-Object.is ∙ view-Object c.in-Object.members)
+    c.in_ok-row-in-Object.ensures c.mark_object.ensures.marked
 
 pub mark_array-loop-item-init : goal.mark_array-loop-item-init
 mark_array-loop-item-init t c = rw c.in_ok-parts.ensures.items (record {
   count = refl;
-  gathers = gathers-none c.args.tables.now _ c.args.marks.now _ c.requires.steps c.requires.row;
+  gathers = gathers-none c.args.tables.now _ c.args.marks.now _ c.requires.steps;
 })
 
 pub mark_array-loop-item-preserved : goal.mark_array-loop-item-preserved
@@ -35,7 +35,7 @@ mark_array-loop-item-preserved t c =
     let here = item-at c.deref-item-items.result.now ys l.item-index (length l.parts.items) x c.deref-item-items.ensures.value l.invariant.count c.loop-item-test.true c.item-item.is in
     rw c.in_ok-push.ensures.items (record {
       count = omega (arith, length-append l.parts.items (mark ∷ []), l.invariant.count);
-      gathers = gathers-next tables d (view x) c.args.marks.now l.marks c.mark_tree.new.marks c.keep_parents.new.memo l.row.value.words c.keep_parents.new.row.value.words l.parts.items mark 0
+      gathers = gathers-next tables d (view x) c.args.marks.now l.marks c.mark_tree.new.marks c.keep_parents.new.memo c.args.row.value.words l.row.value.words c.keep_parents.new.row.value.words l.parts.items mark 0
           l.invariant.gathers c.in_ok-mark.ensures.stays c.in_ok-mark.ensures.marked c.in_ok-keep_parents.ensures.steps c.in_ok-keep_parents.ensures.kept c.in_ok-keep_parents.ensures.row
           (length l.parts.items, refl, here) here;
     })
@@ -43,7 +43,7 @@ mark_array-loop-item-preserved t c =
 pub mark_object-loop-key-init : goal.mark_object-loop-key-init
 mark_object-loop-key-init t c = rw c.in_ok-parts.ensures.items (record {
   left = search (rules, all-left);
-  gathers = gathers-none c.args.tables.now _ c.args.marks.now _ c.requires.steps c.requires.row;
+  gathers = gathers-none c.args.tables.now _ c.args.marks.now _ c.requires.steps;
 })
 
 pub mark_object-loop-key-preserved : goal.mark_object-loop-key-preserved
@@ -61,7 +61,7 @@ mark_object-loop-key-preserved t c =
     let named = ap (λ (k : List ℕ). get_member k (members_view es)) c.as_str.ensures.value ∙ first.0 in
     rw c.in_ok-push.ensures.items (record {
       left = left-pushed es l.key-iterator c.next.new.self (c.in-Some.key.now, x) l.parts.items mark step l.invariant.left;
-      gathers = gathers-next tables d (view x) c.args.marks.now l.marks c.mark_tree.new.marks c.keep_parents.new.memo l.row.value.words c.keep_parents.new.row.value.words l.parts.items mark label
+      gathers = gathers-next tables d (view x) c.args.marks.now l.marks c.mark_tree.new.marks c.keep_parents.new.memo c.args.row.value.words l.row.value.words c.keep_parents.new.row.value.words l.parts.items mark label
           l.invariant.gathers c.in_ok-mark.ensures.stays c.in_ok-mark.ensures.marked c.in_ok-keep_parents.ensures.steps c.in_ok-keep_parents.ensures.kept c.in_ok-keep_parents.ensures.row
           (key, c.label_of-label.ensures, named) first.1;
     })
@@ -72,7 +72,7 @@ mark_array-returns-clause-stays t c =
 
 pub mark_array-returns-clause-marked : goal.mark_array-returns-clause-marked
 mark_array-returns-clause-marked t c =
-    gathered c.mark_whole.result c.args.tables.now (Data.array (items_view c.args.items.now.items)) c.args.marks.now c.loop-item.marks c.mark_whole.new.marks _ c.loop-item.row.value.words c.loop-item.parts.items _
+    gathered c.mark_whole.result c.args.tables.now (Data.array (items_view c.args.items.now.items)) c.args.marks.now c.loop-item.marks c.mark_whole.new.marks c.args.row.value.words _ c.loop-item.row.value.words c.loop-item.parts.items _
     c.loop-item.invariant.gathers (ap (λ (r : Row). r.words) c.deref.ensures) c.deref-2.ensures.value c.mark_whole.ensures.marked
 
 pub mark_object-returns-clause-stays : goal.mark_object-returns-clause-stays
@@ -81,5 +81,5 @@ mark_object-returns-clause-stays t c =
 
 pub mark_object-returns-clause-marked : goal.mark_object-returns-clause-marked
 mark_object-returns-clause-marked t c =
-    gathered c.mark_whole.result c.args.tables.now (Data.object (members_view c.args.members.now.entries)) c.args.marks.now c.loop-key.marks c.mark_whole.new.marks _ c.loop-key.row.value.words c.loop-key.parts.items _
+    gathered c.mark_whole.result c.args.tables.now (Data.object (members_view c.args.members.now.entries)) c.args.marks.now c.loop-key.marks c.mark_whole.new.marks c.args.row.value.words _ c.loop-key.row.value.words c.loop-key.parts.items _
     c.loop-key.invariant.gathers (ap (λ (r : Row). r.words) c.deref.ensures) c.deref-2.ensures.value c.mark_whole.ensures.marked
