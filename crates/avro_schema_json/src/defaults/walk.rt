@@ -39,12 +39,7 @@ fn mark_at(marks: &[Mark], index: usize) -> Option<Mark>
 }
 
 /// The mark of a part of JSON by its index: of an item, or of a member in the order of keys.
-pub(crate) fn part_mark(
-    walk: &Walk,
-    part: &Value,
-    mark: Option<Mark>,
-    index: usize,
-) -> Option<Mark>
+pub(crate) fn part_mark(walk: &Walk, part: &Value, mark: Option<Mark>, index: usize) -> Option<Mark>
     requires { (d : Data) × IsKnown walk.now d mark × (part_at index d ≡ Some (view part.now)) }
     ensures { IsKnown walk.now (view part.now) result }
 {
