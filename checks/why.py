@@ -304,7 +304,7 @@ def is_bytes(value):
 def fits(value, made):
     """Whether a value is a datum of a type, as far as that is known."""
     if isinstance(made, list):
-        return any(fits(value, branch) for branch in made)
+        return any(isinstance(branch, list) or fits(value, branch) for branch in made)
     if made is None:
         return True
     if isinstance(value, Number):

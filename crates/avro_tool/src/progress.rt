@@ -131,6 +131,7 @@ fn per_second(read: u64, millis: u128) -> u64 {
 }
 
 /// How far an input of a known length is read.
+#[derive(Clone, Copy)]
 struct Measured {
     read: u64,
     length: u64,
@@ -156,6 +157,7 @@ fn percent_of(read: u64, length: u64) -> u128 {
 }
 
 /// A number of bytes, in the greatest unit of which there is one.
+#[derive(Clone, Copy)]
 struct Amount(u64);
 
 /// The units, each a thousand times the one before.

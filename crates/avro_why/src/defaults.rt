@@ -62,7 +62,7 @@ impl<'n, 'a> Fitting<'n, 'a> {
         }
     }
 
-    /// The same for a node that is no union.
+    /// The same for a node that is no union. A union in a union is not known.
     #[cycle(fitting)]
     fn fits_branch(&mut self, value: &Value, node: NodeId) -> bool {
         if self.steps >= MAX_STEPS {
@@ -70,8 +70,9 @@ impl<'n, 'a> Fitting<'n, 'a> {
         }
         self.steps += 1;
         let nodes = self.nodes;
-        let Some(node) = nodes.get(node) else {
-            return true;
+        let node = match nodes.get(node) {
+            Some(Node::Union(_)) | None => return true,
+            Some(node) => node,
         };
         match value {
             Value::Array(items) => self.fit_items(items, node),

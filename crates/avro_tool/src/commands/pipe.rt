@@ -69,11 +69,23 @@ fn pipe_watched<'a, R: Files + Clock + AllocGlobal, I: Read, O: Write, E: Write>
     out: &mut O,
     err: &mut E,
 ) -> Result<Counts, Failure<'a>> {
-    let Ok(input) = BufReader::with_capacity(rt.alloc(), ROOM, input) else {
-        return Err(Failure::OutOfMemory);
-    };
+    match BufReader::with_capacity(rt.alloc(), ROOM, input) {
+        Ok(input) => pipe_told(rt, ReadInput::new(input), reader, sync, out, err),
+        Err(_) => Err(Failure::OutOfMemory),
+    }
+}
+
+/// The same for what is read, and tells how far it is.
+fn pipe_told<'a, R: Files + Clock + AllocGlobal, I: Input + Drop, O: Write, E: Write>(
+    rt: &R,
+    input: I,
+    reader: Option<&ReaderText>,
+    sync: Option<[u8; 16]>,
+    out: &mut O,
+    err: &mut E,
+) -> Result<Counts, Failure<'a>> {
     let length = length_of(rt, STANDARD_INPUT);
-    let mut source = Watched::new(ReadInput::new(input), length, rt, err);
+    let mut source = Watched::new(input, length, rt, err);
     let counts = pipe_from(rt.alloc(), &mut source, reader, sync, out);
     source.finish();
     counts

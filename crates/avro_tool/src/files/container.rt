@@ -31,7 +31,7 @@ pub(crate) fn open_container<'a, R: Files + AllocGlobal>(
 }
 
 /// The same, of which it is told how far it is read.
-pub(crate) fn open_watched<'a, 'r, R: Files + Clock + AllocGlobal, E: Write>(
+pub(crate) fn open_watched<'a, 'r, R: Files + Clock + AllocGlobal, E: Write + Drop>(
     rt: &'r R,
     word: &'a str,
     err: E,
