@@ -25,20 +25,6 @@ pub(crate) fn told_step(alloc: Global, sheet: &mut Sheet, word: &str, text: &str
     Ok(takes(&sheet.ran.out.bytes, &mut sheet.out_told, &wanted))
 }
 
-/// The next line of the errors, by how it begins and how it ends, `FRONT~BACK`.
-pub(crate) fn about_step(alloc: Global, sheet: &mut Sheet, text: &str) -> Result<bool> {
-    let (front, back) = text.split_once('~').unwrap_or((text, ""));
-    let front = bytes_of(alloc, front)?;
-    let rest = sheet.ran.err.bytes.get(sheet.err_told..).unwrap_or(b"");
-    let Some(len) = rest.iter().position(|byte| *byte == b'\n') else {
-        return Ok(false);
-    };
-    let line = rest.get(..len).unwrap_or(b"");
-    let is_so = line.starts_with(&front) && line.ends_with(back.as_bytes());
-    sheet.err_told = sheet.err_told.saturating_add(len).saturating_add(1);
-    Ok(is_so)
-}
-
 /// How many writes went to the output and to the error, each of whole lines.
 pub(crate) fn writes_step(sheet: &Sheet, text: &str) -> bool {
     let (outs, errs) = halves(text);
