@@ -44,7 +44,8 @@ WORDS = {
     "S5": r"there is no|must be",
     "S6": r"no branch|is a branch",
     "S7": r"symbol",
-    "S8": r"names a field",
+    # A name that is none is not compared with others.
+    "S8": r"names a field|is not a name",
     "S9": r"not a datum",
     "S10": r"not supported",
     "S11": r"whole number of 64",
@@ -304,7 +305,7 @@ def is_bytes(value):
 def fits(value, made):
     """Whether a value is a datum of a type, as far as that is known."""
     if isinstance(made, list):
-        return any(isinstance(branch, list) or fits(value, branch) for branch in made)
+        return any(isinstance(value, Number) if isinstance(branch, list) else fits(value, branch) for branch in made)
     if made is None:
         return True
     if isinstance(value, Number):

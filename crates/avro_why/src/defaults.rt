@@ -62,7 +62,7 @@ impl<'n, 'a> Fitting<'n, 'a> {
         }
     }
 
-    /// The same for a node that is no union. A union in a union is not known.
+    /// The same for a node that is no union.
     #[cycle(fitting)]
     fn fits_branch(&mut self, value: &Value, node: NodeId) -> bool {
         if self.steps >= MAX_STEPS {
@@ -70,9 +70,8 @@ impl<'n, 'a> Fitting<'n, 'a> {
         }
         self.steps += 1;
         let nodes = self.nodes;
-        let node = match nodes.get(node) {
-            Some(Node::Union(_)) | None => return true,
-            Some(node) => node,
+        let Some(node) = nodes.get(node) else {
+            return true;
         };
         match value {
             Value::Array(items) => self.fit_items(items, node),
