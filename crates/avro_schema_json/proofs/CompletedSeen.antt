@@ -1,6 +1,5 @@
 -- Nodes with their defaults are the completed nodes, and what is said of those.
-use Rattle.std.proofs.Common.{◌≡◌, ℕ, zero, suc, ◌<◌, Bool, false, ◌&&◌, List, [], ◌∷◌, length, map, refl, sym, ap, ◌∙◌, arith, nat_le, nat_lt, Contains, slice_index_or}
-use Rattle.avro_schema_json.proofs.Words.{and_parts, false≢true, false_from_ne_true, nat_tests, NodeFault, limit_exceeded, faults_of_nodes, IsThere, Node, max_nodes, there-contains, SchemaError, RawField, RawNode, unless, refusals_of_nodes, or_else, field_default, completed_field, completed_node, refusal_of_fault, defaults_of_node, fields_with_defaults, nodes_with_defaults}
+use Rattle.avro_schema_json.proofs.Words.{◌≡◌, ℕ, zero, suc, ◌<◌, Bool, false, ◌&&◌, List, [], ◌∷◌, length, map, refl, sym, ap, ◌∙◌, arith, nat_le, nat_lt, Contains, slice_index_or, and_parts, false≢true, false_from_ne_true, nat_tests, NodeFault, limit_exceeded, faults_of_nodes, IsThere, Node, max_nodes, there-contains, SchemaError, RawField, RawNode, unless, refusals_of_nodes, or_else, field_default, completed_field, completed_node, refusal_of_fault, defaults_of_node, fields_with_defaults, nodes_with_defaults}
 
 fields-completed : (nodes : List Node) (fields : List RawField) → fields_with_defaults fields (map (field_default nodes) fields) ≡ map (completed_field nodes) fields
 fields-completed nodes [] = refl

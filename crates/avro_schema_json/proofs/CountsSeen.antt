@@ -1,21 +1,9 @@
 -- An object is a default only of records that have as many fields as it has members.
-use Rattle.std.proofs.Common.{◌≡◌, ℕ, zero, suc, Bool, true, false, ◌||◌, ◌&&◌, List, [], ◌∷◌, length, map, Option, Some, None, option_and_then, refl, sym, ap, subst, ◌∙◌, Ordering}
+use Rattle.avro_schema_json.proofs.Words.{◌≡◌, ℕ, zero, suc, Bool, true, false, ◌||◌, List, [], ◌∷◌, length, map, Option, Some, None, option_and_then, refl, sym, ap, subst, ◌∙◌, Ordering, list_any, IsEquivalence, both_ways, slice_cmp, or-true, and_parts, false≢true, is_eq-slice_cmp, bytes_eq-Decides, none-some, Members, no_members, member, get_member, value, Node, FieldNode, node_at, default_of, default_under, fields_default, member_keys, names_only, default_of_fields}
 use Rattle.std.specs.Prelude.{is_some, slice_get, bytes_eq}
-use Rattle.std.specs.List.{list_any, IsDistinct}
+use Rattle.std.specs.List.{IsDistinct}
 use Rattle.std.specs.Ordering.{nat_cmp, is_eq}
-use Rattle.std.specs.Cmp.{IsEquivalence, both_ways}
-use Rattle.std.specs.Cmp.Lexicographic.{slice_cmp}
-use Rattle.std.proofs.lemmas.Bool.{false≢true}
 use Rattle.std.proofs.lemmas.Map.Made.{length-from_same_keys}
-use Rattle.std.proofs.lemmas.Map.Text.{is_eq-slice_cmp}
-use Rattle.std.proofs.lemmas.Slice.Eq.{bytes_eq-Decides}
-use Rattle.std.proofs.lemmas.Option.{none-some}
-use Rattle.serde_json.specs.Data.{Members, no_members, member}
-use Rattle.serde_json.specs.Find.{get_member}
-use Rattle.avro_schema.specs.Value.{value}
-use Rattle.avro_schema.specs.Node.{Node, FieldNode, node_at}
-use Rattle.avro_schema_json.specs.DeclaredDefaults.{default_of, default_under, fields_default, member_keys, names_only}
-use Rattle.avro_schema_json.specs.inside.OwnDefaults.{default_of_fields}
 use Rattle.avro_schema_json.proofs.CoversSeen.{both, mapped, kept, some-field}
 use Rattle.avro_schema_json.proofs.DeclarationLaws.{default_under-found}
 
@@ -40,10 +28,6 @@ is-key : (q : List ℕ) (ms : Members) → is_some (get_member q ms) ≡ true �
 is-key q no_members h = absurd (false≢true h)
 is-key q (member k d ms) h = by_order (slice_cmp nat_cmp q k) refl (λ r. is-key q ms r)
   where
-    or-true : (a : Bool) → (a || true) ≡ true
-    or-true true = refl
-    or-true false = refl
-
     by_order : (o : Ordering) → slice_cmp nat_cmp q k ≡ o → (is_some (get_member q ms) ≡ true → list_any (bytes_eq q) (member_keys ms) ≡ true)
         → list_any (bytes_eq q) (k ∷ member_keys ms) ≡ true
     by_order Ordering.Less is others = let w = others (rw is at h) in rw w (or-true (bytes_eq q k))
@@ -77,12 +61,8 @@ key-name : (q : List ℕ) (keys : List (List ℕ)) (fields : List FieldNode) →
 key-name q [] fields h k = absurd (false≢true k)
 key-name q (key ∷ keys) fields h k = by (bytes_eq q key) refl (λ r s. key-name q keys fields r s)
   where
-    first : (a b : Bool) → (a && b) ≡ true → (a ≡ true) × (b ≡ true)
-    first true b h = (refl, h)
-    first false b h = absurd (false≢true h)
-
     two : (list_any (λ f. bytes_eq key f.name) fields ≡ true) × (names_only keys fields ≡ true)
-    two = first (list_any (λ f. bytes_eq key f.name) fields) (names_only keys fields) h
+    two = and_parts (list_any (λ f. bytes_eq key f.name) fields) (names_only keys fields) h
 
     by : (b : Bool) → bytes_eq q key ≡ b → (names_only keys fields ≡ true → list_any (bytes_eq q) keys ≡ true → list_any (λ f. bytes_eq q f.name) fields ≡ true)
         → list_any (λ f. bytes_eq q f.name) fields ≡ true

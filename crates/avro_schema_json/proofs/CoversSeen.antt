@@ -1,22 +1,8 @@
 -- A row of the parents of what an item or a member fits covers the array or the object.
-use Rattle.std.proofs.Common.{◌≡◌, ℕ, zero, suc, Bool, true, false, ◌&&◌, List, [], ◌∷◌, Option, Some, None, option_map, option_and_then, refl, sym, ap, subst, ◌∙◌, arith, Ordering}
+use Rattle.avro_schema_json.proofs.Words.{◌≡◌, ℕ, zero, suc, Bool, true, false, List, [], ◌∷◌, Option, Some, None, option_map, option_and_then, refl, sym, ap, subst, ◌∙◌, arith, Ordering, list_any, slice_cmp, and_parts, false≢true, is_eq-slice_cmp, bytes_eq-Decides, none-some, Data, Items, no_items, item, Members, no_members, member, get_item, get_member, Value, Values, value, entry, Node, FieldNode, node_at, items_node, values_node, default_of, each_default, entries_default, fields_default, default_under, object_default, member_keys, names_only, first_fit, only_if, own_default, place_of, owns, fits, Covers, own_ids, Label, HasField, IsPart, IsStep, has_place}
 use Rattle.std.specs.Prelude.{is_some, slice_get, Contains, bytes_eq}
-use Rattle.std.specs.List.{list_any}
 use Rattle.std.specs.Ordering.{nat_cmp, is_eq}
-use Rattle.std.specs.Cmp.Lexicographic.{slice_cmp}
-use Rattle.std.proofs.lemmas.Bool.{false≢true}
-use Rattle.std.proofs.lemmas.Map.Text.{is_eq-slice_cmp}
-use Rattle.std.proofs.lemmas.Slice.Eq.{bytes_eq-Decides}
-use Rattle.std.proofs.lemmas.Option.{none-some}
-use Rattle.serde_json.specs.Data.{Data, Items, no_items, item, Members, no_members, member}
-use Rattle.serde_json.specs.Find.{get_item, get_member}
-use Rattle.avro_schema.specs.Value.{Value, Values, value, entry}
-use Rattle.avro_schema.specs.Node.{Node, FieldNode, node_at, branches_of, items_node, values_node}
-use Rattle.avro_schema_json.specs.DeclaredDefaults.{default_of, each_default, entries_default, fields_default, default_under, object_default, member_keys, names_only, first_fit, only_if}
-use Rattle.avro_schema_json.specs.inside.OwnDefaults.{own_default}
-use Rattle.avro_schema_json.specs.inside.Covers.{place_of, owns, fits, Covers, own_ids}
-use Rattle.avro_schema_json.specs.inside.Parents.{Label, HasField, IsPart, IsStep}
-use Rattle.avro_schema_json.specs.inside.Rows.{has_place, IsWithin}
+use Rattle.avro_schema.specs.Node.{branches_of}
 use Rattle.avro_schema_json.proofs.DeclarationLaws.{default_under-found}
 use Rattle.avro_schema_json.proofs.DefaultsSeen.{default-no_union, default-union}
 
@@ -116,10 +102,6 @@ field-fits nodes ms (g ∷ fields) (suc i) f e at here h =
 
 -- ---- names of fields
 
-parts : (a b : Bool) → (a && b) ≡ true → (a ≡ true) × (b ≡ true)
-parts true b h = (refl, h)
-parts false b h = absurd (false≢true h)
-
 pub some-field : (key : List ℕ) (fields : List FieldNode) → list_any (λ f. bytes_eq key f.name) fields ≡ true
     → (i : ℕ) × (f : FieldNode) × (slice_get fields i ≡ Some f) × (f.name ≡ key)
 some-field key [] h = absurd (false≢true h)
@@ -137,7 +119,7 @@ named-field no_members fields key e h at = absurd (none-some e at)
 named-field (member k d ms) fields key e h at = by_order (slice_cmp nat_cmp key k) refl (λ r q. named-field ms fields key e r q)
   where
     two : (list_any (λ f. bytes_eq k f.name) fields ≡ true) × (names_only (member_keys ms) fields ≡ true)
-    two = parts (list_any (λ f. bytes_eq k f.name) fields) (names_only (member_keys ms) fields) h
+    two = and_parts (list_any (λ f. bytes_eq k f.name) fields) (names_only (member_keys ms) fields) h
 
     by_order : (o : Ordering) → slice_cmp nat_cmp key k ≡ o
         → (names_only (member_keys ms) fields ≡ true → get_member key ms ≡ Some e → (i : ℕ) × (f : FieldNode) × (slice_get fields i ≡ Some f) × (f.name ≡ key))
@@ -149,7 +131,7 @@ named-field (member k d ms) fields key e h at = by_order (slice_cmp nat_cmp key 
         let found = some-field k fields two.0 in
         (found.0, found.1, found.2, found.3 ∙ sym same)
 
-only : {A : Type 0} (b : Bool) (x : A) → is_some (only_if b x) ≡ true → b ≡ true
+pub only : {A : Type 0} (b : Bool) (x : A) → is_some (only_if b x) ≡ true → b ≡ true
 only true x h = refl
 only false x h = absurd (false≢true h)
 
@@ -157,24 +139,21 @@ pub kept : (all : Option Values) (b : Bool) → is_some (option_and_then (λ vs.
 kept None b h = absurd (false≢true h)
 kept (Some vs) b h = (refl, only b (Value.record_of vs) h)
 
-pub object-covered : (nodes : List Node) (last : ℕ) (ms : Members) (key : List ℕ) (e : Data) (row maps records parents : List ℕ) → get_member key ms ≡ Some e
-    → Covers nodes last e row → IsStep nodes last Label.values row maps → IsStep nodes last (Label.named key) row records
-    → IsWithin maps parents → IsWithin records parents → Covers nodes last (Data.object ms) parents
-object-covered nodes last ms key e row maps records parents at covers values named within also m = by (node_at nodes m) refl
+pub object-covered : (nodes : List Node) (last : ℕ) (ms : Members) (key : List ℕ) (e : Data) (row parents : List ℕ) → get_member key ms ≡ Some e
+    → Covers nodes last e row → IsStep nodes last Label.values row parents → IsStep nodes last (Label.named key) row parents
+    → Covers nodes last (Data.object ms) parents
+object-covered nodes last ms key e row parents at covers values named m = by (node_at nodes m) refl
   where
     by : (n : Node) → node_at nodes m ≡ n
         → is_some (object_default nodes (λ x. entries_default nodes ms x) (λ k. default_under nodes k ms) (member_keys ms) n) ≡ true → has_place parents (place_of last m) ≡ true
     by (Node.map_of t) is h =
         let each : is_some (entries_default nodes ms (node_at nodes t)) ≡ true = sym (mapped Value.map_of (entries_default nodes ms (node_at nodes t))) ∙ h in
-        within (place_of last m)
-        (stepped nodes last Label.values e row maps m t covers values (ap values_node is) (entry-fits nodes ms key e (node_at nodes t) at each))
+        stepped nodes last Label.values e row parents m t covers values (ap values_node is) (entry-fits nodes ms key e (node_at nodes t) at each)
     by (Node.record_of name aliases fields) is h =
         let all = kept (fields_default nodes (λ k. default_under nodes k ms) fields) (names_only (member_keys ms) fields) h in
         let f = named-field ms fields key e all.1 at in
         let field : HasField fields key f.1.node = record { field = f.1; at = f.0; there = f.2; named_so = f.3; node_is = refl } in
         let here : get_member f.1.name ms ≡ Some e = rw f.3 at in
-        also (place_of last m)
-        (stepped nodes last (Label.named key) e row records m f.1.node covers named
-        (subst (λ (n : Node). IsPart (Label.named key) n f.1.node) (sym is) field)
-        (field-fits nodes ms fields f.0 f.1 e f.2 here all.0))
+        stepped nodes last (Label.named key) e row parents m f.1.node covers named (subst (λ (n : Node). IsPart (Label.named key) n f.1.node) (sym is) field)
+        (field-fits nodes ms fields f.0 f.1 e f.2 here all.0)
     by _ is h = absurd (false≢true h)

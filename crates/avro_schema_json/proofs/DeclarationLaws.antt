@@ -1,6 +1,5 @@
 -- What follows from the definitions: a tree declares one schema at most, and none exactly where a fault is there.
-use Rattle.std.proofs.Common.{◌≡◌, ℕ, Bool, true, false, not, ◌&&◌, List, [], ◌∷◌, Option, Some, None, refl, subst, ap, map, Ordering, arith, option_map, option_and_then, if◌then◌else◌, Contains, nat_cmp}
-use Rattle.avro_schema_json.proofs.Words.{match_ordering, slice_cmp, and_parts, Node, is_schema, NodeFault, faults_of_nodes, is_schema-from_no_faults, no_faults-from_is_schema, Data, Members, no_members, member, get_member, has_float, SchemaError, unless, made_of, meaning_of, meaning_under, fields_from, fields_under, default_of, default_under, declared, completed_nodes, are_all_defaults_read, is_empty, DeclaresSchema, faults_of, refusals_of_nodes, or_else, HasFault, refusal_of_fault}
+use Rattle.avro_schema_json.proofs.Words.{◌≡◌, ℕ, Bool, true, false, not, ◌&&◌, List, [], ◌∷◌, Option, Some, None, refl, subst, ap, map, Ordering, arith, option_map, option_and_then, if◌then◌else◌, Contains, nat_cmp, match_ordering, slice_cmp, and_parts, Node, is_schema, NodeFault, faults_of_nodes, is_schema-from_no_faults, no_faults-from_is_schema, Data, Members, no_members, member, get_member, has_float, SchemaError, unless, made_of, meaning_of, meaning_under, fields_from, fields_under, default_of, default_under, declared, completed_nodes, are_all_defaults_read, is_empty, DeclaresSchema, faults_of, refusals_of_nodes, or_else, HasFault, refusal_of_fault}
 
 -- ---- look-ups
 

@@ -1,6 +1,5 @@
 -- One step of reading the defaults of items, of entries and of fields.
-use Rattle.std.proofs.Common.{◌≡◌, ℕ, zero, suc, ◌+◌, ◌<◌, ◌≤◌, List, [], ◌∷◌, ◌++◌, length, Option, Some, None, option_map, option_and_then, get_or, drop, refl, ap, ◌∙◌, sym, add-one, String, string_bytes, slice_get, Global}
-use Rattle.avro_schema_json.proofs.Words.{drop_more, Node, FieldNode, node_at, value_of, values_of, Value, Values, Entries, Data, get_member, view, items_view, members_view, Tree, Entry, default_of, default_under, each_default, entries_default, fields_default}
+use Rattle.avro_schema_json.proofs.Words.{◌≡◌, ℕ, zero, suc, ◌+◌, ◌<◌, ◌≤◌, List, [], ◌∷◌, ◌++◌, length, Option, Some, None, option_map, option_and_then, get_or, drop, refl, ap, ◌∙◌, sym, add-one, String, string_bytes, slice_get, Global, drop_more, Node, FieldNode, node_at, value_of, values_of, Value, Values, Entries, Data, get_member, view, items_view, members_view, Tree, Entry, default_of, default_under, each_default, entries_default, fields_default}
 use Rattle.avro_schema.specs.declared.datum.Datum.{Datum}
 use Rattle.avro_schema_json.proofs.RawSeen.{name_and_node}
 use Rattle.avro_schema_json.proofs.DeclarationLaws.{default_under-found}

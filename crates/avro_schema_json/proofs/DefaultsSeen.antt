@@ -1,17 +1,9 @@
 -- Defaults as they are read part by part.
-use Rattle.std.proofs.Common.{◌≡◌, ℕ, zero, suc, ◌+◌, ◌<◌, ◌≤◌, List, [], ◌∷◌, ◌++◌, length, drop, arith, add-one, Option, Some, None, option_map, option_and_then, get_or, refl, ap, ◌∙◌, sym}
+use Rattle.avro_schema_json.proofs.Words.{◌≡◌, ℕ, zero, suc, ◌+◌, ◌<◌, ◌≤◌, List, [], ◌∷◌, ◌++◌, length, drop, arith, add-one, Option, Some, None, option_map, option_and_then, get_or, refl, ap, ◌∙◌, sym, drop_more, Node, node_at, value_of, values_of, entries_of, ids_of, Value, Values, no_values, value, Entries, no_entries, entry, NodeId, Data, by_first_fit, first_fit, default_of, own_default, without_defaults, all_without_defaults, KeptNode as RawNode}
 use Rattle.std.specs.Prelude.{String, string_bytes}
 use Rattle.std.specs.declared.alloc.Global.{Global}
-use Rattle.std.proofs.lemmas.List.{drop_more}
-use Rattle.avro_schema.specs.Node.{Node, node_at, branches_of}
-use Rattle.avro_schema.specs.Seen.{value_of, values_of, entries_of, ids_of}
-use Rattle.avro_schema.specs.Value.{Value, Values, no_values, value, Entries, no_entries, entry}
+use Rattle.avro_schema.specs.Node.{branches_of}
 use Rattle.avro_schema.specs.declared.datum.Datum.{Datum}
-use Rattle.avro_schema.specs.declared.schema.NodeId.{NodeId}
-use Rattle.serde_json.specs.Data.{Data}
-use Rattle.avro_schema_json.specs.DeclaredDefaults.{by_first_fit, first_fit, default_of}
-use Rattle.avro_schema_json.specs.inside.OwnDefaults.{own_default, without_defaults, all_without_defaults}
-use Rattle.avro_schema_json.specs.declared.raw.RawNode.{RawNode}
 
 -- the node of an id
 pub node_at-raws : (raws : List RawNode) (i : ℕ) (other : RawNode) → without_defaults other ≡ Node.null → without_defaults (get_or raws i other) ≡ node_at (all_without_defaults raws) i

@@ -1,6 +1,5 @@
 -- How definitions are read: a record, an enum, a fixed.
-use Rattle.std.proofs.Common.{◌≡◌, ℕ, suc, List, [], ◌∷◌, ◌++◌, Option, Some, None, refl, subst, length, sym, ap, ◌∙◌, slice_set, Result, Ok, Err, append-nil}
-use Rattle.avro_schema_json.proofs.Words.{Name, Node, Members, SchemaError, Attribute, name_in, aliases_in, symbols_in, size_in, RawNode, RawField, Known, Made, Meaning, no_parts, node_with, definition_of, enum_named, fixed_named, record_named, defining, name_faults, State, made_at, IsRead, Reads, IsRefusal, Refuses, IsAttribute, IsBegun, limit_faults, beginning_faults, fields_meaning}
+use Rattle.avro_schema_json.proofs.Words.{◌≡◌, ℕ, suc, List, [], ◌++◌, Option, Some, None, refl, subst, length, sym, slice_set, Result, Ok, Err, append-nil, Name, Node, Members, SchemaError, Attribute, name_in, aliases_in, symbols_in, size_in, RawNode, RawField, Known, Made, Meaning, no_parts, node_with, definition_of, enum_named, fixed_named, record_named, defining, name_faults, State, made_at, IsRead, Reads, IsRefusal, Refuses, IsAttribute, IsBegun, limit_faults, beginning_faults, fields_meaning}
 use Rattle.avro_schema_json.proofs.TypesRead.{IsHeld, first-refused, second-refused, grown-refused, node_with-read, node_with-own, node_with-part}
 
 -- What a definition makes once it has a name: a node of the name, its aliases, an attribute of its own and its parts.

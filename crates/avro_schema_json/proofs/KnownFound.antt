@@ -1,10 +1,6 @@
 -- The ids of names and the numbers of namespaces, as one is added.
-use Rattle.std.proofs.Common.{◌≡◌, ◌⊎◌, inl, inr, ⊎_elim, ℕ, ◌+◌, ◌≤◌, Bool, true, false, not, ◌&&◌, ◌==◌, cond, List, length, [], ◌∷◌, ◌++◌, Option, Some, None, refl, sym, ap, ◌∙◌, arith, ne_eqb, bytes_eq, String, string_bytes, Result, Ok, Err, IfOk, OnOk, OnErr, is_some, if◌then◌else◌, Global, BTreeMap, btree_map_len, is_eq, nat_cmp}
-use Rattle.avro_schema_json.proofs.Words.{get, is_at, Updates, slice_cmp, cond-true, cond-false, false_from_ne_true, Decides-eqb, is_eq-slice_cmp, bytes_eq-Decides, Name, same_name, name_of, split_name, has_dot, is_dotted_name, is_primitive_word, is_eq-then, same_name-is, same_name-sym, bytes_eq-self, Known, id_of, defining, Key, key_cmp, number_of, IsIndexOf}
-use Rattle.std.specs.Map.{lookup}
-use Rattle.std.specs.Cmp.{unsigned_tied, both_ways}
-use Rattle.std.specs.String.{string_cmp}
-use Rattle.std.proofs.Math.Bool.{and_comm}
+use Rattle.avro_schema_json.proofs.Words.{◌≡◌, ◌⊎◌, inl, inr, ⊎_elim, ℕ, ◌+◌, ◌≤◌, Bool, true, false, not, ◌&&◌, ◌==◌, cond, List, length, [], ◌∷◌, ◌++◌, Option, Some, None, refl, sym, ap, ◌∙◌, arith, ne_eqb, bytes_eq, String, string_bytes, Result, Ok, Err, IfOk, OnOk, OnErr, is_some, if◌then◌else◌, Global, BTreeMap, btree_map_len, is_eq, nat_cmp, get, is_at, Updates, slice_cmp, cond-true, cond-false, false_from_ne_true, Decides-eqb, is_eq-slice_cmp, bytes_eq-Decides, Name, same_name, name_of, split_name, has_dot, is_dotted_name, is_primitive_word, is_eq-then, same_name-is, same_name-sym, Known, id_of, defining, Key, key_cmp, number_of, IsIndexOf, lookup, same_Some, unsigned_tied, both_ways, string_cmp, and_comm}
+use Rattle.avro_schema_json.proofs.EachSeen.{exact-texts}
 use Rattle.avro_schema_json.specs.inside.KnownSeen.{known_of, IsNumbered}
 use Rattle.avro_schema_json.specs.declared.declarations.name_table.NameTable.{NameTable}
 use Rattle.avro_schema_json.specs.declared.declarations.name_table.Space.{Space}
@@ -45,9 +41,6 @@ found_in names space name simple id known numbered at spelled same answer =
     answer name.namespace (ap (number_of names.numbers) (sym at) ∙ numbered)
     ∙ ap (λ t. id_of (record { namespace = name.namespace; simple = t }) (known_of names)) spelled ∙ ap (id_of name) same
 
-some_same : (a b : Name) → Some a ≡ Some b → a ≡ b
-some_same a b e = cc
-
 -- a word without a dot is in the enclosing namespace
 pub named_alone : (word enclosing : List ℕ) (name : Name) → has_dot word ≡ false → name_of word enclosing ≡ Some name → enclosing ≡ name.namespace
 named_alone word enclosing name none is = by (is_dotted_name word && not (is_primitive_word (split_name word enclosing).simple)) refl
@@ -57,7 +50,7 @@ named_alone word enclosing name none is = by (is_dotted_name word && not (is_pri
 
     by : (good : Bool) → (is_dotted_name word && not (is_primitive_word (split_name word enclosing).simple)) ≡ good → enclosing ≡ name.namespace
     by true h =
-        let same : split_name word enclosing ≡ name = some_same _ _ (sym (cond-true _ (Some (split_name word enclosing)) None h) ∙ is) in
+        let same : split_name word enclosing ≡ name = same_Some _ _ (sym (cond-true _ (Some (split_name word enclosing)) None h) ∙ is) in
         sym (ap (λ (n : Name). n.namespace) split) ∙ ap (λ (n : Name). n.namespace) same
     by false h = let none : None ≡ Some name = sym (cond-false _ (Some (split_name word enclosing)) None h) ∙ is in absurd (cc)
 
@@ -66,9 +59,6 @@ named_alone word enclosing name none is = by (is_dotted_name word && not (is_pri
 or_none : {A : Type 0} (o : Option A) → (o ≡ None) ⊎ ((x : A) × (o ≡ Some x))
 or_none None = inl refl
 or_none (Some x) = inr (x, refl)
-
-one_bytes : (xs ys : List ℕ) → bytes_eq xs ys ≡ true → xs ≡ ys
-one_bytes xs ys h = (bytes_eq-Decides xs ys).0 h
 
 is_eq-keys : (a b : Key) → is_eq (key_cmp a b) ≡ ((a.0 == b.0) && bytes_eq (string_bytes a.1) (string_bytes b.1))
 is_eq-keys a b =
@@ -82,7 +72,7 @@ module _ (known : Known) (numbers : BTreeMap (List ℕ) ℕ) (ids : BTreeMap Key
       both_ways (m == n) (bytes_eq one other)
       (λ e. let same : m ≡ n = (Decides-eqb m n).0 e in
       (bytes_eq-Decides one other).1 (index.distinct_numbers one other n (rw (← same) h) k))
-      (λ e. let same : Some m ≡ Some n = sym h ∙ ap (number_of numbers) (one_bytes one other e) ∙ k in
+      (λ e. let same : Some m ≡ Some n = sym h ∙ ap (number_of numbers) (exact-texts one other e) ∙ k in
       let equal : m ≡ n = cc in (Decides-eqb m n).1 equal)
 
   module _ (name : Name) (number id : ℕ) (simple : String Global) (later : BTreeMap Key ℕ) (numbered : number_of numbers name.namespace ≡ Some number)
@@ -135,7 +125,7 @@ module _ (known : Known) (numbers : BTreeMap (List ℕ) ℕ) (ids : BTreeMap Key
       where
         by : (same : Bool) → bytes_eq namespace q ≡ same → ((namespace ≡ q) × (n ≡ number)) ⊎ (number_of numbers q ≡ Some n)
         by true e = let is : Some number ≡ Some n = sym (put_text q ∙ ap (λ b. cond b (Some number) (number_of numbers q)) e) ∙ h in
-            inl (one_bytes namespace q e, cc)
+            inl (exact-texts namespace q e, cc)
         by false e = inr (sym (put_text q ∙ ap (λ b. cond b (Some number) (number_of numbers q)) e) ∙ h)
 
     old_below : (q : List ℕ) → number_of numbers q ≡ Some number → ⊥
@@ -144,7 +134,7 @@ module _ (known : Known) (numbers : BTreeMap (List ℕ) ℕ) (ids : BTreeMap Key
     pub numbers_kept : (q : List ℕ) (n : ℕ) → number_of numbers q ≡ Some n → number_of later q ≡ Some n
     numbers_kept q n h =
         let other : bytes_eq namespace q ≡ false = false_from_ne_true (bytes_eq namespace q) (λ e.
-        let found : None ≡ Some n = sym new ∙ ap (number_of numbers) (one_bytes namespace q e) ∙ h in absurd (cc)) in
+        let found : None ≡ Some n = sym new ∙ ap (number_of numbers) (exact-texts namespace q e) ∙ h in absurd (cc)) in
         put_text q ∙ ap (λ b. cond b (Some number) (number_of numbers q)) other ∙ h
 
     pub numbered_after : IsIndexOf known later ids

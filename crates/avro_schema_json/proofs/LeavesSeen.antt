@@ -1,83 +1,49 @@
 -- Which rows cover a text, and an object by how many members it has.
-use Rattle.std.proofs.Common.{◌≡◌, ℕ, suc, Bool, true, false, ◌==◌, List, [], ◌∷◌, length, Option, Some, None, option_map, option_and_then, refl, sym, ap, subst, ◌∙◌, Less}
-use Rattle.std.specs.Prelude.{is_some, String, string_bytes, bytes_eq, nat_lt}
+use Rattle.avro_schema_json.proofs.Words.{◌≡◌, ℕ, suc, true, false, ◌==◌, List, [], ◌∷◌, length, Option, Some, None, option_map, option_and_then, refl, sym, ap, subst, ◌∙◌, Less, AllByRecursion, Vec, string_cmp, false≢true, Decides-eqb, length-map, is_eq-slice_cmp, Node, node_at, Value, Data, Members, members_view, Entry, symbol_index, text_default, bytes_of_text, object_default, entries_default, default_under, member_keys, only_if, place_of, Covers, kind_of, HasKind, AreKinds, AreNamesDistinct, has_place, symbols_of, HasSymbol, AreSymbols, Few, Row}
+use Rattle.std.specs.Prelude.{is_some, String, string_bytes, bytes_eq}
 use Rattle.std.specs.declared.alloc.Global.{Global}
-use Rattle.std.specs.Str.{chars}
-use Rattle.std.specs.List.{AllByRecursion, IsDistinct, list_all}
+use Rattle.std.specs.List.{IsDistinct}
 use Rattle.std.specs.List.Sorted.{IsStrictlySortedBy}
 use Rattle.std.specs.Map.{keys_of}
-use Rattle.std.specs.Global.{Vec}
 use Rattle.std.specs.Ordering.{is_eq}
-use Rattle.std.specs.String.{string_cmp}
 use Rattle.std.specs.BTreeMap.{BTreeMap}
-use Rattle.std.proofs.lemmas.Bool.{false≢true}
-use Rattle.std.proofs.lemmas.Bool.Decides.{Decides-eqb}
-use Rattle.std.proofs.lemmas.Map.Text.{is_eq-slice_cmp}
 use denote.Ref.{Bor}
-use Rattle.avro_schema.specs.Node.{Node, FieldNode, node_at}
-use Rattle.avro_schema.specs.Value.{Value}
-use Rattle.serde_json.specs.Data.{Data, Members}
-use Rattle.serde_json.specs.View.{members_view}
-use Rattle.serde_json.proofs.Views.{Entry}
-use Rattle.avro_schema_json.specs.DeclaredAttributes.{symbol_index}
-use Rattle.avro_schema_json.specs.DeclaredDefaults.{text_default, bytes_of_text, object_default, entries_default, default_under, member_keys, only_if}
-use Rattle.avro_schema_json.specs.inside.Covers.{place_of, Covers}
-use Rattle.avro_schema_json.specs.inside.Kinds.{kind_of, HasKind, AreKinds}
-use Rattle.avro_schema_json.specs.inside.Repeats.{AreNamesDistinct}
-use Rattle.avro_schema_json.specs.inside.Rows.{has_place}
-use Rattle.avro_schema_json.specs.inside.Symbols.{symbols_of, HasSymbol, AreSymbols}
-use Rattle.avro_schema_json.specs.declared.defaults.parents.Few.{Few}
-use Rattle.avro_schema_json.specs.declared.defaults.rows.Row.{Row}
 use Rattle.avro_schema_json.proofs.CountsSeen.{names_of, as-many}
-use Rattle.avro_schema_json.proofs.CoversSeen.{mapped}
+use Rattle.avro_schema_json.proofs.CoversSeen.{mapped, only}
 
 -- a row has the places of a kind
 abbrev pub HasAll : BTreeMap (ℕ × ℕ) Row → ℕ × ℕ → List ℕ → Type 0
 HasAll rows kind row = (p : ℕ) → HasKind rows kind p → has_place row p ≡ true
 
-passes : {A : Type 0} (b : Bool) (x : A) → is_some (only_if b x) ≡ true → b ≡ true
-passes true x h = refl
-passes false x h = absurd (false≢true h)
-
 -- ---- texts
-
--- where a text is bytes, there are as many as it has characters
-as-characters : (b : Bool) (cs bytes : List ℕ) → only_if b cs ≡ Some bytes → cs ≡ bytes
-as-characters true cs bytes h = cc
-as-characters false cs bytes h = absurd cc
 
 -- a row of all nodes that a text is a default of
 pub record IsTextRow (rows : BTreeMap (ℕ × ℕ) Row) (labels : BTreeMap (Bor (List ℕ)) ℕ) (parents : List (BTreeMap ℕ (Vec Few)))
     (last : ℕ) (text row : List ℕ) : Type 0 where
   pub string : HasAll rows (5, 0) row
   pub enums : (p : ℕ) → HasSymbol labels parents last p text → has_place row p ≡ true
-  pub bytes : (bytes_of_text text ≡ None → ⊥) → HasAll rows (4, 0) row
-  pub fixeds : (bytes_of_text text ≡ None → ⊥) → HasAll rows (11, length (chars text)) row
+  pub bytes : (b : List ℕ) → bytes_of_text text ≡ Some b → HasAll rows (4, 0) row
+  pub fixeds : (b : List ℕ) → bytes_of_text text ≡ Some b → HasAll rows (11, length b) row
 
 pub text-covered : (nodes : List Node) (last : ℕ) (rows : BTreeMap (ℕ × ℕ) Row) (labels : BTreeMap (Bor (List ℕ)) ℕ) (parents : List (BTreeMap ℕ (Vec Few)))
     (text row : List ℕ) → AreKinds nodes last rows → AreSymbols nodes last labels parents → IsTextRow rows labels parents last text row → Covers nodes last (Data.string text) row
 text-covered nodes last rows labels parents text row kinds enums all m h = by (node_at nodes m) h (kinds m) (enums m text)
   where
-    none_some : {A : Type 0} (o : Option A) (x : A) → o ≡ Some x → o ≡ None → ⊥
-    none_some o x is none = cc
-
-    bytes_there : (o : Option (List ℕ)) → bytes_of_text text ≡ o → is_some (option_map Value.bytes o) ≡ true → bytes_of_text text ≡ None → ⊥
-    bytes_there None is h = absurd (false≢true h)
-    bytes_there (Some b) is h = none_some (bytes_of_text text) b is
+    of_bytes : (o : Option (List ℕ)) → bytes_of_text text ≡ o → is_some (option_map Value.bytes o) ≡ true → HasAll rows (4, 0) row
+    of_bytes None is h = absurd (false≢true h)
+    of_bytes (Some b) is h = all.bytes b is
 
     of_count : (o : Option (List ℕ)) (count : ℕ) → bytes_of_text text ≡ o → is_some (option_and_then (λ b. only_if (length b == count) (Value.fixed b)) o) ≡ true
         → HasKind rows (11, count) (place_of last m) → has_place row (place_of last m) ≡ true
     of_count None count is h kind = absurd (false≢true h)
     of_count (Some b) count is h kind =
-        let many : length b ≡ count = (Decides-eqb (length b) count).0 (passes (length b == count) (Value.fixed b) h) in
-        let same : chars text ≡ b = as-characters (list_all (λ c. nat_lt c 256) (chars text)) (chars text) b is in
-        all.fixeds (none_some (bytes_of_text text) b is) (place_of last m)
-        (subst (λ (k : ℕ). HasKind rows (11, k) (place_of last m)) (sym (ap (λ (xs : List ℕ). length xs) same ∙ many)) kind)
+        let many : length b ≡ count = (Decides-eqb (length b) count).0 (only (length b == count) (Value.fixed b) h) in
+        all.fixeds b is (place_of last m) (subst (λ (k : ℕ). HasKind rows (11, k) (place_of last m)) (sym many) kind)
 
     by : (n : Node) → is_some (text_default text n) ≡ true → HasKind rows (kind_of n) (place_of last m)
         → (is_some (symbol_index text (symbols_of n)) ≡ true → HasSymbol labels parents last (place_of last m) text) → has_place row (place_of last m) ≡ true
     by Node.string h kind symbol = all.string (place_of last m) kind
-    by Node.bytes h kind symbol = all.bytes (bytes_there (bytes_of_text text) refl h) (place_of last m) kind
+    by Node.bytes h kind symbol = of_bytes (bytes_of_text text) refl h (place_of last m) kind
     by (Node.fixed name aliases count) h kind symbol = of_count (bytes_of_text text) count refl h kind
     by (Node.enum name aliases words default) h kind symbol = all.enums (place_of last m) (symbol (sym (mapped Value.enum (symbol_index text words)) ∙ h))
     by _ h kind symbol = absurd (false≢true h)
@@ -98,10 +64,6 @@ unfolding IsStrictlySortedBy IsDistinct
 keys-distinct [] ordered = tt
 keys-distinct (e ∷ es) ordered = (apart e.0 es ordered.0, keys-distinct es ordered.1)
 
-names-count : (fields : List FieldNode) → length (names_of fields) ≡ length fields
-names-count [] = refl
-names-count (f ∷ fields) = ap suc (names-count fields)
-
 pub object-kind : (nodes : List Node) (last : ℕ) (rows : BTreeMap (ℕ × ℕ) Row) (ms : Members) (row : List ℕ) → AreKinds nodes last rows → AreNamesDistinct nodes
     → IsDistinct bytes_eq (member_keys ms) → HasAll rows (7, 0) row → HasAll rows (9, length (member_keys ms)) row → Covers nodes last (Data.object ms) row
 object-kind nodes last rows ms row kinds distinct keys maps records m h = by (node_at nodes m) refl h (kinds m)
@@ -113,5 +75,5 @@ object-kind nodes last rows ms row kinds distinct keys maps records m h = by (no
     by (Node.record_of name aliases fields) is h kind =
         let names : IsDistinct bytes_eq (names_of fields) = rw is at (distinct m) in
         let same : length (names_of fields) ≡ length (member_keys ms) = as-many nodes ms fields names keys h in
-        records (place_of last m) (subst (λ (k : ℕ). HasKind rows (9, k) (place_of last m)) (sym (names-count fields) ∙ same) kind)
+        records (place_of last m) (subst (λ (k : ℕ). HasKind rows (9, k) (place_of last m)) (sym (length-map fields (λ f. f.name)) ∙ same) kind)
     by _ is h kind = absurd (false≢true h)

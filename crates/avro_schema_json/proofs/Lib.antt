@@ -19,6 +19,7 @@ mod KnownFound
 pub mod MadeSound
 pub mod DefaultsFit
 pub mod RepeatsSeen
+pub mod EachSeen
 pub mod NodesSeen
 pub mod MarksSeen
 pub mod WalkSeen

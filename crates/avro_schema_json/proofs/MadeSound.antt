@@ -1,6 +1,5 @@
 -- No fault of a tree says that the text is not JSON, or that memory ran out.
-use Rattle.std.proofs.Common.{◌≡◌, ℕ, zero, suc, ◌+◌, ◌<◌, Bool, true, false, not, List, [], ◌∷◌, ◌++◌, Option, Some, None, Result, Ok, Err, length, refl, ap, arith, nat_lt, nat_le, subst, Ordering, sym, ◌∙◌, map, Contains, slice_index_or, codes, is_some, option_and_then, ok_or, if◌then◌else◌, nat_cmp}
-use Rattle.avro_schema_json.proofs.Words.{list_all, match_ordering, slice_cmp, and_parts, false≢true, list_all-append, Name, is_namespace, has_dot, name_of, Node, max_nodes, max_count, NodeFault, unknown_node, faults_of_nodes, Data, Items, no_items, item, Members, no_members, member, get_member, as_str, as_number, as_u64, SchemaError, unless, needed, text_in, as_texts, namespace_from, name_from, name_in, alias_texts_from, alias_texts_in, aliases_in, symbol_index, default_symbol_from, symbols_in, size_in, has_float, faults_of, refusals_of_nodes, or_else, HasFault, completed_nodes, are_all_defaults_read, refusal_of_fault, RawField, RawNode, Known, Made, Meaning, faulty, in_turn, use_of, id_of, reference, Word, null_word, boolean_word, int_word, long_word, bytes_word, string_word, unsupported_word, type_name, word_of, type_of_word, union_of, container_of, defining, name_faults, record_named, enum_named, fixed_named, definition_of, Form, record_form, enum_form, fixed_form, array_form, map_form, error_form, word_form, no_form, form_of, type_of_form, field_of, no_field, meaning_of, branches_of, meaning_under, fields_under, fields_from, field_meanings, field_meaning, made_of}
+use Rattle.avro_schema_json.proofs.Words.{◌≡◌, ℕ, zero, suc, ◌+◌, ◌<◌, Bool, true, false, not, List, [], ◌∷◌, ◌++◌, Option, Some, None, Result, Ok, Err, length, refl, ap, arith, nat_lt, nat_le, subst, Ordering, sym, ◌∙◌, map, Contains, slice_index_or, codes, is_some, option_and_then, ok_or, if◌then◌else◌, nat_cmp, list_all, match_ordering, slice_cmp, and_parts, false≢true, list_all-append, Name, is_namespace, has_dot, name_of, Node, max_nodes, max_count, NodeFault, unknown_node, faults_of_nodes, Data, Items, no_items, item, Members, no_members, member, get_member, as_str, as_number, as_u64, SchemaError, unless, needed, text_in, as_texts, namespace_from, name_from, name_in, alias_texts_from, alias_texts_in, aliases_in, symbol_index, default_symbol_from, symbols_in, size_in, has_float, faults_of, refusals_of_nodes, or_else, HasFault, completed_nodes, are_all_defaults_read, refusal_of_fault, RawField, Known, Made, Meaning, faulty, in_turn, use_of, id_of, reference, Word, null_word, boolean_word, int_word, long_word, bytes_word, string_word, unsupported_word, type_name, word_of, type_of_word, union_of, container_of, defining, name_faults, record_named, enum_named, fixed_named, definition_of, Form, record_form, enum_form, fixed_form, array_form, map_form, error_form, word_form, no_form, form_of, type_of_form, field_of, no_field, meaning_of, branches_of, meaning_under, fields_under, fields_from, field_meanings, field_meaning, made_of}
 
 -- a fault that a tree can have
 abbrev is_of_tree : SchemaError → Bool

@@ -1,13 +1,8 @@
 -- The names of fields as they are gathered.
-use Rattle.std.proofs.Common.{◌≡◌, ℕ, suc, ◌+◌, ◌≤◌, Bool, true, false, ◌||◌, cond, List, [], ◌∷◌, length, Option, Some, None, option_map, drop, refl, ap, sym, ◌∙◌, add-one, String, string_bytes, slice_get, bytes_eq, is_some, Global}
-use Rattle.avro_schema_json.proofs.Words.{list_any, bytes_eq-sym, FieldNode, members_view, Tree, Entry, member_keys, names_only}
+use Rattle.avro_schema_json.proofs.Words.{◌≡◌, ℕ, suc, ◌+◌, ◌≤◌, Bool, true, false, ◌||◌, cond, List, [], ◌∷◌, length, Option, Some, None, option_map, drop, refl, ap, sym, ◌∙◌, add-one, String, string_bytes, slice_get, bytes_eq, is_some, Global, list_any, bytes_eq-sym, FieldNode, members_view, Tree, Entry, member_keys, names_only, or-false}
 use Rattle.avro_schema_json.proofs.RawSeen.{name_and_node}
 use Rattle.avro_schema_json.proofs.DefaultSteps.{drop_at, field_at-found}
 use Rattle.avro_schema_json.proofs.DefaultsSeen.{drop_past}
-
-or-false : (a b : Bool) → (a || false) ≡ b → a ≡ b
-or-false true b h = h
-or-false false b h = h
 
 gathered : (b : Bool) (before : Option (Unit {0})) (r : Bool) → (is_some (cond b (Some tt) before) || r) ≡ (is_some before || (b || r))
 gathered true None r = refl
@@ -33,7 +28,7 @@ pub names_end : (fields : List FieldNode) (i : ℕ) (here : Bool) (name : List �
     → (here || list_any (is_named name) (drop i fields)) ≡ all → here ≡ all
 names_end fields i here name all past whole =
     let none : drop i fields ≡ [] = drop_past fields i past in
-    or-false here all (rw none at whole)
+    sym (or-false here) ∙ (rw none at whole)
 
 -- ---- keys that are looked up
 

@@ -1,7 +1,5 @@
 -- How objects are read: what their members mean.
-use Rattle.std.proofs.Common.{◌≡◌, ℕ, List, [], ◌∷◌, ◌++◌, Option, Some, None, refl, subst, arith, sym, ap, ◌∙◌, inr, BTreeMap, String, Global, option_map, option_and_then, codes}
-use Rattle.avro_schema_json.proofs.Words.{get_by_text, Node, Data, Members, object, get_member, view, members_view, view-lookup, SchemaError, needed, text_in, alias_texts_in, RawField, Meaning, faulty, container_of, meaning_of, fields_under, fields_from, field_meaning, field_of, form_of, array_form, map_form, State, Reads, Refuses, IsRefusal, IsAttribute}
-use Rattle.serde_json.specs.declared.value.Value.{Value}
+use Rattle.avro_schema_json.proofs.Words.{◌≡◌, ℕ, List, [], ◌∷◌, ◌++◌, Option, Some, None, refl, subst, arith, sym, ap, ◌∙◌, inr, BTreeMap, String, Global, option_map, option_and_then, codes, get_by_text, Node, Data, Members, object, get_member, view, members_view, view-lookup, SchemaError, needed, text_in, alias_texts_in, RawField, Meaning, faulty, container_of, meaning_of, fields_under, fields_from, field_meaning, field_of, form_of, array_form, map_form, State, Reads, Refuses, IsRefusal, IsAttribute, Tree as Value}
 use Rattle.avro_schema_json.proofs.DeclarationLaws.{meaning_under-found, fields_under-found}
 use Rattle.avro_schema_json.proofs.TypesRead.{first-refused, second-refused}
 

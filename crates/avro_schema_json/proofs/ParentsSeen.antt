@@ -1,41 +1,15 @@
 -- Parents of places, as they are put.
-use Rattle.std.proofs.Common.{◌≡◌, ◌≢◌, ℕ, zero, suc, ◌+◌, ◌/◌, ◌%◌, ◌<◌, ◌≤◌, Bool, true, false, cond, ◌==◌, List, [], ◌∷◌, ◌++◌, length, set, get_or, Option, Some, None, refl, sym, ap, subst, ◌∙◌, arith, nat_lt, length-set}
+use Rattle.avro_schema_json.proofs.Words.{◌≡◌, ◌≢◌, ℕ, zero, suc, ◌+◌, ◌/◌, ◌%◌, ◌<◌, ◌≤◌, Bool, true, false, cond, ◌==◌, List, [], ◌∷◌, ◌++◌, length, set, get_or, Option, Some, None, refl, sym, ap, subst, ◌∙◌, arith, length-set, Vec, bit_at, bit_or, Decides-eqb, none-some, same_Some, slice_get_read, slice_get_within, length-map, Name, Node, FieldNode, ids_of, NodeId, place_of, own_ids, Label, has_few, few_or_none, few_under, few_at, few_of, label_of, HasParent, HasParts, IsField, AreFields, IsParent, KeepsUnder, KeepsParents, KeepsLabels, Few, Equal-is}
 use Rattle.std.specs.Prelude.{slice_get, Contains, bytes_eq}
-use Rattle.std.specs.Global.{Vec}
-use Rattle.std.specs.Int.{bit_at}
-use Rattle.std.specs.Int.RustNames.{bit_or}
 use Rattle.std.specs.Ordering.{nat_cmp, is_eq}
 use Rattle.std.specs.BTreeMap.{BTreeMap}
-use Rattle.std.proofs.lemmas.Bool.Decides.{Decides-eqb}
 use Rattle.std.proofs.lemmas.Map.Lookups.{exact_unsigned}
-use Rattle.std.proofs.lemmas.Nat.Bits.{bit_at_or, bit_at-lt}
-use Rattle.std.proofs.lemmas.Option.{none-some, same_Some, slice_get_read}
-use Rattle.std.proofs.lemmas.Slice.Eq.{bytes_eq-Decides}
 use denote.Ref.{Bor}
-use Rattle.avro_name.specs.Name.{Name}
-use Rattle.avro_schema.specs.Node.{Node, FieldNode}
-use Rattle.avro_schema.specs.Seen.{ids_of}
-use Rattle.avro_schema.specs.declared.schema.NodeId.{NodeId}
-use Rattle.avro_schema_json.specs.DeclaredSchema.{field_without_default}
-use Rattle.avro_schema_json.specs.inside.Covers.{place_of, own_ids}
-use Rattle.avro_schema_json.specs.inside.OwnDefaults.{fields_seen}
-use Rattle.avro_schema_json.specs.inside.Parents.{Label, has_few, few_or_none, few_under, few_at, few_of, label_of, number_of, HasParent, HasParts, IsField, AreFields, IsParent, KeepsUnder, KeepsParents, KeepsLabels}
-use Rattle.avro_schema_json.specs.inside.SeenRaw.{raw_field_of}
-use Rattle.avro_schema_json.specs.declared.defaults.parents.Few.{Few}
-use Rattle.avro_schema_json.specs.declared.raw.RawField.{RawField}
-use Rattle.avro_schema_json.proofs.KindsSeen.{equal}
-use Rattle.avro_schema_json.proofs.RepeatsSeen.{id_at}
+use Rattle.avro_schema_json.specs.inside.Parents.{number_of}
+use Rattle.avro_schema_json.proofs.RowsSeen.{more-left, more-right}
+use Rattle.avro_schema_json.proofs.EachSeen.{append-before, append-at, Before, before-all, put-each, exact-texts}
 
 -- ---- lists that change
-
-get-before : {A : Type 0} (xs : List A) (x : A) (k : ℕ) (y : A) → slice_get xs k ≡ Some y → slice_get (xs ++ x ∷ []) k ≡ Some y
-get-before [] x k y h = absurd (none-some y h)
-get-before (z ∷ xs) x zero y h = h
-get-before (z ∷ xs) x (suc k) y h = get-before xs x k y h
-
-get-last : {A : Type 0} (xs : List A) (x : A) → slice_get (xs ++ x ∷ []) (length xs) ≡ Some x
-get-last [] x = refl
-get-last (z ∷ xs) x = get-last xs x
 
 get-same : {A : Type 0} (xs : List A) (j : ℕ) (y : A) → j < length xs → slice_get (set xs j y) j ≡ Some y
 get-same [] j y below = absurd (omega (arith, below))
@@ -52,16 +26,12 @@ get-other (x ∷ xs) (suc j) (suc k) y other = get-other xs j k y (λ e. other (
 -- ---- some parents
 
 pub few-push : (few : List Few) (f : Few) (p : ℕ) → has_few few p → has_few (few ++ f ∷ []) p
-few-push few f p h = (h.0, h.1, get-before few f h.0 h.1 h.2, h.3, h.4)
+few-push few f p h = (h.0, h.1, append-before few (f ∷ []) h.0 (slice_get_within few h.0 h.1 h.2) ∙ h.2, h.3, h.4)
 
 pub few-last : (few : List Few) (f : Few) (p : ℕ) → p / 64 ≡ f.word → bit_at f.bits (p % 64) ≡ 1 → has_few (few ++ f ∷ []) p
-few-last few f p word bit = (length few, f, get-last few f, word, bit)
-
-more-left : (a b i : ℕ) → bit_at a i ≡ 1 → bit_at (bit_or a b) i ≡ 1
-more-left a b i h = let sum = bit_at_or a b i in let few = bit_at-lt b i in omega (arith, h, sum, few)
-
-more-right : (a b i : ℕ) → bit_at b i ≡ 1 → bit_at (bit_or a b) i ≡ 1
-more-right a b i h = let sum = bit_at_or a b i in let few = bit_at-lt a i in omega (arith, h, sum, few)
+few-last few f p word bit =
+    let last : length few + 0 ≡ length few = omega arith in
+    (length few, f, ap (slice_get (few ++ f ∷ [])) (sym last) ∙ append-at few (f ∷ []) (length few) 0 refl, word, bit)
 
 -- bits more of one word
 pub few-set : (few : List Few) (j bits : ℕ) (f g : Few) (p : ℕ) → slice_get few j ≡ Some f → g.word ≡ f.word → g.bits ≡ bit_or f.bits bits → j < length few
@@ -96,34 +66,26 @@ few-at few j f g below one two =
 
 pub label-kept : (old new : BTreeMap (Bor (List ℕ)) ℕ) (name : List ℕ) (label : ℕ) → label_of old name ≡ None
     → ((word : List ℕ) → label_of new word ≡ cond (bytes_eq name word) (Some label) (label_of old word)) → KeepsLabels old new
-label-kept old new name label fresh put word number at = by (bytes_eq name word) refl
-  where
-    by : (b : Bool) → bytes_eq name word ≡ b → label_of new word ≡ Some number
-    by true e =
-        let same : name ≡ word = (bytes_eq-Decides name word).0 e in
-        absurd (none-some number (sym fresh ∙ ap (label_of old) same ∙ at))
-    by false e = let same : label_of new word ≡ label_of old word = rw e at (put word) in same ∙ at
+label-kept old new name label fresh put =
+    put-each bytes_eq exact-texts (λ word o. (number : ℕ) → label_of old word ≡ Some number → o ≡ Some number) (label_of old) (label_of new) name label put
+    (λ word number at. at) (λ number at. absurd (none-some number (sym fresh ∙ at)))
 
 -- ---- what is kept by a key
 
-module _ {K : Type 0} (same : K → K → Bool) (exact : (a b : K) → same a b ≡ true → a ≡ b)
-    (old mid new : K → Option (Vec Few)) (key : K) (few : Vec Few) (removed : (q : K) → mid q ≡ cond (same key q) None (old q))
-    (put : (q : K) → new q ≡ cond (same key q) (Some few) (mid q)) where
-  pub kept-put : ((p : ℕ) → has_few (few_or_none (old key)) p → has_few few.items p) → (k : K) (p : ℕ) → has_few (few_or_none (old k)) p → has_few (few_or_none (new k)) p
-  kept-put within k p h = by (same key k) refl
-    where
-      by : (b : Bool) → same key k ≡ b → has_few (few_or_none (new k)) p
-      by true e =
-          let at : new k ≡ Some few = rw e at (put k) in
-          let here : has_few few.items p = within p (subst (λ q. has_few (few_or_none (old q)) p) (sym (exact key k e)) h) in
-          subst (λ (o : Option (Vec Few)). has_few (few_or_none o) p) (sym at) here
-      by false e =
-          let first : new k ≡ mid k = rw e at (put k) in
-          let second : mid k ≡ old k = rw e at (removed k) in
-          subst (λ (o : Option (Vec Few)). has_few (few_or_none o) p) (sym (first ∙ second)) h
+-- a key is taken out, and put in again
+pub kept-put : {K : Type 0} (same : K → K → Bool) → ((a b : K) → same a b ≡ true → a ≡ b) → (old mid new : K → Option (Vec Few)) (key : K) (few : Vec Few)
+    → ((q : K) → mid q ≡ cond (same key q) None (old q)) → ((q : K) → new q ≡ cond (same key q) (Some few) (mid q))
+    → ((p : ℕ) → has_few (few_or_none (old key)) p → has_few few.items p) → (k : K) (p : ℕ) → has_few (few_or_none (old k)) p → has_few (few_or_none (new k)) p
+kept-put same exact old mid new key few removed put =
+    put-each same exact (λ k o. (p : ℕ) → has_few (few_or_none (old k)) p → has_few (few_or_none o) p) old new key few
+    (λ q. put q ∙ ap (cond (same key q) (Some few)) (removed q) ∙ twice (same key q) (old q)) (λ k p h. h)
+  where
+    twice : (b : Bool) (o : Option (Vec Few)) → cond b (Some few) (cond b None o) ≡ cond b (Some few) o
+    twice true o = refl
+    twice false o = refl
 
 pub same_key : (a b : ℕ) → is_eq (nat_cmp a b) ≡ true → a ≡ b
-same_key a b h = exact_unsigned a b (equal (nat_cmp a b) h)
+same_key a b h = exact_unsigned a b ((Equal-is (nat_cmp a b)).0 h)
 
 -- ---- parents of all places
 
@@ -158,30 +120,12 @@ keeps-on a b c first second = (second.0 ∙ first.0, λ part number p h. second.
 
 -- ---- nodes
 
--- one more of some nodes
-pub parts-next : (last i number parent place : ℕ) (ids : List NodeId) (id : NodeId) (old new : List (BTreeMap ℕ (Vec Few))) → i < length ids
-    → place ≡ place_of last (get_or ids i id).0 → KeepsParents old new → has_few (few_of new place number) parent
-    → ((k y : ℕ) → k < i → slice_get (ids_of ids) k ≡ Some y → has_few (few_of old (place_of last y) number) parent)
-    → (k y : ℕ) → k < i + 1 → slice_get (ids_of ids) k ≡ Some y → has_few (few_of new (place_of last y) number) parent
-parts-next last i number parent place ids id old new below at kept here before k y within there = by (nat_lt k i) refl
-  where
-    by : (b : Bool) → nat_lt k i ≡ b → has_few (few_of new (place_of last y) number) parent
-    by true e = kept.1 (place_of last y) number parent (before k y (grind (arith, e)) there)
-    by false e =
-        let same : k ≡ i = grind (arith, e, within) in
-        let found : slice_get (ids_of ids) i ≡ Some y = subst (λ j. slice_get (ids_of ids) j ≡ Some y) same there in
-        let node : (get_or ids i id).0 ≡ y = same_Some (get_or ids i id).0 y (sym (id_at ids i id below) ∙ found) in
-        subst (λ q. has_few (few_of new q number) parent) (at ∙ ap (place_of last) node) here
-
-ids-count : (ids : List NodeId) → length (ids_of ids) ≡ length ids
-ids-count [] = refl
-ids-count (id ∷ ids) = ap suc (ids-count ids)
-
 pub parts-all : (last i number parent : ℕ) (ids : List NodeId) (parents : List (BTreeMap ℕ (Vec Few))) → length ids ≤ i
-    → ((k y : ℕ) → k < i → slice_get (ids_of ids) k ≡ Some y → has_few (few_of parents (place_of last y) number) parent)
-    → HasParts last (ids_of ids) parents number parent
+    → Before (ids_of ids) (λ k y. has_few (few_of parents (place_of last y) number) parent) i → HasParts last (ids_of ids) parents number parent
 parts-all last i number parent ids parents past each y among =
-    each among.0 y (omega (arith, past, ids-count ids, among.1)) (slice_get_read (ids_of ids) (length (ids_of ids)) among.0 y refl among.1 (sym among.2))
+    let count : length (ids_of ids) ≡ length ids = simp length-map in
+    before-all (ids_of ids) i (λ k z. has_few (few_of parents (place_of last z) number) parent) (omega (arith, past, count)) each among.0 y
+    (slice_get_read (ids_of ids) (length (ids_of ids)) among.0 y refl among.1 (sym among.2))
 
 -- ---- fields
 
@@ -189,28 +133,6 @@ pub field-kept : (nodes : List Node) (last : ℕ) (labels more : BTreeMap (Bor (
     → KeepsLabels labels more → KeepsParents old new → IsField nodes last labels old f p → IsField nodes last more new f p
 field-kept nodes last labels more old new f p names kept h =
     (h.0, names f.name h.0 h.1, λ y among. kept.1 (place_of last y) h.0 p (h.2 y among))
-
-pub fields-next : (nodes : List Node) (last i p : ℕ) (fs : List RawField) (field : RawField) (labels more : BTreeMap (Bor (List ℕ)) ℕ)
-    (old new : List (BTreeMap ℕ (Vec Few))) → i < length fs → field ≡ get_or fs i field → KeepsLabels labels more → KeepsParents old new
-    → IsField nodes last more new (field_without_default (raw_field_of field)) p
-    → ((k : ℕ) (f : FieldNode) → k < i → slice_get (fields_seen fs) k ≡ Some f → IsField nodes last labels old f p)
-    → (k : ℕ) (f : FieldNode) → k < i + 1 → slice_get (fields_seen fs) k ≡ Some f → IsField nodes last more new f p
-fields-next nodes last i p fs field labels more old new below at names kept here before k f within there = by (nat_lt k i) refl
-  where
-    seen : (fs : List RawField) (i : ℕ) (field : RawField) → i < length fs → slice_get (fields_seen fs) i ≡ Some (field_without_default (raw_field_of (get_or fs i field)))
-    seen [] i field below = absurd (omega (arith, below))
-    seen (x ∷ fs) zero field below = refl
-    seen (x ∷ fs) (suc i) field below = seen fs i field (omega (arith, below))
-
-    by : (b : Bool) → nat_lt k i ≡ b → IsField nodes last more new f p
-    by true e = field-kept nodes last labels more old new f p names kept (before k f (grind (arith, e)) there)
-    by false e =
-        let same : k ≡ i = grind (arith, e, within) in
-        let it : slice_get (fields_seen fs) i ≡ Some (field_without_default (raw_field_of field)) =
-        seen fs i field below ∙ ap (λ (x : RawField). Some (field_without_default (raw_field_of x))) (sym at) in
-        let found : slice_get (fields_seen fs) i ≡ Some f = subst (λ j. slice_get (fields_seen fs) j ≡ Some f) same there in
-        let node : field_without_default (raw_field_of field) ≡ f = same_Some (field_without_default (raw_field_of field)) f (sym it ∙ found) in
-        subst (λ (x : FieldNode). IsField nodes last more new x p) node here
 
 -- ---- a node as the parent of its parts
 

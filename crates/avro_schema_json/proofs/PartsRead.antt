@@ -1,6 +1,5 @@
 -- How the parts of a declaration are read.
-use Rattle.std.proofs.Common.{◌≡◌, ℕ, true, false, List, [], Option, Some, None, refl, arith, sym, inr, ◌⊎◌, IsErrOf, is_some, ok_or, Result, Ok, Contains, append-nil}
-use Rattle.avro_schema_json.proofs.Words.{Contains-append_right, Name, name_of, SchemaError, name_faults, Known, id_of, reference, State, made_at, IsRead, IsRefusal, limit_faults, beginning_faults}
+use Rattle.avro_schema_json.proofs.Words.{◌≡◌, ℕ, true, false, List, [], Option, Some, None, refl, arith, sym, inr, ◌⊎◌, IsErrOf, is_some, ok_or, Result, Ok, Contains, append-nil, Contains-append_right, Name, name_of, SchemaError, name_faults, Known, id_of, reference, State, made_at, IsRead, IsRefusal, limit_faults, beginning_faults}
 
 -- ---- references
 

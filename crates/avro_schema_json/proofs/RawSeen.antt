@@ -1,7 +1,5 @@
 -- How the program's nodes and fields are seen before their defaults are read.
-use Rattle.std.proofs.Common.{◌≡◌, ℕ, zero, suc, ◌<◌, ◌≤◌, List, [], ◌∷◌, length, Option, Some, None, option_map, get_or, map, refl, ap, ◌∙◌, sym, arith, slice_get, string_bytes}
-use Rattle.avro_schema_json.proofs.Words.{length-map, slice_get-map, slice_get_read, FieldNode, field_without_default, fields_seen, raw_field_of, raw_fields_of}
-use Rattle.avro_schema_json.specs.declared.raw.RawField.{RawField}
+use Rattle.avro_schema_json.proofs.Words.{◌≡◌, ℕ, ◌<◌, ◌≤◌, List, length, Option, Some, None, option_map, get_or, map, refl, ap, ◌∙◌, sym, slice_get, string_bytes, length-map, slice_get-map, slice_get_read, FieldNode, field_without_default, fields_seen, raw_field_of, raw_fields_of, KeptField as RawField}
 
 -- the name and the node of a field
 abbrev pub name_and_node : FieldNode → List ℕ × ℕ

@@ -1,6 +1,5 @@
 -- What a tree declares, stage by stage.
-use Rattle.std.proofs.Common.{◌≡◌, true, false, List, [], refl, ap, sym, ◌∙◌, Contains}
-use Rattle.avro_schema_json.proofs.Words.{Node, is_schema, Data, has_float, SchemaError, RawNode, made_of, unless, refusals_of_nodes, or_else, HasFault, completed_nodes, are_all_defaults_read, DeclaresSchema}
+use Rattle.avro_schema_json.proofs.Words.{◌≡◌, true, false, List, [], refl, ap, sym, ◌∙◌, Contains, Node, is_schema, Data, has_float, SchemaError, RawNode, made_of, unless, refusals_of_nodes, or_else, HasFault, completed_nodes, are_all_defaults_read, DeclaresSchema}
 
 -- the nodes of a tree without a fault are what it declares
 pub declared-found : (tree : Data) (raws : List RawNode) (nodes : List Node) → false ≡ has_float tree → (made_of tree).faults ≡ [] → raws ≡ (made_of tree).nodes

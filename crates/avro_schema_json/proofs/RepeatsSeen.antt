@@ -1,12 +1,12 @@
 -- A union in which a branch occurs twice, and a record that has two fields of one name, is a fault of the nodes with their defaults.
-use Rattle.std.proofs.Common.{◌≡◌, ℕ, zero, suc, ◌+◌, ◌<◌, ◌≤◌, Bool, true, false, not, ◌&&◌, ◌||◌, cond, List, [], ◌∷◌, ◌++◌, length, map, filter_map, Option, Some, None, get_or, ◌⊎◌, inl, inr, refl, sym, ap, subst, ◌∙◌, arith, nat_lt, slice_get, is_some, bytes_eq, flat_map, nat_cmp, BTreeSet, Bor, BTreeMap}
-use Rattle.avro_schema_json.proofs.Words.{list_all, list_any, cons_option, AllByRecursion, and_parts, or_parts, false≢true, not-true, false_from_ne_true, Decides-eqb, length-map, list_any-append, slice_get_within, bytes_eq-Decides, Name, same_name-self, are_distinct, invalid_union, duplicate_field, breaks, has_fields_rule, IsThere, Node, FieldNode, node_at, node_name, ids_of, field_names, is_edge, is_union, BranchKind, unnamed, named, branch_kind, same_kind, broken-there, RawField, RawNode, field_without_default, node_without_defaults, completed_field, completed_node, without_defaults, all_without_defaults, fields_seen, KeptField, KeptNode, kind_code, code_by, Repeats, SomeRepeats, RepeatsName, RecordRepeatsName, SomeRepeatsName, AreFieldsDistinct}
+use Rattle.avro_schema_json.proofs.Words.{◌≡◌, ℕ, zero, suc, ◌+◌, ◌<◌, ◌≤◌, Bool, true, false, not, ◌&&◌, cond, List, [], ◌∷◌, ◌++◌, length, map, drop, add-one, filter_map, Option, Some, None, get_or, ◌⊎◌, inl, inr, refl, sym, ap, subst, ◌∙◌, arith, nat_lt, slice_get, is_some, bytes_eq, flat_map, nat_cmp, BTreeSet, Bor, BTreeMap, list_all, list_any, cons_option, AllByRecursion, and_parts, or_parts, false≢true, not-true, false_from_ne_true, Decides-eqb, length-map, list_any-append, bytes_eq-Decides, Name, same_name-self, are_distinct, invalid_union, duplicate_field, breaks, has_fields_rule, IsThere, Node, FieldNode, node_at, node_name, ids_of, field_names, is_edge, is_union, BranchKind, unnamed, named, branch_kind, same_kind, broken-there, RawField, RawNode, field_without_default, node_without_defaults, completed_field, completed_node, without_defaults, all_without_defaults, KeptNode, kind_code, code_by, Repeats, SomeRepeats, RepeatsName, RecordRepeatsName, SomeRepeatsName, AreFieldsDistinct, or-true, label_of, NodeId}
 use Rattle.std.specs.BTreeSet.{contains}
-use Rattle.avro_schema_json.specs.inside.Parents.{label_of}
 use Rattle.avro_schema.specs.Node.{branches_of}
-use Rattle.avro_schema.specs.declared.schema.NodeId.{NodeId}
 use Rattle.avro_schema.specs.SeenKind.{kind_at, has_kind}
 use Rattle.std.specs.List.{IsDistinct}
+use Rattle.avro_schema_json.proofs.DefaultSteps.{drop_at}
+use Rattle.avro_schema_json.proofs.DefaultsSeen.{drop_past}
+use Rattle.avro_schema_json.proofs.EachSeen.{mapped-get, put-all, exact-texts}
 use Rattle.avro_schema_json.proofs.NodesSeen.{node_here, as_many}
 
 -- ---- one code, one kind
@@ -125,10 +125,8 @@ abbrev pub AreCodes : List Node → List NodeId → BTreeSet ℕ → ℕ → Typ
 AreCodes nodes ids codes i = (m : ℕ) → contains nat_cmp codes m ≡ true
     → (j : ℕ) × (y : ℕ) × (j < i) × (slice_get (ids_of ids) j ≡ Some y) × (code_by nodes y ≡ m)
 
-pub id_at : (ids : List NodeId) (i : ℕ) (id : NodeId) → i < length ids → slice_get (ids_of ids) i ≡ Some (get_or ids i id).0
-id_at [] i id below = absurd (omega (arith, below))
-id_at (x ∷ ids) zero id below = refl
-id_at (x ∷ ids) (suc i) id below = id_at ids i id (omega (arith, below))
+id_at : (ids : List NodeId) (i : ℕ) (id : NodeId) → i < length ids → slice_get (ids_of ids) i ≡ Some (get_or ids i id).0
+id_at = mapped-get (λ (id : NodeId). id.0)
 
 pub repeat-found : (nodes : List Node) (ids : List NodeId) (codes : BTreeSet ℕ) (i : ℕ) (id : NodeId) (code : ℕ) → i < length ids
     → code ≡ code_by nodes (get_or ids i id).0 → contains nat_cmp codes code ≡ true → AreCodes nodes ids codes i → Repeats nodes (ids_of ids)
@@ -149,17 +147,13 @@ pub some-repeats : (raws : List KeptNode) (i : ℕ) (raw : KeptNode) (ids : List
     → Some ids ≡ branches_of (without_defaults raw) → list_all (is_edge (all_without_defaults raws) i) ids ≡ true → Repeats (all_without_defaults raws) ids
     → SomeRepeats (all_without_defaults raws)
 some-repeats raws i raw ids below at are edges repeats =
-    let here : node_at (all_without_defaults raws) i ≡ without_defaults raw = node_here raws i raw below ∙ ap without_defaults (sym at) in
+    let here : node_at (all_without_defaults raws) i ≡ without_defaults raw = node_here raws i raw below at in
     (i, ids, omega (arith, as_many raws, below), ap branches_of here ∙ sym are, edges, repeats)
 
 -- ---- names of fields
 
 any_behind : {A : Type 0} (p : A → Bool) (xs ys : List A) → list_any p ys ≡ true → list_any p (xs ++ ys) ≡ true
-any_behind p xs ys h = rw (list_any-append p xs ys, h) (or_true-right (list_any p xs))
-  where
-    or_true-right : (b : Bool) → (b || true) ≡ true
-    or_true-right true = refl
-    or_true-right false = refl
+any_behind p xs ys h = rw (list_any-append p xs ys, h) (or-true (list_any p xs))
 
 distinct_behind : {A : Type 0} (equal : A → A → Bool) (xs ys : List A) → are_distinct equal ys ≡ false → are_distinct equal (xs ++ ys) ≡ false
 distinct_behind equal [] ys h = h
@@ -220,19 +214,9 @@ AreFieldNames fields names i =
 
 pub names-next : (fields : List FieldNode) (old new : BTreeMap (Bor (List ℕ)) ℕ) (i : ℕ) (f : FieldNode) (name : List ℕ) → slice_get fields i ≡ Some f → name ≡ f.name
     → ((word : List ℕ) → label_of new word ≡ cond (bytes_eq name word) (Some i) (label_of old word)) → AreFieldNames fields old i → AreFieldNames fields new (i + 1)
-names-next fields old new i f name at is put are = λ word j found. by_word word j found (bytes_eq name word) refl
-  where
-    by_word : (word : List ℕ) (j : ℕ) → label_of new word ≡ Some j → (b : Bool) → bytes_eq name word ≡ b
-        → (g : FieldNode) × (j < i + 1) × (slice_get fields j ≡ Some g) × (word ≡ g.name)
-    by_word word j found false h =
-        let before = rw h at (sym (put word) ∙ found) in
-        let was = are word j before in
-        (was.0, omega (arith, was.1), was.2, was.3)
-    by_word word j found true h =
-        let w : Some i ≡ Some j = rw h at (sym (put word) ∙ found) in
-        let same : i ≡ j = cc in
-        let text : name ≡ word = (bytes_eq-Decides name word).0 h in
-        (f, omega (arith, same), subst (λ (k : ℕ). slice_get fields k ≡ Some f) same at, sym text ∙ is)
+names-next fields old new i f name at is put are =
+    put-all bytes_eq exact-texts (λ word j. (g : FieldNode) × (j < i + 1) × (slice_get fields j ≡ Some g) × (word ≡ g.name)) (label_of old) (label_of new) name i put
+    (λ word j found. let was = are word j found in (was.0, omega (arith, was.1), was.2, was.3)) (f, omega arith, at, is)
 
 pub name-found : (fields : List FieldNode) (names : BTreeMap (Bor (List ℕ)) ℕ) (i : ℕ) (f : FieldNode) (word : List ℕ) → slice_get fields i ≡ Some f → word ≡ f.name
     → is_some (label_of names word) ≡ true → AreFieldNames fields names i → RepeatsName fields
@@ -242,73 +226,38 @@ name-found fields names i f word at is there are = by_found (label_of names word
     by_found None e t = absurd (false≢true t)
     by_found (Some j) e t = let was = are word j e in (i, j, f, was.0, was.1, at, was.2, sym is ∙ was.3)
 
--- each name before one is kept, and no two of them are the same
-abbrev pub AreApart : List FieldNode → BTreeMap (Bor (List ℕ)) ℕ → ℕ → Type 0
-AreApart fields names i =
-    ((j : ℕ) (f : FieldNode) → j < i → slice_get fields j ≡ Some f → is_some (label_of names f.name) ≡ true)
-    × ((j k : ℕ) (f g : FieldNode) → j < k → k < i → slice_get fields j ≡ Some f → slice_get fields k ≡ Some g → bytes_eq f.name g.name ≡ false)
+-- the fields that are left have different names, none of which was kept
+abbrev pub AreNew : BTreeMap (Bor (List ℕ)) ℕ → List FieldNode → Type 0
+AreNew names fields = AreFieldsDistinct fields × AllByRecursion (λ word. label_of names word ≡ None) (map (λ (f : FieldNode). f.name) fields)
 
-one_field : (fields : List FieldNode) (i j : ℕ) (f g : FieldNode) → slice_get fields i ≡ Some f → slice_get fields j ≡ Some g → j ≡ i → f ≡ g
-one_field fields i j f g at there same =
-    let here : slice_get fields i ≡ Some g = subst (λ (k : ℕ). slice_get fields k ≡ Some g) same there in
-    cc
-
-pub apart-next : (fields : List FieldNode) (old new : BTreeMap (Bor (List ℕ)) ℕ) (i : ℕ) (f : FieldNode) (name : List ℕ) → slice_get fields i ≡ Some f → name ≡ f.name
-    → is_some (label_of old name) ≡ false → ((word : List ℕ) → label_of new word ≡ cond (bytes_eq name word) (Some i) (label_of old word))
-    → AreApart fields old i → AreApart fields new (i + 1)
-apart-next fields old new i f name at is fresh put are = (kept, apart)
+apart : (old new : BTreeMap (Bor (List ℕ)) ℕ) (name : List ℕ) (i : ℕ) → ((word : List ℕ) → label_of new word ≡ cond (bytes_eq name word) (Some i) (label_of old word))
+    → (words : List (List ℕ)) → AllByRecursion (λ word. label_of new word ≡ None) words
+    → AllByRecursion (λ word. bytes_eq name word ≡ false) words × AllByRecursion (λ word. label_of old word ≡ None) words
+apart old new name i put [] fresh = (tt, tt)
+apart old new name i put (word ∷ words) fresh =
+    let first = by (bytes_eq name word) refl in
+    let rest = apart old new name i put words fresh.1 in
+    ((first.0, rest.0), (first.1, rest.1))
   where
-    before : (j : ℕ) (g : FieldNode) → j < i + 1 → slice_get fields j ≡ Some g → bytes_eq name g.name ≡ false → j < i
-    before j g below there other = earlier (nat_lt j i) refl
-      where
-        earlier : (b : Bool) → nat_lt j i ≡ b → j < i
-        earlier true h = grind (arith, h)
-        earlier false h =
-            let same : j ≡ i = grind (arith, h, below) in
-            let field : f ≡ g = one_field fields i j f g at there same in
-            absurd (false≢true (sym other ∙ (bytes_eq-Decides name g.name).1 (is ∙ ap (λ (k : FieldNode). k.name) field)))
+    by : (b : Bool) → bytes_eq name word ≡ b → (bytes_eq name word ≡ false) × (label_of old word ≡ None)
+    by false e = (e, rw e at (sym (put word) ∙ fresh.0))
+    by true e = let kept : Some i ≡ None = rw e at (sym (put word) ∙ fresh.0) in absurd cc
 
-    kept : (j : ℕ) (g : FieldNode) → j < i + 1 → slice_get fields j ≡ Some g → is_some (label_of new g.name) ≡ true
-    kept j g below there = by (bytes_eq name g.name) refl
-      where
-        by : (b : Bool) → bytes_eq name g.name ≡ b → is_some (label_of new g.name) ≡ true
-        by true h = ap is_some (rw h at (put g.name))
-        by false h = ap is_some (rw h at (put g.name)) ∙ are.0 j g (before j g below there h) there
-
-    apart : (j k : ℕ) (g h : FieldNode) → j < k → k < i + 1 → slice_get fields j ≡ Some g → slice_get fields k ≡ Some h → bytes_eq g.name h.name ≡ false
-    apart j k g h above below there here = by (nat_lt k i) refl
-      where
-        by : (b : Bool) → nat_lt k i ≡ b → bytes_eq g.name h.name ≡ false
-        by true e = are.1 j k g h above (grind (arith, e)) there here
-        by false e =
-            let same : k ≡ i = grind (arith, e, below) in
-            let field : f ≡ h = one_field fields i k f h at here same in
-            false_from_ne_true (bytes_eq g.name h.name) (λ equal.
-            let one : g.name ≡ h.name = (bytes_eq-Decides g.name h.name).0 equal in
-            let word : g.name ≡ name = one ∙ ap (λ (x : FieldNode). x.name) (sym field) ∙ sym is in
-            false≢true (sym fresh ∙ sym (ap (λ w. is_some (label_of old w)) word) ∙ are.0 j g (omega (arith, above, same)) there))
-
-pub all-apart : (fields : List FieldNode)
-    → ((j k : ℕ) (f g : FieldNode) → j < k → slice_get fields j ≡ Some f → slice_get fields k ≡ Some g → bytes_eq f.name g.name ≡ false) → AreFieldsDistinct fields
+pub new-next : (fields : List FieldNode) (old new : BTreeMap (Bor (List ℕ)) ℕ) (i : ℕ) (f : FieldNode) (name : List ℕ) → slice_get fields i ≡ Some f → name ≡ f.name
+    → label_of old name ≡ None → ((word : List ℕ) → label_of new word ≡ cond (bytes_eq name word) (Some i) (label_of old word))
+    → AreNew new (drop (i + 1) fields) → AreNew old (drop i fields)
 unfolding IsDistinct
-all-apart [] apart = tt
-all-apart (f ∷ fields) apart = (first fields (λ k g here. apart 0 (suc k) f g (omega arith) refl here), all-apart fields (λ j k g h below there here. apart (suc j) (suc k) g h (omega (arith, below)) there here))
-  where
-    first : (gs : List FieldNode) → ((k : ℕ) (g : FieldNode) → slice_get gs k ≡ Some g → bytes_eq f.name g.name ≡ false)
-        → AllByRecursion (λ (n : List ℕ). bytes_eq f.name n ≡ false) (map (λ (g : FieldNode). g.name) gs)
-    first [] other = tt
-    first (g ∷ gs) other = (other 0 g refl, first gs (λ k h at. other (suc k) h at))
+new-next fields old new i f name at is fresh put left =
+    let here : drop i fields ≡ f ∷ drop (i + 1) fields = rw add-one (drop_at fields i f at) in
+    let others = apart old new f.name i (subst (λ (n : List ℕ). (word : List ℕ) → label_of new word ≡ cond (bytes_eq n word) (Some i) (label_of old word)) is put) _ left.1 in
+    rw here ((others.0, left.0), (subst (λ (n : List ℕ). label_of old n ≡ None) is fresh, others.1))
+
+pub none-left : (fields : List FieldNode) (names : BTreeMap (Bor (List ℕ)) ℕ) (i : ℕ) → length fields ≤ i → AreNew names (drop i fields)
+unfolding IsDistinct
+none-left fields names i past = rw (drop_past fields i past) (tt, tt)
 
 pub some-names : (raws : List KeptNode) (i : ℕ) (raw : KeptNode) → i < length raws → raw ≡ get_or raws i raw → RecordRepeatsName (without_defaults raw)
     → SomeRepeatsName (all_without_defaults raws)
 some-names raws i raw below at repeats =
-    let here : node_at (all_without_defaults raws) i ≡ without_defaults raw = node_here raws i raw below ∙ ap without_defaults (sym at) in
+    let here : node_at (all_without_defaults raws) i ≡ without_defaults raw = node_here raws i raw below at in
     (i, omega (arith, as_many raws, below), subst RecordRepeatsName (sym here) repeats)
-
--- an index of a field is below the number of fields
-pub within_fields : (fs : List KeptField) (k : ℕ) (g : FieldNode) (i : ℕ) → length fs ≤ i → slice_get (fields_seen fs) k ≡ Some g → k < i
-within_fields fs k g i past at = omega (arith, past, count fs, slice_get_within (fields_seen fs) k g at)
-  where
-    count : (fs : List KeptField) → length (fields_seen fs) ≡ length fs
-    count [] = refl
-    count (f ∷ fs) = ap suc (count fs)

@@ -1,6 +1,5 @@
 -- The schemas that texts declare: computed.
-use Rattle.std.proofs.Common.{◌≡◌, refl, ℕ, List, [], ◌∷◌, Option, Some, None, codes, option_and_then, option_map, map}
-use Rattle.avro_schema_json.proofs.Words.{Node, simply, within, plain_field, aliased_field, read, declared, faults_of, SchemaError}
+use Rattle.avro_schema_json.proofs.Words.{◌≡◌, refl, ℕ, List, [], ◌∷◌, Option, Some, None, codes, option_and_then, option_map, map, Node, simply, within, plain_field, aliased_field, read, declared, faults_of, SchemaError}
 use Rattle.serde_json.proofs.OnLiterals.{serde_json_on_literals}
 
 -- the nodes of the schema that a text declares

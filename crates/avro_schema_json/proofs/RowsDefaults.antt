@@ -1,6 +1,5 @@
 -- Defaults of fields, by the texts that declare them: computed.
-use Rattle.std.proofs.Common.{◌≡◌, refl, pos, negsuc, true, [], ◌∷◌, Some, None, codes}
-use Rattle.avro_schema_json.proofs.Words.{Value, entry, no_entries, Node, simply, plain_field, default_field, one_value, two_values, SchemaError}
+use Rattle.avro_schema_json.proofs.Words.{◌≡◌, refl, pos, negsuc, true, [], ◌∷◌, Some, None, codes, Value, entry, no_entries, Node, simply, plain_field, default_field, one_value, two_values, SchemaError}
 use Rattle.std.specs.Str.{is_utf8, chars}
 use lib.Utf8.{encode}
 use Rattle.serde_json.proofs.OnLiterals.{serde_json_on_literals}

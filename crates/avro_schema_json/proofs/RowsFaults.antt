@@ -1,7 +1,6 @@
 -- Faults of texts that declare no schema: computed.
-use Rattle.std.proofs.Common.{◌≡◌, refl, [], ◌∷◌, Some, codes}
+use Rattle.avro_schema_json.proofs.Words.{◌≡◌, refl, [], ◌∷◌, Some, codes, SchemaError}
 use Rattle.serde_json.proofs.OnLiterals.{serde_json_on_literals}
-use Rattle.avro_schema_json.specs.declared.error.SchemaError.{SchemaError}
 use Rattle.avro_schema_json.proofs.RowsDeclared.{faults_by, AllHave}
 
 -- types that are not supported

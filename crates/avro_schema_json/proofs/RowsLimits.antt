@@ -1,6 +1,5 @@
 -- Limits of what is declared: computed.
-use Rattle.std.proofs.Common.{◌≡◌, refl, ℕ, zero, suc, List, [], ◌∷◌, ◌++◌, Some, None, codes, option_map, length}
-use Rattle.avro_schema_json.proofs.Words.{Data, read, SchemaError, meaning_of}
+use Rattle.avro_schema_json.proofs.Words.{◌≡◌, refl, ℕ, zero, suc, List, [], ◌∷◌, ◌++◌, Some, None, codes, option_map, length, Data, read, SchemaError, meaning_of}
 use Rattle.serde_json.proofs.OnLiterals.{serde_json_on_literals}
 use Rattle.avro_schema_json.proofs.RowsDeclared.{declared_by}
 

@@ -1,14 +1,8 @@
 -- Rows of bits, word by word.
-use Rattle.std.proofs.Common.{◌≡◌, ◌≢◌, ℕ, ◌/◌, ◌%◌, ◌^◌, ◌*◌, ◌<◌, Bool, true, false, ◌==◌, List, length, get_or, set, refl, ◌∙◌, arith}
+use Rattle.avro_schema_json.proofs.Words.{◌≡◌, ◌≢◌, ℕ, ◌/◌, ◌%◌, ◌^◌, ◌*◌, ◌<◌, Bool, true, false, ◌==◌, List, length, get_or, set, refl, ◌∙◌, arith, bit_at, bit_or, get_or-set_same, get_or-set_other, bit_at_or, bit_at_and, bit_at-lt, bit_at_set_same, bit_at-zero, Decides-eqb, has_place, IsWithin}
 use Rattle.std.specs.Prelude.{nat_lt}
-use Rattle.std.specs.Int.{bit_at}
-use Rattle.std.specs.Int.RustNames.{bit_or}
 use lib.Bits.{bit_and}
-use Rattle.std.proofs.lemmas.List.{get_or-set_same, get_or-set_other}
-use Rattle.std.proofs.lemmas.Nat.Bits.{bit_at_or, bit_at_and, bit_at-lt, bit_at_set_same, bit_at-zero}
 use mir.Syntax.{w64}
-use Rattle.std.proofs.lemmas.Bool.Decides.{Decides-eqb}
-use Rattle.avro_schema_json.specs.inside.Rows.{has_place, IsWithin}
 
 one : (a : ℕ) → (a == 1) ≡ true → a ≡ 1
 one a h = (Decides-eqb a 1).0 h
@@ -17,17 +11,17 @@ is_one : (a : ℕ) → a ≡ 1 → (a == 1) ≡ true
 is_one a h = (Decides-eqb a 1).1 h
 
 -- a bit that is in a word is in one with more bits
+pub more-left : (a b i : ℕ) → bit_at a i ≡ 1 → bit_at (bit_or a b) i ≡ 1
+more-left a b i h = let sum = bit_at_or a b i in let few = bit_at-lt b i in omega (arith, h, sum, few)
+
+pub more-right : (a b i : ℕ) → bit_at b i ≡ 1 → bit_at (bit_or a b) i ≡ 1
+more-right a b i h = let sum = bit_at_or a b i in let few = bit_at-lt a i in omega (arith, h, sum, few)
+
 or-left : (a b i : ℕ) → (bit_at a i == 1) ≡ true → (bit_at (bit_or a b) i == 1) ≡ true
-or-left a b i h =
-    let there = one (bit_at a i) h in
-    let below = bit_at-lt b i in
-    is_one (bit_at (bit_or a b) i) (bit_at_or a b i ∙ omega (arith, there, below))
+or-left a b i h = is_one (bit_at (bit_or a b) i) (more-left a b i (one (bit_at a i) h))
 
 or-right : (a b i : ℕ) → (bit_at b i == 1) ≡ true → (bit_at (bit_or a b) i == 1) ≡ true
-or-right a b i h =
-    let there = one (bit_at b i) h in
-    let below = bit_at-lt a i in
-    is_one (bit_at (bit_or a b) i) (bit_at_or a b i ∙ omega (arith, there, below))
+or-right a b i h = is_one (bit_at (bit_or a b) i) (more-right a b i (one (bit_at b i) h))
 
 and-both : (a b i : ℕ) → (bit_at a i == 1) ≡ true → (bit_at b i == 1) ≡ true → (bit_at (bit_and a b) i == 1) ≡ true
 and-both a b i h k =

@@ -1,6 +1,5 @@
 -- The indices of symbols, as they are gathered from the last.
-use Rattle.std.proofs.Common.{◌≡◌, ℕ, suc, ◌+◌, ◌<◌, Bool, true, false, cond, List, [], ◌∷◌, length, Option, Some, None, option_map, get_or, drop, drop-cons, refl, ap, sym, ◌∙◌, arith, String, string_bytes, bytes_eq, Global}
-use Rattle.avro_schema_json.proofs.Words.{texts_of, symbol_index, bytes_eq-sym}
+use Rattle.avro_schema_json.proofs.Words.{◌≡◌, ℕ, suc, ◌+◌, ◌<◌, Bool, true, false, cond, List, ◌∷◌, length, Option, Some, None, option_map, get_or, drop, drop-cons, refl, ap, sym, ◌∙◌, arith, String, string_bytes, bytes_eq, Global, texts_of, symbol_index, bytes_eq-sym}
 
 -- the first index of a word among the symbols from an index on
 abbrev pub index_from : List ℕ → List (String Global) → ℕ → Option ℕ

@@ -1,9 +1,7 @@
 -- How types are read: a node above its parts, and parts one after another.
-use Rattle.std.proofs.Common.{◌≡◌, ℕ, suc, ◌+◌, ◌<◌, ◌≤◌, true, List, [], ◌∷◌, ◌++◌, refl, subst, length, get_or, arith, sym, ap, ◌∙◌, inl, inr, length-append, drop, slice_set, nat_lt, append_assoc, append-nil}
-use Rattle.avro_schema_json.proofs.Words.{drop_more, Contains-append_left, Contains-append_right, Node, max_nodes, view, items_view, SchemaError, RawNode, RawField, Known, Made, Meaning, node_with, in_turn, meaning_of, branches_of, field_meaning, field_meanings, State, made_at, IsRead, Reads, IsRefusal, Refuses, IsAdded, limit_faults}
+use Rattle.avro_schema_json.proofs.Words.{◌≡◌, ℕ, suc, ◌+◌, ◌<◌, ◌≤◌, true, List, [], ◌∷◌, ◌++◌, refl, subst, length, get_or, arith, sym, ap, ◌∙◌, inl, inr, length-append, drop, slice_set, nat_lt, append_assoc, append-nil, drop_more, Contains-append_left, Contains-append_right, Node, max_nodes, view, items_view, SchemaError, RawNode, RawField, Known, Made, Meaning, node_with, in_turn, meaning_of, branches_of, field_meaning, field_meanings, State, made_at, IsRead, Reads, IsRefusal, Refuses, IsAdded, limit_faults, Tree as Value}
 use Rattle.std.proofs.Math.ListN.{drop_of_length-le}
 use Rattle.std.proofs.Math.Seq.{set-append_seam}
-use Rattle.serde_json.specs.declared.value.Value.{Value}
 
 -- ---- refusals of a part are refusals of the whole
 

@@ -1,71 +1,42 @@
 -- What the marks say, as the walk goes down.
-use Rattle.std.proofs.Common.{◌≡◌, ◌≢◌, ℕ, zero, suc, ◌+◌, ◌<◌, Bool, true, false, ◌==◌, cond, List, [], ◌∷◌, length, drop, Option, Some, None, get_or, refl, sym, ap, subst, ◌∙◌, arith, Ordering}
-use Rattle.std.specs.Prelude.{is_some, slice_get, String, string_bytes}
+use Rattle.avro_schema_json.proofs.Words.{◌≡◌, ℕ, zero, suc, ◌+◌, ◌<◌, false, cond, List, [], ◌∷◌, ◌++◌, length, length-append, drop, Option, Some, None, get_or, refl, sym, ap, subst, ◌∙◌, arith, Ordering, unwrap_or, AllByRecursion, string_cmp, slice_cmp, get_by, false≢true, none-some, same_Some, Node, node_at, ids_of, Value, NodeId, Data, Members, get_member, view, members_view, Tree, Entry, member_here, member_later, first_fit, place_of, Covers, pair_cmp, IsSetOf, marked, member_at, part_at, own_default, has_place, nodes_of, IsKnown, FitsNoneBefore, HasNoneBefore, first_of, AreFirsts, AreMemberMarks, Mark}
+use Rattle.std.specs.Prelude.{is_some, slice_get, bytes_eq, String, string_bytes}
 use Rattle.std.specs.declared.alloc.Global.{Global}
-use Rattle.std.specs.List.{AllByRecursion}
 use Rattle.std.specs.List.Sorted.{IsStrictlySortedBy}
 use Rattle.std.specs.Map.{keys_of}
-use Rattle.std.specs.String.{string_cmp}
-use Rattle.std.specs.Cmp.Lexicographic.{slice_cmp}
 use Rattle.std.specs.Ordering.{nat_cmp, is_eq}
 use Rattle.std.specs.BTreeMap.{BTreeMap}
-use Rattle.std.proofs.lemmas.Bool.{false≢true}
-use Rattle.std.proofs.lemmas.Bool.Decides.{Decides-eqb}
-use Rattle.std.proofs.lemmas.Option.{none-some}
-use Rattle.avro_schema.specs.Node.{Node, node_at, branches_of}
-use Rattle.avro_schema.specs.Seen.{ids_of}
-use Rattle.avro_schema.specs.Value.{Value}
-use Rattle.avro_schema.specs.declared.schema.NodeId.{NodeId}
-use Rattle.serde_json.specs.Data.{Data, Items, Members}
-use Rattle.serde_json.specs.Find.{get_item, get_member}
-use Rattle.serde_json.specs.View.{view, members_view}
-use Rattle.serde_json.specs.declared.value.Value.{Value as Tree}
-use Rattle.serde_json.proofs.Views.{Entry, member_here, member_later}
-use Rattle.avro_schema_json.specs.DeclaredDefaults.{first_fit}
-use Rattle.avro_schema_json.specs.inside.Covers.{place_of, Covers}
-use Rattle.avro_schema_json.specs.inside.Kinds.{pair_cmp}
-use Rattle.avro_schema_json.specs.inside.Marks.{IsSetOf, plain, whole, mark_of}
-use Rattle.avro_schema_json.specs.inside.OwnDefaults.{own_default}
-use Rattle.avro_schema_json.specs.inside.Rows.{has_place}
+use denote.Ref.{Bor}
+use Rattle.avro_schema.specs.Node.{branches_of}
 use Rattle.avro_schema_json.specs.inside.Sets.{row_at}
-use Rattle.avro_schema_json.specs.inside.Walk.{nodes_of, IsKnown, FitsNoneBefore, HasNoneBefore, first_of, AreFirsts, parts_at, parts_found}
-use Rattle.avro_schema_json.specs.declared.defaults.parts.Mark.{Mark}
-use Rattle.avro_schema_json.specs.declared.defaults.parts.Parts.{Parts}
 use Rattle.avro_schema_json.specs.declared.defaults.walk.Walk.{Walk}
 use Rattle.avro_schema_json.proofs.DefaultsSeen.{branch_next}
+use Rattle.avro_schema_json.proofs.EachSeen.{mapped-get, before-next, put-each, put-all, exact-texts}
 use Rattle.avro_schema_json.proofs.KindsSeen.{same_pair}
 use Rattle.avro_schema_json.proofs.MarksSeen.{marked-set}
 
 -- ---- parts
 
-one : {A : Type 0} (x y : A) → Some x ≡ Some y → x ≡ y
-one x y e = cc
-
-pub known-item : (walk : Walk) (ds : Items) (j : ℕ) (e : Data) (mark : Option Mark) (g : Parts) → IsKnown walk (Data.array ds) mark → get_item j ds ≡ Some e
-    → Some g ≡ parts_found walk.marks.now mark → IsKnown walk e (slice_get g.items.items j)
-known-item walk ds j e None g known at found = absurd (none-some g (sym found))
-known-item walk ds j e (Some m) g (plain set none) at found = absurd (none-some g (ap (parts_at walk.marks.now) (sym none) ∙ sym found))
-known-item walk ds j e (Some m) g (whole i h set is there items members) at found = by (slice_get g.items.items j) refl
+pub known-part : (walk : Walk) (d e : Data) (m : Mark) (j : ℕ) → IsKnown walk d (Some m) → j < m.count → part_at j d ≡ Some e
+    → IsKnown walk e (slice_get walk.marks.now.all.items (m.parts + j))
+known-part walk d e m j (marked set ends parts) below here = by (slice_get walk.marks.now.all.items (m.parts + j)) refl
   where
-    same : h ≡ g
-    same = one h g (sym there ∙ ap (parts_at walk.marks.now) (sym is) ∙ sym found)
+    by : (o : Option Mark) → slice_get walk.marks.now.all.items (m.parts + j) ≡ o → IsKnown walk e o
+    by None at = tt
+    by (Some p) at = parts j e p below here at
 
-    by : (o : Option Mark) → slice_get g.items.items j ≡ o → IsKnown walk e o
-    by None here = tt
-    by (Some p) here = items j e p at (subst (λ (k : Parts). slice_get k.items.items j ≡ Some p) (sym same) here)
+pub known-same : (walk : Walk) (d e : Data) (o : Option Mark) → Some d ≡ Some e → IsKnown walk d o → IsKnown walk e o
+known-same walk d e o is known =
+    let same : d ≡ e = same_Some d e is in
+    subst (λ (x : Data). IsKnown walk x o) same known
 
-pub known-member : (walk : Walk) (ms : Members) (key : List ℕ) (e : Data) (mark : Option Mark) (g : Parts) → IsKnown walk (Data.object ms) mark
-    → get_member key ms ≡ Some e → Some g ≡ parts_found walk.marks.now mark → IsKnown walk e (mark_of g.members key)
-known-member walk ms key e None g known at found = absurd (none-some g (sym found))
-known-member walk ms key e (Some m) g (plain set none) at found = absurd (none-some g (ap (parts_at walk.marks.now) (sym none) ∙ sym found))
-known-member walk ms key e (Some m) g (whole i h set is there items members) at found = by (mark_of g.members key) refl
-  where
-    same : h ≡ g
-    same = one h g (sym there ∙ ap (parts_at walk.marks.now) (sym is) ∙ sym found)
-
-    by : (o : Option Mark) → mark_of g.members key ≡ o → IsKnown walk e o
-    by None here = tt
-    by (Some p) here = members key e p at (subst (λ (k : Parts). mark_of k.members key ≡ Some p) (sym same) here)
+-- the mark of one more member
+pub member-known : (walk : Walk) (ms : Members) (old new : BTreeMap (Bor (List ℕ)) (Option Mark)) (key : List ℕ) (o : Option Mark) → AreMemberMarks walk ms old
+    → ((other : List ℕ) → get_by (λ k. slice_cmp nat_cmp other k.now) new ≡ cond (bytes_eq key other) (Some o) (get_by (λ k. slice_cmp nat_cmp other k.now) old))
+    → ((f : Data) → get_member key ms ≡ Some f → IsKnown walk f o) → AreMemberMarks walk ms new
+member-known walk ms old new key o good put this =
+    put-each bytes_eq exact-texts (λ other found. (f : Data) → get_member other ms ≡ Some f → IsKnown walk f (unwrap_or found None))
+    (λ other. get_by (λ k. slice_cmp nat_cmp other k.now) old) (λ other. get_by (λ k. slice_cmp nat_cmp other k.now) new) key o put good this
 
 -- ---- branches
 
@@ -82,15 +53,15 @@ known-set : (walk : Walk) (d : Data) (mark : Option Mark) (m : Mark) → mark �
     → IsSetOf (nodes_of walk) walk.last walk.marks.now.memo.sets d m.set
 known-set walk d None m is known = absurd (none-some m is)
 known-set walk d (Some n) m is known =
-    let same : n ≡ m = one n m is in
+    let same : n ≡ m = same_Some n m is in
     subst (λ (k : Mark). IsSetOf (nodes_of walk) walk.last walk.marks.now.memo.sets d k.set) same (marked-set (nodes_of walk) walk.last walk.marks.now d n known)
 
-pub not-fit : (walk : Walk) (d : Data) (mark : Option Mark) (m : Mark) (row : List ℕ) (id : ℕ) → mark ≡ Some m
-    → ((words : List ℕ) → row_at walk.marks.now.memo.sets m.set ≡ Some words → row ≡ words) → has_place row (place_of walk.last id) ≡ false
-    → IsKnown walk d mark → own_default (nodes_of walk) d (node_at (nodes_of walk) id) ≡ None
-not-fit walk d mark m row id is read not known =
+pub not-fit : (walk : Walk) (d : Data) (mark : Option Mark) (m : Mark) (row : List ℕ) (id : ℕ) → mark ≡ Some m → row_at walk.marks.now.memo.sets m.set ≡ Some row
+    → has_place row (place_of walk.last id) ≡ false → IsKnown walk d mark → own_default (nodes_of walk) d (node_at (nodes_of walk) id) ≡ None
+not-fit walk d mark m row id is found not known =
     let set = known-set walk d mark m is known in
-    unfit (nodes_of walk) walk.last d set.0 id set.2 (subst (λ (r : List ℕ). has_place r (place_of walk.last id) ≡ false) (read set.0 set.1) not)
+    let same : row ≡ set.0 = same_Some row set.0 (sym found ∙ set.1) in
+    unfit (nodes_of walk) walk.last d set.0 id set.2 (subst (λ (r : List ℕ). has_place r (place_of walk.last id) ≡ false) same not)
 
 pub none-before : (walk : Walk) (d : Data) (mark : Option Mark) (m : Mark) (ids : List ℕ) (first : ℕ) → mark ≡ Some m
     → ((row : List ℕ) → row_at walk.marks.now.memo.sets m.set ≡ Some row → HasNoneBefore walk.last row ids first)
@@ -98,23 +69,17 @@ pub none-before : (walk : Walk) (d : Data) (mark : Option Mark) (m : Mark) (ids 
 none-before walk d mark m ids first is none known = λ j id below at.
     let set = known-set walk d mark m is known in unfit (nodes_of walk) walk.last d set.0 id set.2 (none set.0 set.1 j id below at)
 
-id-at : (ids : List NodeId) (i : ℕ) (x : NodeId) (id : ℕ) → slice_get (ids_of ids) i ≡ Some id → (get_or ids i x).0 ≡ id
-id-at [] i x id at = absurd (none-some id at)
-id-at (y ∷ ids) zero x id at = one y.0 id at
-id-at (y ∷ ids) (suc i) x id at = id-at ids i x id at
+pub none-in : (walk : Walk) (set : ℕ) (words ids : List ℕ) (first : ℕ) → row_at walk.marks.now.memo.sets set ≡ Some words → HasNoneBefore walk.last words ids first
+    → (row : List ℕ) → row_at walk.marks.now.memo.sets set ≡ Some row → HasNoneBefore walk.last row ids first
+none-in walk set words ids first found none row at =
+    let same : words ≡ row = same_Some words row (sym found ∙ at) in
+    subst (λ (r : List ℕ). HasNoneBefore walk.last r ids first) same none
 
-pub none-next : (last : ℕ) (row : List ℕ) (ids : List NodeId) (i : ℕ) (x : NodeId) → HasNoneBefore last row (ids_of ids) i
+pub none-next : (last : ℕ) (row : List ℕ) (ids : List NodeId) (i : ℕ) (x : NodeId) → i < length ids → HasNoneBefore last row (ids_of ids) i
     → has_place row (place_of last (get_or ids i x).0) ≡ false → HasNoneBefore last row (ids_of ids) (i + 1)
-none-next last row ids i x before not = λ j id below at. by j id below at (j == i) refl
-  where
-    by : (j id : ℕ) → j < i + 1 → slice_get (ids_of ids) j ≡ Some id → (b : Bool) → (j == i) ≡ b → has_place row (place_of last id) ≡ false
-    by j id below at true e =
-        let same : j ≡ i = (Decides-eqb j i).0 e in
-        let here : slice_get (ids_of ids) i ≡ Some id = subst (λ (k : ℕ). slice_get (ids_of ids) k ≡ Some id) same at in
-        subst (λ (k : ℕ). has_place row (place_of last k) ≡ false) (id-at ids i x id here) not
-    by j id below at false e =
-        let other : j ≢ i = λ same. grind (arith, e, same) in
-        before j id (omega (arith, below, other)) at
+none-next last row ids i x below before not =
+    before-next (ids_of ids) i (get_or ids i x).0 (λ j id. has_place row (place_of last id) ≡ false) (λ j id. has_place row (place_of last id) ≡ false)
+    (mapped-get (λ (id : NodeId). id.0) ids i x below) (λ j id none. none) not before
 
 -- ---- first branches as they were found
 
@@ -123,19 +88,11 @@ pub one-more : (walk : Walk) (old new : BTreeMap (ℕ × ℕ) ℕ) (u s k : ℕ)
     → ((row : List ℕ) → row_at walk.marks.now.memo.sets s ≡ Some row → HasNoneBefore walk.last row ids k)
     → ((q : ℕ × ℕ) → first_of new q.0 q.1 ≡ cond (is_eq (pair_cmp (u, s) q)) (Some k) (first_of old q.0 q.1))
     → AreFirsts walk new
-one-more walk old new u s k ids before has this put = λ v t n others row found other at. by v t n others row found other at (is_eq (pair_cmp (u, s) (v, t))) refl
-  where
-    by : (v t n : ℕ) (others row : List ℕ) → first_of new v t ≡ Some n → branches_of (node_at (nodes_of walk) v) ≡ Some others
-        → row_at walk.marks.now.memo.sets t ≡ Some row → (b : Bool) → is_eq (pair_cmp (u, s) (v, t)) ≡ b → HasNoneBefore walk.last row others n
-    by v t n others row found other at false e = before v t n others row (rw e at (sym (put (v, t)) ∙ found)) other at
-    by v t n others row found other at true e =
-        let pair : (u, s) ≡ (v, t) = same_pair (u, s) (v, t) e in
-        let now : Some k ≡ Some n = rw e at (sym (put (v, t)) ∙ found) in
-        let first : k ≡ n = one k n now in
-        let branches : ids ≡ others = one ids others (sym has ∙ ap (λ x. branches_of (node_at (nodes_of walk) x)) (ap (λ (q : ℕ × ℕ). q.0) pair) ∙ other) in
-        subst (λ (x : ℕ). HasNoneBefore walk.last row others x) first
-        (subst (λ (ys : List ℕ). HasNoneBefore walk.last row ys k) branches
-        (this row (ap (λ (q : ℕ × ℕ). row_at walk.marks.now.memo.sets q.1) pair ∙ at)))
+one-more walk old new u s k ids before has this put = λ v t n others row found other at.
+    put-all (λ a b. is_eq (pair_cmp a b)) same_pair (λ q first. (xs : List ℕ) → branches_of (node_at (nodes_of walk) q.0) ≡ Some xs
+    → (r : List ℕ) → row_at walk.marks.now.memo.sets q.1 ≡ Some r → HasNoneBefore walk.last r xs first) (λ q. first_of old q.0 q.1) (λ q. first_of new q.0 q.1) (u, s) k put
+    (λ q first was xs is r there. before q.0 q.1 first xs r was is there)
+    (λ xs is r there. subst (λ (ys : List ℕ). HasNoneBefore walk.last r ys k) (same_Some ids xs (sym has ∙ is)) (this r there)) (v, t) n found others other row at
 
 -- ---- branches in turn
 
@@ -173,10 +130,18 @@ begins_late nodes d ids start none =
 
 -- ---- members in the order of their keys
 
--- the members that are left are in order, and each is found among all
-abbrev pub AreLeft : List Entry → List Entry → Type 0
-AreLeft all left =
+-- the members that are left are in order, each is found among all, and their places are behind so many
+abbrev pub AreLeft : List Entry → List Entry → ℕ → Type 0
+AreLeft all left k =
     IsStrictlySortedBy string_cmp (keys_of left) × ((key : List ℕ) (d : Data) → get_member key (members_view left) ≡ Some d → get_member key (members_view all) ≡ Some d)
+    × ((j i : ℕ) (d : Data) → i ≡ k + j → member_at j (members_view left) ≡ Some d → member_at i (members_view all) ≡ Some d)
+
+pub all-left : (es : List Entry) → IsStrictlySortedBy string_cmp (keys_of es) → AreLeft es es 0
+all-left es order = (
+  order,
+  λ key d found. found,
+  λ j i d is found. let same : i ≡ j = omega (arith, is) in ap (λ n. member_at n (members_view es)) same ∙ found,
+)
 
 no_earlier : (name : List ℕ) (k : String Global) (es : List Entry) → name ≡ string_bytes k → AllByRecursion (λ y. string_cmp k y ≡ Ordering.Less) (keys_of es)
     → get_member name (members_view es) ≡ None
@@ -185,15 +150,26 @@ no_earlier name k (e ∷ es) same above =
     let less : slice_cmp nat_cmp name (string_bytes e.0) ≡ Ordering.Less = rw same above.0 in
     rw less (no_earlier name k es same above.1)
 
-pub left-first : (all left rest : List Entry) (key : String Global) (x : Tree) → left ≡ (key, x) ∷ rest → AreLeft all left
-    → get_member (string_bytes key) (members_view all) ≡ Some (view x)
-left-first all left rest key x step inv =
-    inv.1 (string_bytes key) (view x) (ap (λ (es : List Entry). get_member (string_bytes key) (members_view es)) step ∙ member_here (string_bytes key) (key, x) rest refl)
+pub left-first : (all left rest : List Entry) (k : ℕ) (key : String Global) (x : Tree) → left ≡ (key, x) ∷ rest → AreLeft all left k
+    → (get_member (string_bytes key) (members_view all) ≡ Some (view x)) × (member_at k (members_view all) ≡ Some (view x))
+left-first all left rest k key x step inv = (
+  inv.1 (string_bytes key) (view x) (ap (λ (es : List Entry). get_member (string_bytes key) (members_view es)) step ∙ member_here (string_bytes key) (key, x) rest refl),
+  inv.2 0 k (view x) (omega arith) (ap (λ (es : List Entry). member_at 0 (members_view es)) step),
+)
 
-left-tail : (all rest : List Entry) (e : Entry) → AreLeft all (e ∷ rest) → AreLeft all rest
+left-tail : (all rest : List Entry) (k : ℕ) (e : Entry) → AreLeft all (e ∷ rest) k → AreLeft all rest (k + 1)
 unfolding IsStrictlySortedBy
-left-tail all rest e inv =
-    (inv.0.1, λ key d found. inv.1 key d (member_later key e rest (λ same. none-some d (sym (no_earlier key e.0 rest same inv.0.0) ∙ found)) ∙ found))
+left-tail all rest k e inv = (
+  inv.0.1,
+  λ key d found. inv.1 key d (member_later key e rest (λ same. none-some d (sym (no_earlier key e.0 rest same inv.0.0) ∙ found)) ∙ found),
+  λ j i d is found. inv.2 (suc j) i d (omega (arith, is)) found,
+)
 
-pub left-next : (all left rest : List Entry) (e : Entry) → left ≡ e ∷ rest → AreLeft all left → AreLeft all rest
-left-next all left rest e step inv = left-tail all rest e (subst (λ (es : List Entry). AreLeft all es) step inv)
+pub left-next : (all left rest : List Entry) (k : ℕ) (e : Entry) → left ≡ e ∷ rest → AreLeft all left k → AreLeft all rest (k + 1)
+left-next all left rest k e step inv = left-tail all rest k e (subst (λ (es : List Entry). AreLeft all es k) step inv)
+
+pub left-pushed : {A : Type 0} (all left rest : List Entry) (e : Entry) (xs : List A) (x : A) → left ≡ e ∷ rest → AreLeft all left (length xs)
+    → AreLeft all rest (length (xs ++ x ∷ []))
+left-pushed all left rest e xs x step inv =
+    let more : length xs + 1 ≡ length (xs ++ x ∷ []) = omega (arith, length-append xs (x ∷ [])) in
+    subst (λ (k : ℕ). AreLeft all rest k) more (left-next all left rest (length xs) e step inv)

@@ -1,7 +1,7 @@
 //! Defaults of fields.
 
-ghost use Rattle.std.specs.Prelude.{◌≡◌, List, length, Some, option_map, IfOk, OnOk};
-ghost use Rattle.avro_schema.specs.Node.{Node as SeenNode, node_at, branches_of};
+ghost use Rattle.std.specs.Prelude.{◌≡◌, Some, option_map, IfOk, OnOk};
+ghost use Rattle.avro_schema.specs.Node.{node_at, branches_of};
 ghost use Rattle.avro_schema.specs.Seen.{value_of, values_of, entries_of, ids_of};
 ghost use Rattle.avro_schema.specs.Value.{Value as SeenValue};
 ghost use Rattle.avro_schema_json.specs.DeclaredDefaults.{default_of as default_by, each_default, entries_default as each_entry, default_under, fields_default as each_field, object_default as default_of_object, items_default as default_of_items, member_keys, first_fit};
@@ -32,7 +32,9 @@ use crate::defaults::plain_defaults::{
     boolean_default, null_default, number_default, text_default,
 };
 use crate::defaults::tables::Tables;
-use crate::defaults::walk::{Firsts, Walk, first_branch, is_ruled_out, item_mark, member_mark};
+use crate::defaults::walk::{
+    Firsts, Walk, first_branch, is_ruled_out, marks_of_members, member_mark, part_mark,
+};
 use crate::raw::{RawField, RawNode};
 use crate::raw_nodes::{branches_at, raw_at};
 use crate::texts::copy_of_text;
@@ -61,7 +63,8 @@ pub(crate) fn default_of(
         last: tables.last,
         marks: &marks,
     };
-    root_default(alloc, &walk, tree, id, Some(mark))
+    let mut firsts: Firsts = BTreeMap::new(alloc);
+    known_default(alloc, &walk, tree, id, Some(mark), &mut firsts)
 }
 
 /// The same where no tables are made.
@@ -79,22 +82,8 @@ pub(crate) fn unmarked_default(
         last: 0,
         marks: &marks,
     };
-    root_default(alloc, &walk, tree, id, None)
-}
-
-/// The same by a mark. No first branch was looked for yet.
-fn root_default(
-    alloc: Global,
-    walk: &Walk,
-    tree: &Value,
-    id: NodeId,
-    mark: Option<Mark>,
-) -> Result<Option<Datum>, Memory>
-    requires known { IsKnown walk.now (view tree.now) mark }
-    ensures { IfOk result (λ datum. option_map value_of datum ≡ default_by (nodes_of walk.now) (view tree.now) (node_at (nodes_of walk.now) id.0)) }
-{
     let mut firsts: Firsts = BTreeMap::new(alloc);
-    known_default(alloc, walk, tree, id, mark, &mut firsts)
+    known_default(alloc, &walk, tree, id, None, &mut firsts)
 }
 
 /// The default that JSON gives for the node of an id.
@@ -151,7 +140,7 @@ fn branch_default(
     Ok(None)
 }
 
-/// The default that JSON gives for the node of an id itself.
+/// The default that JSON gives for the node of an id itself. One that is missing counts as null.
 #[cycle(defaults)]
 fn default_at(
     alloc: Global,
@@ -168,17 +157,7 @@ fn default_at(
 {
     match raw_at(walk.raws, id) {
         Some(node) => own_default(alloc, walk, tree, node, mark, firsts),
-        None => Ok(missing_default(tree)),
-    }
-}
-
-/// The default that JSON gives for null, which a node that is missing counts as.
-fn missing_default(tree: &Value) -> Option<Datum>
-    ensures { (nodes : List SeenNode) → option_map value_of result ≡ own_default_by nodes (view tree.now) SeenNode.null }
-{
-    match tree {
-        Value::Null => Some(Datum::Null),
-        _ => None,
+        None => own_default(alloc, walk, tree, &RawNode::Null, mark, firsts),
     }
 }
 
@@ -259,9 +238,10 @@ fn item_defaults(
     ensures default { IfOk result (λ values. option_map (λ vs. values_of vs.items) values
         ≡ each_default (nodes_of walk.now) (items_view items.now.items) (node_at (nodes_of walk.now) id.0)) }
 {
-    let mut values: Vec<Datum> = Vec::new(alloc);
+    let mut values: Vec<Datum> = Vec::with_capacity(alloc, items.len())?;
     for item in items {
-        let part = item_mark(walk, items, item, values.len(), mark);
+        let index = values.len();
+        let part = part_mark(walk, item, mark, index);
         let Some(value) = known_default(alloc, walk, item, id, part, firsts)? else {
             return Ok(None);
         };
@@ -315,14 +295,14 @@ fn entry_defaults(
     ensures default { IfOk result (λ entries. option_map (λ es. entries_of es.items) entries
         ≡ each_entry (nodes_of walk.now) (members_view members.now.entries) (node_at (nodes_of walk.now) id.0)) }
 {
-    let mut entries: Vec<(String, Datum)> = Vec::new(alloc);
+    let mut entries: Vec<(String, Datum)> = Vec::with_capacity(alloc, members.len())?;
     for (key, tree) in members.iter() {
-        let name = key.as_str();
-        let part = member_mark(walk, members, tree, name, mark);
+        let index = entries.len();
+        let part = part_mark(walk, tree, mark, index);
         let Some(value) = known_default(alloc, walk, tree, id, part, firsts)? else {
             return Ok(None);
         };
-        entries.push((copy_of_text(alloc, name)?, value))?;
+        entries.push((copy_of_text(alloc, key.as_str())?, value))?;
     }
     Ok(Some(entries))
 }
@@ -369,13 +349,14 @@ fn field_defaults(
     ensures default { IfOk result (λ values. option_map (λ vs. values_of vs.items) values
         ≡ each_field (nodes_of walk.now) (λ key. default_under (nodes_of walk.now) key (members_view members.now.entries)) (fields_seen fields.now)) }
 {
-    let mut values: Vec<Datum> = Vec::new(alloc);
+    let marks = marks_of_members(alloc, walk, members, mark)?;
+    let mut values: Vec<Datum> = Vec::with_capacity(alloc, members.len())?;
     for field in fields {
         let name = field.name.as_str();
         let Some(tree) = members.get(name) else {
             return Ok(None);
         };
-        let part = member_mark(walk, members, tree, name, mark);
+        let part = member_mark(walk, members, tree, &marks, name);
         let Some(value) = known_default(alloc, walk, tree, field.node, part, firsts)? else {
             return Ok(None);
         };

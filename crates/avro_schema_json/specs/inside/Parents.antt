@@ -1,5 +1,5 @@
 -- Under which labels a node is a part of which nodes, its parents.
-use Rattle.std.specs.Prelude.{◌≡◌, ℕ, ◌/◌, ◌%◌, true, List, [], length, slice_get, Option, Some, None, Contains}
+use Rattle.std.specs.Prelude.{◌≡◌, ℕ, ◌/◌, ◌%◌, true, List, [], length, slice_get, Option, Some, None, unwrap_or, Contains}
 use Rattle.std.specs.Global.{Vec}
 use Rattle.std.specs.Int.{bit_at}
 use Rattle.std.specs.Ordering.{nat_cmp}
@@ -65,6 +65,10 @@ abbrev pub number_of : BTreeMap (Bor (List ℕ)) ℕ → Label → Option ℕ
 number_of labels Label.items = Some 0
 number_of labels Label.values = Some 1
 number_of labels (Label.named name) = label_of labels name
+
+-- that of the name of a field, or of the values of maps where there is none
+abbrev pub label_or_values : BTreeMap (Bor (List ℕ)) ℕ → List ℕ → ℕ
+label_or_values labels name = unwrap_or (label_of labels name) 1
 
 -- a place is a parent of another under a label
 abbrev pub HasParent : BTreeMap (Bor (List ℕ)) ℕ → List (BTreeMap ℕ (Vec Few)) → Label → ℕ → ℕ → Type 0

@@ -7,7 +7,3 @@ row_at sets n = option_map (λ b. b.value.words) (slice_get sets.rows.items n)
 
 abbrev pub KeepsRows : Sets → Sets → Type 0
 KeepsRows before after = (n : ℕ) (row : List ℕ) → row_at before n ≡ Some row → row_at after n ≡ Some row
-
--- the number is one of a set
-abbrev pub IsSet : Sets → ℕ → Type 0
-IsSet sets n = (row : List ℕ) × (row_at sets n ≡ Some row)

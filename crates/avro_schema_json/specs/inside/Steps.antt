@@ -1,5 +1,5 @@
 -- Which sets follow which, as they are found.
-use Rattle.std.specs.Prelude.{◌≡◌, ℕ, ◌<◌, true, List, Option, Some}
+use Rattle.std.specs.Prelude.{◌≡◌, ◌⊎◌, ℕ, ◌<◌, true, List, Option, Some}
 use Rattle.std.specs.Global.{Vec}
 use Rattle.std.specs.BTreeMap.{BTreeMap, get}
 use Rattle.avro_schema_json.specs.inside.Kinds.{pair_cmp}
@@ -10,10 +10,10 @@ use Rattle.avro_schema_json.specs.declared.defaults.parents.Few.{Few}
 use Rattle.avro_schema_json.specs.declared.defaults.sets.Sets.{Sets}
 use Rattle.avro_schema_json.specs.declared.defaults.steps.Memo.{Memo}
 
--- the parents under the number of a label of what a row has
+-- the parents under the number of a label of what a row has, and with them the maps that hold it
 abbrev pub Follows : List (BTreeMap ℕ (Vec Few)) → ℕ → List ℕ → List ℕ → Type 0
 Follows parents label row found =
-    (y p : ℕ) → y < 4096 → has_place row y ≡ true → has_few (few_of parents y label) p → has_place found p ≡ true
+    (y k p : ℕ) → y < 4096 → (k ≡ label) ⊎ (k ≡ 1) → has_place row y ≡ true → has_few (few_of parents y k) p → has_place found p ≡ true
 
 -- the set of a number has the parents of what is in another
 abbrev pub LeadsTo : List (BTreeMap ℕ (Vec Few)) → Sets → ℕ → ℕ → ℕ → Type 0

@@ -1,8 +1,12 @@
 -- What is known as the default of JSON is read from the root down, by sets.
-use Rattle.std.specs.Prelude.{◌≡◌, ℕ, ◌<◌, false, List, slice_get, Option, Some, None}
-use Rattle.std.specs.BTreeMap.{BTreeMap, get}
+use Rattle.std.specs.Prelude.{◌≡◌, ℕ, ◌<◌, false, List, slice_get, Option, Some, None, unwrap_or}
+use Rattle.std.specs.Ordering.{nat_cmp}
+use Rattle.std.specs.Cmp.Lexicographic.{slice_cmp}
+use Rattle.std.specs.BTreeMap.{BTreeMap, get, get_by}
+use denote.Ref.{Bor}
 use Rattle.avro_schema.specs.Node.{Node, node_at, branches_of}
-use Rattle.serde_json.specs.Data.{Data}
+use Rattle.serde_json.specs.Data.{Data, Members}
+use Rattle.serde_json.specs.Find.{get_member}
 use Rattle.avro_schema_json.specs.inside.Covers.{place_of}
 use Rattle.avro_schema_json.specs.inside.Kinds.{pair_cmp}
 use Rattle.avro_schema_json.specs.inside.Marks.{IsMarked}
@@ -10,27 +14,23 @@ use Rattle.avro_schema_json.specs.inside.OwnDefaults.{own_default, all_without_d
 use Rattle.avro_schema_json.specs.inside.Rows.{has_place}
 use Rattle.avro_schema_json.specs.inside.Sets.{row_at}
 use Rattle.avro_schema_json.specs.declared.defaults.parts.Mark.{Mark}
-use Rattle.avro_schema_json.specs.declared.defaults.parts.Marks.{Marks}
-use Rattle.avro_schema_json.specs.declared.defaults.parts.Parts.{Parts}
 use Rattle.avro_schema_json.specs.declared.defaults.walk.Walk.{Walk}
 
 -- the nodes of the schema
 abbrev pub nodes_of : Walk → List Node
 nodes_of walk = all_without_defaults walk.raws.now
 
--- the marks of the parts of JSON, by its mark
-abbrev pub parts_at : Marks → Option ℕ → Option Parts
-parts_at marks None = None
-parts_at marks (Some i) = slice_get marks.all.items i
-
-abbrev pub parts_found : Marks → Option Mark → Option Parts
-parts_found marks None = None
-parts_found marks (Some m) = parts_at marks m.parts
-
 -- a mark is that of JSON, or there is none
 abbrev pub IsKnown : Walk → Data → Option Mark → Type 0
 IsKnown walk d None = Unit
 IsKnown walk d (Some m) = IsMarked (nodes_of walk) walk.last walk.marks.now d m
+
+-- the marks of the members of an object, by their keys
+abbrev pub mark_of : BTreeMap (Bor (List ℕ)) (Option Mark) → List ℕ → Option Mark
+mark_of marks key = unwrap_or (get_by (λ k. slice_cmp nat_cmp key k.now) marks) None
+
+abbrev pub AreMemberMarks : Walk → Members → BTreeMap (Bor (List ℕ)) (Option Mark) → Type 0
+AreMemberMarks walk ms marks = (key : List ℕ) (e : Data) → get_member key ms ≡ Some e → IsKnown walk e (mark_of marks key)
 
 -- the JSON is not a default of a branch before an index
 abbrev pub FitsNoneBefore : List Node → Data → List ℕ → ℕ → Type 0

@@ -5,7 +5,7 @@ ghost use Rattle.avro_schema.specs.Seen.{ids_of, texts_of};
 ghost use Rattle.avro_schema_json.specs.DeclaredAttributes.{symbol_index};
 ghost use Rattle.avro_schema_json.specs.inside.Covers.{own_ids};
 ghost use Rattle.avro_schema_json.specs.inside.OwnDefaults.{all_without_defaults, fields_seen, without_defaults};
-ghost use Rattle.avro_schema_json.specs.inside.Parents.{AreFields, AreParents, HasParts, IsParent, KeepsLabels, KeepsParents, few_of, has_few, label_of as label_by};
+ghost use Rattle.avro_schema_json.specs.inside.Parents.{AreFields, AreParents, HasParts, IsParent, KeepsLabels, KeepsParents, few_of, has_few, label_of as label_by, label_or_values};
 ghost use Rattle.avro_schema_json.specs.inside.Symbols.{AreSymbols, HasSymbol, HasSymbols};
 
 use crate::defaults::parents::{ITEMS, Parents, VALUES, put_under};
@@ -19,11 +19,11 @@ use std::collections::BTreeMap;
 /// The labels of the names of fields and of symbols.
 pub(crate) type Labels<'a> = BTreeMap<&'a str, u32>;
 
-/// The label of a word, if there is one.
-pub(crate) fn label_of(labels: &Labels<'_>, name: &str) -> Option<u32>
-    ensures { result ≡ label_by labels.now name.now }
+/// The label of a word: that of the fields of this name, or of the values of maps where there is none.
+pub(crate) fn label_of(labels: &Labels<'_>, name: &str) -> u32
+    ensures { result ≡ label_or_values labels.now name.now }
 {
-    labels.get(name).copied()
+    labels.get(name).copied().unwrap_or(VALUES)
 }
 
 /// The label of a word, which is a new one if there is none.

@@ -7,6 +7,7 @@ ghost use Rattle.std.specs.Int.{bit_at};
 ghost use Rattle.std.specs.Ordering.{is_eq, nat_cmp};
 ghost use Rattle.avro_schema_json.specs.inside.Parents.{KeepsUnder, few_of, few_under, has_few};
 ghost use Rattle.avro_schema_json.specs.inside.Rows.{has_place, IsWithin};
+ghost use Rattle.avro_schema_json.specs.inside.Steps.{Follows};
 
 use crate::defaults::rows::{Row, empty_row, put_bits};
 use avro_schema::Memory;
@@ -108,15 +109,16 @@ fn put_word(found: &mut Row, parents: &[Parents], label: u32, word: usize, bits:
     }
 }
 
-/// The parents under a label of what is in a row.
+/// The parents under a label of what is in a row, and the maps that hold it: a member may be the value of a map as well.
 pub(crate) fn parents_of_row(parents: &[Parents], label: u32, row: &Row) -> Row
-    ensures { (y p : ℕ) → y < 4096 → has_place row.now.words y ≡ true → has_few (few_of parents.now y label) p → has_place result.words p ≡ true }
+    ensures { Follows parents.now label row.now.words result.words }
 {
     let mut found = empty_row();
     for word in 0..64 {
         let bits = row.words[word];
         if bits != 0 {
             put_word(&mut found, parents, label, word, bits);
+            put_word(&mut found, parents, VALUES, word, bits);
         }
     }
     found

@@ -2,39 +2,37 @@
 
 ghost use Rattle.avro_schema_json.specs.inside.Steps.{AreNoSteps};
 
-use crate::defaults::sets::no_sets;
+use crate::defaults::sets::Sets;
 use crate::defaults::steps::Memo;
 use std::alloc::Global;
 use std::collections::BTreeMap;
 
-/// The set of nodes that JSON is a default of itself, and where the marks of its parts are, if it has any.
+/// The set of nodes that JSON is a default of itself, where the marks of its parts begin, and how many they are.
 #[derive(Clone, Copy, Drop)]
 pub(crate) struct Mark {
     pub set: u32,
-    pub parts: Option<u32>,
+    pub parts: u32,
+    pub count: u32,
 }
 
-/// The marks of the items of an array, or of the members of an object.
+/// The sets that were found, and the marks of all parts: those of an array in the order of its items, those of an
+/// object in the order of its keys.
 #[derive(Drop)]
-pub(crate) struct Parts<'a> {
-    pub items: Vec<Mark>,
-    pub members: BTreeMap<&'a str, Mark>,
-}
-
-/// The sets that were found, and the marks of all parts.
-#[derive(Drop)]
-pub(crate) struct Marks<'a> {
+pub(crate) struct Marks {
     pub memo: Memo,
-    pub all: Vec<Parts<'a>>,
+    pub all: Vec<Mark>,
 }
 
 /// No marks.
-pub(crate) fn no_marks<'a>(alloc: Global) -> Marks<'a>
+pub(crate) fn no_marks(alloc: Global) -> Marks
     ensures { AreNoSteps result.memo }
 {
     Marks {
         memo: Memo {
-            sets: no_sets(alloc),
+            sets: Sets {
+                rows: Vec::new(alloc),
+                numbers: BTreeMap::new(alloc),
+            },
             steps: BTreeMap::new(alloc),
         },
         all: Vec::new(alloc),

@@ -1,10 +1,10 @@
 //! Sets of nodes, each kept once, by its number. They are looked up in order: a hash with a fixed seed could be made to
 //! collide by whoever writes a text.
 
-ghost use Rattle.std.specs.Prelude.{◌≡◌, ℕ, true, List, Some, IfOk, OnOk};
-ghost use Rattle.avro_schema_json.specs.inside.Sets.{row_at, IsSet, KeepsRows};
+ghost use Rattle.std.specs.Prelude.{◌≡◌, true, Some, option_map, IfOk, OnOk};
+ghost use Rattle.avro_schema_json.specs.inside.Sets.{row_at, KeepsRows};
 
-use crate::defaults::rows::{Row, empty_row};
+use crate::defaults::rows::Row;
 use avro_schema::Memory;
 use std::alloc::Global;
 use std::collections::BTreeMap;
@@ -12,30 +12,20 @@ use std::rc::Rc;
 
 #[derive(Drop)]
 pub(crate) struct Sets {
-    rows: Vec<Rc<Row>>,
-    numbers: BTreeMap<Rc<Row>, u32>,
-    nothing: Row,
-}
-
-/// No sets.
-pub(crate) fn no_sets(alloc: Global) -> Sets {
-    Sets {
-        rows: Vec::new(alloc),
-        numbers: BTreeMap::new(alloc),
-        nothing: empty_row(),
-    }
+    pub rows: Vec<Rc<Row>>,
+    pub numbers: BTreeMap<Rc<Row>, u32>,
 }
 
 /// The number of the set of a row. What is looked up is checked, so that nothing need be known of the numbers.
-pub(crate) fn number_of(alloc: Global, sets: &mut Sets, row: Row) -> Result<u32, Memory>
+pub(crate) fn number_of(alloc: Global, sets: &mut Sets, row: &Row) -> Result<u32, Memory>
     ensures kept { OnOk result (KeepsRows sets.old sets.new) }
-    ensures found { IfOk result (λ n. row_at sets.new n ≡ Some row.words) }
+    ensures found { IfOk result (λ n. row_at sets.new n ≡ Some row.now.words) }
 {
-    let kept = Rc::new(alloc, row)?;
+    let kept = Rc::new(alloc, *row)?;
     match sets.numbers.get(&kept) {
         Some(number) => {
             let number = *number;
-            if is_at(sets, number, &row) {
+            if is_at(sets, number, row) {
                 return Ok(number);
             }
         }
@@ -53,28 +43,18 @@ pub(crate) fn number_of(alloc: Global, sets: &mut Sets, row: Row) -> Result<u32,
 fn is_at(sets: &Sets, number: u32, row: &Row) -> bool
     ensures { result ≡ true → row_at sets.now number ≡ Some row.now.words }
 {
-    match sets.rows.get(number as usize) {
-        Some(there) => **there == *row,
+    match row_of(sets, number) {
+        Some(there) => *there == *row,
         None => false,
     }
 }
 
-/// The row of the set of a number.
-pub(crate) fn row_of(sets: &Sets, number: u32) -> &Row
-    ensures { (words : List ℕ) → row_at sets.now number ≡ Some words → result.now.words ≡ words }
+/// The row of the set of a number, if it is one of a set.
+pub(crate) fn row_of(sets: &Sets, number: u32) -> Option<&Row>
+    ensures { option_map (λ row. row.now.words) result ≡ row_at sets.now number }
 {
     match sets.rows.get(number as usize) {
-        Some(row) => row,
-        None => &sets.nothing,
-    }
-}
-
-/// Whether a number is one of a set.
-pub(crate) fn is_set(sets: &Sets, number: u32) -> bool
-    ensures { result ≡ true → IsSet sets.now number }
-{
-    match sets.rows.get(number as usize) {
-        Some(_) => true,
-        None => false,
+        Some(row) => Some(row),
+        None => None,
     }
 }

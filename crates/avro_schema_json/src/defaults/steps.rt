@@ -1,8 +1,8 @@
 //! Which sets follow which, found once.
 
-ghost use Rattle.std.specs.Prelude.{◌≡◌, IfOk, OnOk};
-ghost use Rattle.avro_schema_json.specs.inside.Sets.{IsSet, KeepsRows};
-ghost use Rattle.avro_schema_json.specs.inside.Steps.{AreSteps, LeadsTo, step_of};
+ghost use Rattle.std.specs.Prelude.{◌≡◌, IfOk, IfSome, OnOk};
+ghost use Rattle.avro_schema_json.specs.inside.Sets.{KeepsRows};
+ghost use Rattle.avro_schema_json.specs.inside.Steps.{AreSteps, LeadsTo};
 
 use crate::defaults::parents::{Parents, parents_of_row};
 use crate::defaults::sets::{Sets, number_of, row_of};
@@ -17,13 +17,6 @@ pub(crate) struct Memo {
     pub steps: BTreeMap<(u32, u32), u32>,
 }
 
-/// What was found before.
-fn step_found(steps: &BTreeMap<(u32, u32), u32>, label: u32, set: u32) -> Option<u32>
-    ensures { result ≡ step_of steps.now label set }
-{
-    steps.get(&(label, set)).copied()
-}
-
 /// The set of the parents under a label of what is in a set, found once.
 pub(crate) fn step(
     alloc: Global,
@@ -31,20 +24,21 @@ pub(crate) fn step(
     memo: &mut Memo,
     label: u32,
     set: u32,
-) -> Result<u32, Memory>
-    requires set { IsSet memo.old.sets set }
+) -> Result<Option<u32>, Memory>
     requires steps { AreSteps parents.now memo.old }
     ensures steps { OnOk result (AreSteps parents.now memo.new) }
     ensures kept { OnOk result (KeepsRows memo.old.sets memo.new.sets) }
-    ensures found { IfOk result (λ n. LeadsTo parents.now memo.new.sets label set n) }
+    ensures found { IfOk result (λ found. IfSome found (λ n. LeadsTo parents.now memo.new.sets label set n)) }
 {
-    match step_found(&memo.steps, label, set) {
-        Some(number) => Ok(number),
-        None => {
-            let row = parents_of_row(parents, label, row_of(&memo.sets, set));
-            let number = number_of(alloc, &mut memo.sets, row)?;
-            memo.steps.insert((label, set), number)?;
-            Ok(number)
-        }
+    match memo.steps.get(&(label, set)) {
+        Some(number) => return Ok(Some(*number)),
+        None => {}
     }
+    let Some(row) = row_of(&memo.sets, set) else {
+        return Ok(None);
+    };
+    let found = parents_of_row(parents, label, row);
+    let number = number_of(alloc, &mut memo.sets, &found)?;
+    memo.steps.insert((label, set), number)?;
+    Ok(Some(number))
 }

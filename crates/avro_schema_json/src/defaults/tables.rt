@@ -1,15 +1,13 @@
 //! Tables of all nodes, by which it is found which of them JSON is a default of.
 
-ghost use Rattle.std.specs.Prelude.{◌≡◌, ◌<◌, ◌≤◌, ℕ, length, true, IfOk};
+ghost use Rattle.std.specs.Prelude.{IfOk};
 ghost use Rattle.avro_schema_json.specs.inside.OwnDefaults.{all_without_defaults};
 ghost use Rattle.avro_schema_json.specs.inside.Repeats.{AreNamesDistinct};
-ghost use Rattle.avro_schema_json.specs.inside.Rows.{IsWithin, has_place};
-ghost use Rattle.avro_schema_json.specs.inside.Symbols.{HasSymbol};
 ghost use Rattle.avro_schema_json.specs.inside.Tables.{AreTables};
 
-use crate::defaults::edges::{Labels, label_of, parents_of};
+use crate::defaults::edges::{Labels, parents_of};
 use crate::defaults::kinds::{Kind, kinds_of};
-use crate::defaults::parents::{Parents, few_at, put_few};
+use crate::defaults::parents::Parents;
 use crate::defaults::rows::Row;
 use crate::raw::RawNode;
 use avro_schema::Memory;
@@ -22,7 +20,7 @@ const PLACES: usize = 4096;
 /// The nodes by their kinds, and the parents of each place.
 #[derive(Drop)]
 pub(crate) struct Tables<'a> {
-    /// The place that all nodes past it share.
+    /// The place that all nodes past it share, one past the nodes if there are not too many.
     pub last: u32,
     pub kinds: BTreeMap<Kind, Row>,
     pub labels: Labels<'a>,
@@ -30,20 +28,12 @@ pub(crate) struct Tables<'a> {
     pub parents: Vec<Parents>,
 }
 
-/// The place that all nodes past it share, one past the nodes if there are not too many.
-fn last_of(raws: &[RawNode]) -> u32
-    ensures below { result < 4096 }
-    ensures within { result ≤ length raws.now }
-{
-    raws.len().min(PLACES - 1) as u32
-}
-
 /// The tables of nodes whose fields have different names.
 pub(crate) fn tables_of<'a>(alloc: Global, raws: &'a [RawNode<'_>]) -> Result<Tables<'a>, Memory>
     requires distinct { AreNamesDistinct (all_without_defaults raws.now) }
     ensures { IfOk result (λ tables. AreTables (all_without_defaults raws.now) tables) }
 {
-    let last = last_of(raws);
+    let last = raws.len().min(PLACES - 1) as u32;
     let kinds = kinds_of(alloc, raws, last)?;
     let mut labels: Labels<'a> = BTreeMap::new(alloc);
     let parents = parents_of(alloc, raws, last, &mut labels)?;
@@ -53,18 +43,4 @@ pub(crate) fn tables_of<'a>(alloc: Global, raws: &'a [RawNode<'_>]) -> Result<Ta
         labels,
         parents,
     })
-}
-
-/// Adds the enums of a symbol to a row.
-pub(crate) fn add_symbol(row: &mut Row, tables: &Tables, symbol: &str)
-    ensures kept { IsWithin row.old.words row.new.words }
-    ensures added { (p : ℕ) → HasSymbol tables.now.labels tables.now.parents.items tables.now.last p symbol.now → has_place row.new.words p ≡ true }
-{
-    match label_of(&tables.labels, symbol) {
-        Some(label) => put_few(
-            row,
-            few_at(&tables.parents, tables.last as usize + 1, label),
-        ),
-        None => {}
-    }
 }

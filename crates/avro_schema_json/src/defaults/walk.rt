@@ -1,47 +1,35 @@
 //! What the walk from the root of a default down asks of the sets.
 
-ghost use Rattle.std.specs.Prelude.{◌≡◌, ℕ, true, List, Some, option_copied, None, IfOk, OnOk, IfSome, slice_get};
+ghost use Rattle.std.specs.Prelude.{◌≡◌, true, Some, None, IfOk, OnOk, slice_get};
 ghost use Rattle.avro_schema.specs.Node.{node_at, branches_of};
 ghost use Rattle.avro_schema.specs.Seen.{ids_of};
 ghost use Rattle.avro_schema_json.specs.inside.OwnDefaults.{own_default};
-ghost use Rattle.avro_schema_json.specs.inside.Sets.{row_at};
-ghost use Rattle.avro_schema_json.specs.inside.Walk.{AreFirsts, FitsNoneBefore, HasNoneBefore, IsKnown, first_of, nodes_of, parts_found};
+ghost use Rattle.avro_schema_json.specs.inside.Marks.{part_at};
+ghost use Rattle.avro_schema_json.specs.inside.Walk.{AreFirsts, AreMemberMarks, FitsNoneBefore, HasNoneBefore, IsKnown, nodes_of};
 ghost use Rattle.serde_json.specs.Data.{Data};
-ghost use Rattle.serde_json.specs.Find.{get_item, get_member};
-ghost use Rattle.serde_json.specs.View.{view, items_view, members_view};
+ghost use Rattle.serde_json.specs.Find.{get_member};
+ghost use Rattle.serde_json.specs.View.{view, members_view};
 
-use crate::defaults::parts::{Mark, Marks, Parts};
+use crate::defaults::parts::{Mark, Marks};
 use crate::defaults::rows::{Row, has, place_of};
 use crate::defaults::sets::row_of;
 use crate::raw::RawNode;
 use avro_schema::{Memory, NodeId};
 use serde_json::{Map, Value};
+use std::alloc::Global;
 use std::collections::BTreeMap;
 
 /// The nodes, and the marks of a default's parts.
 #[derive(Clone, Copy, Drop)]
-pub(crate) struct Walk<'r, 'n, 'm, 'a> {
+pub(crate) struct Walk<'r, 'n, 'm> {
     pub raws: &'r [RawNode<'n>],
     /// The place that all nodes past it share.
     pub last: u32,
-    pub marks: &'m Marks<'a>,
+    pub marks: &'m Marks,
 }
 
 /// The first branch of each union that may be in each set.
 pub(crate) type Firsts = BTreeMap<(u32, u32), usize>;
-
-/// The marks of the parts of JSON.
-fn parts_of<'w, 'a>(marks: &'w Marks<'a>, mark: Option<Mark>) -> Option<&'w Parts<'a>>
-    ensures { option_copied result ≡ parts_found marks.now mark }
-{
-    match mark {
-        Some(mark) => match mark.parts {
-            Some(parts) => marks.all.get(parts as usize),
-            None => None,
-        },
-        None => None,
-    }
-}
 
 /// The mark at an index.
 fn mark_at(marks: &[Mark], index: usize) -> Option<Mark>
@@ -50,51 +38,67 @@ fn mark_at(marks: &[Mark], index: usize) -> Option<Mark>
     marks.get(index).copied()
 }
 
-/// The mark of an item, which is that of an index.
-pub(crate) fn item_mark(
-    walk: &Walk,
-    items: &Vec<Value>,
-    item: &Value,
-    index: usize,
-    mark: Option<Mark>,
-) -> Option<Mark>
-    requires known { IsKnown walk.now (Data.array (items_view items.now.items)) mark }
-    requires item { get_item index (items_view items.now.items) ≡ Some (view item.now) }
-    ensures { IsKnown walk.now (view item.now) result }
+/// The mark of a part of JSON by its index: of an item, or of a member in the order of keys.
+pub(crate) fn part_mark(walk: &Walk, part: &Value, mark: Option<Mark>, index: usize) -> Option<Mark>
+    requires { (d : Data) × IsKnown walk.now d mark × (part_at index d ≡ Some (view part.now)) }
+    ensures { IsKnown walk.now (view part.now) result }
 {
-    match parts_of(walk.marks, mark) {
-        Some(parts) => mark_at(&parts.items, index),
-        None => None,
+    let Some(mark) = mark else {
+        return None;
+    };
+    if index >= mark.count as usize {
+        return None;
     }
+    mark_at(&walk.marks.all, mark.parts as usize + index)
 }
 
-/// The mark of a member, which is that of a key.
+/// The marks of the members of an object, by their keys.
+pub(crate) fn marks_of_members<'v>(
+    alloc: Global,
+    walk: &Walk,
+    members: &'v Map<String, Value>,
+    mark: Option<Mark>,
+) -> Result<BTreeMap<&'v str, Option<Mark>>, Memory>
+    requires known { IsKnown walk.now (Data.object (members_view members.now.entries)) mark }
+    ensures { IfOk result (AreMemberMarks walk.now (members_view members.now.entries)) }
+{
+    let mut marks: BTreeMap<&'v str, Option<Mark>> = BTreeMap::new(alloc);
+    let mut index: usize = 0;
+    for (key, member) in members.iter() {
+        let part = part_mark(walk, member, mark, index);
+        marks.insert(key.as_str(), part)?;
+        let Some(next) = index.checked_add(1) else {
+            return Err(Memory);
+        };
+        index = next;
+    }
+    Ok(marks)
+}
+
+/// The mark of a member, which is that of its key.
 pub(crate) fn member_mark(
     walk: &Walk,
     members: &Map<String, Value>,
     member: &Value,
+    marks: &BTreeMap<&str, Option<Mark>>,
     key: &str,
-    mark: Option<Mark>,
 ) -> Option<Mark>
-    requires known { IsKnown walk.now (Data.object (members_view members.now.entries)) mark }
+    requires marks { AreMemberMarks walk.now (members_view members.now.entries) marks.now }
     requires member { get_member key.now (members_view members.now.entries) ≡ Some (view member.now) }
     ensures { IsKnown walk.now (view member.now) result }
 {
-    match parts_of(walk.marks, mark) {
-        Some(parts) => parts.members.get(key).copied(),
-        None => None,
-    }
+    marks.get(key).copied().unwrap_or(None)
 }
 
 /// Whether JSON is no default of the node of an id, since its set has not the node.
 pub(crate) fn is_ruled_out(walk: &Walk, mark: Option<Mark>, id: NodeId) -> bool
     ensures { result ≡ true → (d : Data) → IsKnown walk.now d mark → own_default (nodes_of walk.now) d (node_at (nodes_of walk.now) id.0) ≡ None }
 {
-    match mark {
-        Some(mark) => !has(
-            row_of(&walk.marks.memo.sets, mark.set),
-            place_of(walk.last, id.0 as usize),
-        ),
+    let Some(mark) = mark else {
+        return false;
+    };
+    match row_of(&walk.marks.memo.sets, mark.set) {
+        Some(row) => !has(row, place_of(walk.last, id.0 as usize)),
         None => false,
     }
 }
@@ -111,37 +115,7 @@ fn first_in(last: u32, row: &Row, ids: &[NodeId]) -> usize
     ids.len()
 }
 
-/// What was found before.
-fn first_found(firsts: &Firsts, union: NodeId, set: u32) -> Option<usize>
-    ensures { result ≡ first_of firsts.now union.0 set }
-{
-    firsts.get(&(union.0, set)).copied()
-}
-
-/// The first branch of a union that may be in a set, found once.
-fn first_of_set(
-    walk: &Walk,
-    set: u32,
-    union: NodeId,
-    ids: &[NodeId],
-    firsts: &mut Firsts,
-) -> Result<usize, Memory>
-    requires branches { branches_of (node_at (nodes_of walk.now) union.0) ≡ Some (ids_of ids.now) }
-    requires firsts { AreFirsts walk.now firsts.old }
-    ensures firsts { OnOk result (AreFirsts walk.now firsts.new) }
-    ensures first { IfOk result (λ first. (row : List ℕ) → row_at walk.now.marks.now.memo.sets set ≡ Some row → HasNoneBefore walk.now.last row (ids_of ids.now) first) }
-{
-    match first_found(firsts, union, set) {
-        Some(first) => Ok(first),
-        None => {
-            let first = first_in(walk.last, row_of(&walk.marks.memo.sets, set), ids);
-            firsts.insert((union.0, set), first)?;
-            Ok(first)
-        }
-    }
-}
-
-/// The index of the first branch of a union that JSON may be a default of, by its mark.
+/// The index of the first branch of a union that JSON may be a default of, by its mark, found once for each set.
 pub(crate) fn first_branch(
     walk: &Walk,
     mark: Option<Mark>,
@@ -154,8 +128,17 @@ pub(crate) fn first_branch(
     ensures firsts { OnOk result (AreFirsts walk.now firsts.new) }
     ensures first { IfOk result (λ first. (d : Data) → IsKnown walk.now d mark → FitsNoneBefore (nodes_of walk.now) d (ids_of ids.now) first) }
 {
-    match mark {
-        Some(mark) => first_of_set(walk, mark.set, union, ids, firsts),
-        None => Ok(0),
+    let Some(mark) = mark else {
+        return Ok(0);
+    };
+    match firsts.get(&(union.0, mark.set)) {
+        Some(first) => return Ok(*first),
+        None => {}
     }
+    let Some(row) = row_of(&walk.marks.memo.sets, mark.set) else {
+        return Ok(0);
+    };
+    let first = first_in(walk.last, row, ids);
+    firsts.insert((union.0, mark.set), first)?;
+    Ok(first)
 }

@@ -1,5 +1,4 @@
-use Rattle.std.proofs.Common.{◌≡◌, ◌++◌}
-use Rattle.avro_schema_json.proofs.Words.{into_iter_items, seen_fields, data_seen, fields_with_defaults, raw_fields_of}
+use Rattle.avro_schema_json.proofs.Words.{◌≡◌, ◌++◌, into_iter_items, seen_fields, data_seen, fields_with_defaults, raw_fields_of}
 use Rattle.avro_schema_json.proofs.completed.complete_fields.Given as goal
 
 abbrev pub invariant-loop-field : goal.invariant-loop-field

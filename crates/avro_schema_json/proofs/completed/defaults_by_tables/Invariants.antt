@@ -1,5 +1,4 @@
-use Rattle.std.proofs.Common.{◌≡◌, ◌++◌, ◌&&◌, map, drop}
-use Rattle.avro_schema_json.proofs.Words.{list_all, are_defaults_read, are_all_defaults_read, all_without_defaults, lists_seen, defaults_of_node, raw_nodes_of}
+use Rattle.avro_schema_json.proofs.Words.{◌≡◌, ◌++◌, ◌&&◌, map, drop, list_all, are_defaults_read, are_all_defaults_read, all_without_defaults, lists_seen, defaults_of_node, raw_nodes_of}
 use Rattle.avro_schema_json.proofs.completed.defaults_by_tables.Given as goal
 
 abbrev pub invariant-loop-raw : goal.invariant-loop-raw

@@ -1,5 +1,4 @@
-use Rattle.std.proofs.Common.{◌≡◌, ◌++◌, ◌&&◌, map, drop}
-use Rattle.avro_schema_json.proofs.Words.{list_all, field_default, is_default_read, all_without_defaults, data_seen, raw_fields_of}
+use Rattle.avro_schema_json.proofs.Words.{◌≡◌, ◌++◌, ◌&&◌, map, drop, list_all, field_default, is_default_read, all_without_defaults, data_seen, raw_fields_of}
 use Rattle.avro_schema_json.proofs.completed.defaults_of_fields.Given as goal
 
 abbrev pub invariant-loop-field : goal.invariant-loop-field

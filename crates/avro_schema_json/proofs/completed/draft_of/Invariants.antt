@@ -1,5 +1,4 @@
-use Rattle.std.proofs.Common.{◌≡◌, ◌+◌, ◌++◌, length}
-use Rattle.avro_schema_json.proofs.Words.{into_iter_items, draft_nodes, lists_seen, nodes_with_defaults, raw_nodes_of}
+use Rattle.avro_schema_json.proofs.Words.{◌≡◌, ◌+◌, ◌++◌, length, into_iter_items, draft_nodes, lists_seen, nodes_with_defaults, raw_nodes_of}
 use Rattle.avro_schema_json.proofs.completed.draft_of.Given as goal
 
 abbrev pub invariant-loop-raw : goal.invariant-loop-raw

@@ -1,20 +1,11 @@
-use Rattle.std.proofs.Common.{◌≡◌, ℕ, List, [], ◌∷◌, length, length-append, option_map, sym, ap, ◌∙◌, arith, rules}
+use Rattle.avro_schema_json.proofs.Words.{◌≡◌, [], ◌∷◌, length, length-append, option_map, sym, ap, ◌∙◌, arith, rules, node_at, value_of, ids_of, Value, Data, view, items_view, members_view, view-lookup, each_default, entries_default, fields_seen, member_at, nodes_of}
 use Rattle.std.specs.Vec.{vec_len}
-use Rattle.avro_schema.specs.Node.{node_at}
-use Rattle.avro_schema.specs.Seen.{value_of, ids_of}
-use Rattle.avro_schema.specs.Value.{Value}
 use Rattle.avro_schema.proofs.public.DatumViews.{value_of-Map}
-use Rattle.serde_json.specs.Find.{get_member}
-use Rattle.serde_json.specs.View.{view, items_view, members_view}
-use Rattle.serde_json.proofs.Views.{view-lookup}
-use Rattle.avro_schema_json.specs.DeclaredDefaults.{each_default, entries_default}
-use Rattle.avro_schema_json.specs.inside.OwnDefaults.{fields_seen}
-use Rattle.avro_schema_json.specs.inside.Walk.{nodes_of}
 use Rattle.avro_schema_json.proofs.DefaultsSeen.{default-no_union, default-union, entries_end}
 use Rattle.avro_schema_json.proofs.DefaultSteps.{item_next, items_end, entry_next, fields_left, field_next, field_stop, field_missing, fields_end}
 use Rattle.avro_schema_json.proofs.MarksSeen.{item-at}
 use Rattle.avro_schema_json.proofs.RawSeen.{field_item, fields_past}
-use Rattle.avro_schema_json.proofs.WalkSeen.{branch-pass, begins_late, left-first, left-next}
+use Rattle.avro_schema_json.proofs.WalkSeen.{branch-pass, begins_late, left-first, left-pushed}
 use Rattle.avro_schema_json.proofs.defaults.+defaults.Goals as goal
 
 pub known_default-returns-in-Some-clause-default : goal.known_default-returns-in-Some-clause-default
@@ -45,12 +36,13 @@ branch_default-loop-i-preserved-then-is_ruled_out t c =
           c.loop-i.invariant.left;
     }
 
-pub item_defaults-item_mark-part-requires-clause-item : goal.item_defaults-item_mark-part-requires-clause-item
-item_defaults-item_mark-part-requires-clause-item t c =
+pub item_defaults-part_mark-part-requires : goal.item_defaults-part_mark-part-requires
+item_defaults-part_mark-part-requires t c =
     let l = c.loop-item in
     let counted : vec_len l.values ≡ length l.values.items = search rules in
-    item-at c.deref-item-items.result.now c.args.items.now.items l.item-index c.len.result c.item-item.result c.deref-item-items.ensures.value
-    (c.len.ensures ∙ counted ∙ l.invariant.count) c.loop-item-test.true c.item-item.is
+    let at = item-at c.deref-item-items.result.now c.args.items.now.items l.item-index c.len-index.result c.item-item.result c.deref-item-items.ensures.value
+    (c.len-index.ensures ∙ counted ∙ l.invariant.count) c.loop-item-test.true c.item-item.is in
+    (Data.array (items_view c.args.items.now.items), c.requires.known, at)
 
 pub item_defaults-loop-item-preserved : goal.item_defaults-loop-item-preserved
 item_defaults-loop-item-preserved t c =
@@ -76,11 +68,13 @@ item_defaults-returns-clause-default t c =
     items_end nodes n xs l.item-index (each_default nodes (items_view xs) n) l.values.items c.loop-item-test.false l.invariant.left
     ∙ ap (λ ys. each_default nodes (items_view ys) n) c.deref-item-items.ensures.value
 
-pub entry_defaults-member_mark-part-requires-clause-member : goal.entry_defaults-member_mark-part-requires-clause-member
-entry_defaults-member_mark-part-requires-clause-member t c =
+pub entry_defaults-part_mark-part-requires : goal.entry_defaults-part_mark-part-requires
+entry_defaults-part_mark-part-requires t c =
     let l = c.loop-key in
-    ap (λ (key : List ℕ). get_member key (members_view c.args.members.now.entries)) c.as_str-name.ensures.value
-    ∙ left-first c.args.members.now.entries l.key-iterator c.next.new.self c.in-Some.key.now c.in-Some.tree.now c.in-Some.ensures.steps l.invariant.order
+    let es = c.args.members.now.entries in
+    let counted : vec_len l.entries ≡ length l.entries.items = search rules in
+    let first = left-first es l.key-iterator c.next.new.self (length l.entries.items) c.in-Some.key.now c.in-Some.tree.now c.in-Some.ensures.steps l.invariant.order in
+    (Data.object (members_view es), c.requires.known, ap (λ k. member_at k (members_view es)) (c.len-index.ensures ∙ counted) ∙ first.1)
 
 pub entry_defaults-loop-key-preserved : goal.entry_defaults-loop-key-preserved
 entry_defaults-loop-key-preserved t c =
@@ -88,10 +82,10 @@ entry_defaults-loop-key-preserved t c =
     let nodes = nodes_of c.args.walk.now in
     let n = node_at nodes c.args.id.0 in
     let read = ap (option_map value_of) (sym c.in-Some-2.is) ∙ c.in_ok-value.ensures.default in
-    let copied = c.in_ok-copy_of_text.ensures ∙ c.as_str-name.ensures.value in
+    let copied = c.in_ok-copy_of_text.ensures ∙ c.as_str.ensures.value in
     rw c.in_ok-push.ensures.items (record {
       firsts = c.in_ok-value.ensures.firsts;
-      order = left-next c.args.members.now.entries l.key-iterator c.next.new.self (c.in-Some.key.now, c.in-Some.tree.now) c.in-Some.ensures.steps l.invariant.order;
+      order = left-pushed c.args.members.now.entries l.key-iterator c.next.new.self (c.in-Some.key.now, c.in-Some.tree.now) l.entries.items _ c.in-Some.ensures.steps l.invariant.order;
       left = entry_next nodes n l.key-iterator c.next.new.self c.in-Some.key.now c.in_ok-copy_of_text.field-0 c.in-Some.tree.now
           (entries_default nodes (members_view c.args.members.now.entries) n) l.entries.items c.in-Some-2.value c.in-Some.ensures.steps copied l.invariant.left read;
     })

@@ -1,11 +1,4 @@
-use Rattle.std.proofs.Common.{◌≡◌, ℕ, List, Option, drop, length, option_map}
-use Rattle.avro_schema.specs.Node.{Node, node_at}
-use Rattle.avro_schema.specs.Seen.{ids_of}
-use Rattle.avro_schema.specs.Value.{Value}
-use Rattle.avro_schema_json.specs.DeclaredDefaults.{first_fit, each_default, entries_default, fields_default, default_under}
-use Rattle.avro_schema_json.specs.inside.OwnDefaults.{fields_seen, own_default}
-use Rattle.avro_schema_json.specs.inside.Walk.{AreFirsts, nodes_of}
-use Rattle.serde_json.specs.View.{view, items_view, members_view}
+use Rattle.avro_schema_json.proofs.Words.{◌≡◌, ℕ, List, Option, drop, length, option_map, Node, node_at, ids_of, Value, first_fit, each_default, entries_default, fields_default, default_under, fields_seen, own_default, AreFirsts, nodes_of, view, items_view, members_view}
 use Rattle.avro_schema_json.proofs.DefaultsSeen.{after_values, after_entries}
 use Rattle.avro_schema_json.proofs.WalkSeen.{AreLeft}
 use Rattle.avro_schema_json.proofs.defaults.+defaults.Given as goal
@@ -26,7 +19,7 @@ invariant-entry_defaults-loop-key l =
     let node = node_at nodes l.id.0 in
     record {
       firsts : AreFirsts l.walk l.firsts;
-      order : AreLeft l.members.entries l.key-iterator;
+      order : AreLeft l.members.entries l.key-iterator (length l.entries.items);
       left : option_map (after_entries l.entries.items) (entries_default nodes (members_view l.key-iterator) node) ≡ entries_default nodes (members_view l.members.entries) node;
     }
 

@@ -1,5 +1,4 @@
-use Rattle.std.proofs.Common.{◌≡◌, drop}
-use Rattle.avro_schema_json.proofs.Words.{items_view, members_view, items_have_float, members_have_float}
+use Rattle.avro_schema_json.proofs.Words.{◌≡◌, drop, items_view, members_view, items_have_float, members_have_float}
 use Rattle.avro_schema_json.proofs.floats.+floats.Given as goal
 
 abbrev pub invariant-items_have_float-loop-item : goal.invariant-items_have_float-loop-item

@@ -1,5 +1,4 @@
-use Rattle.std.proofs.Common.{◌≡◌, drop}
-use Rattle.avro_schema_json.proofs.Words.{list_all, ids_of, is_edge, all_without_defaults}
+use Rattle.avro_schema_json.proofs.Words.{◌≡◌, drop, list_all, ids_of, is_edge, all_without_defaults}
 use Rattle.avro_schema_json.proofs.raw_nodes.are_edges.Given as goal
 
 abbrev pub invariant-loop-branch : goal.invariant-loop-branch

@@ -1,7 +1,4 @@
-use Rattle.std.proofs.Common.{◌≡◌, Option, Some, None, Bor, refl, ap, ◌∙◌, arith, option_map}
-use Rattle.std.specs.Prelude.{unwrap_or}
-use Rattle.avro_schema_json.specs.declared.raw.RawNode.{RawNode}
-use Rattle.avro_schema_json.specs.inside.OwnDefaults.{without_defaults, node_or_null}
+use Rattle.avro_schema_json.proofs.Words.{◌≡◌, Option, Some, None, Bor, refl, ap, ◌∙◌, arith, option_map, unwrap_or, KeptNode as RawNode, without_defaults, node_or_null}
 use Rattle.avro_schema_json.proofs.DefaultsSeen.{node_at-raws}
 use Rattle.avro_schema_json.proofs.raw_nodes.raw_at.Goals as goal
 

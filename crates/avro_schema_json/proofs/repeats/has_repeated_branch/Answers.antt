@@ -1,5 +1,4 @@
-use Rattle.std.proofs.Common.{sym, ◌∙◌}
-use Rattle.avro_schema.specs.Seen.{ids_of}
+use Rattle.avro_schema_json.proofs.Words.{sym, ◌∙◌, ids_of}
 use Rattle.avro_schema_json.proofs.RepeatsSeen.{some-repeats}
 use Rattle.avro_schema_json.proofs.repeats.has_repeated_branch.Goals as goal
 

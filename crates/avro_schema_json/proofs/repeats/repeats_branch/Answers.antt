@@ -1,5 +1,4 @@
-use Rattle.std.proofs.Common.{sym, ◌∙◌}
-use Rattle.avro_schema_json.specs.inside.OwnDefaults.{all_without_defaults}
+use Rattle.avro_schema_json.proofs.Words.{sym, ◌∙◌, all_without_defaults}
 use Rattle.avro_schema_json.proofs.RepeatsSeen.{repeat-found, repeat-next}
 use Rattle.avro_schema_json.proofs.repeats.repeats_branch.Goals as goal
 

@@ -1,10 +1,12 @@
-use Rattle.std.proofs.Common.{List, ℕ, refl, sym, ap, ◌∙◌, slice_get, string_bytes}
-use Rattle.avro_schema_json.proofs.Words.{btree_map_updates_str, fields_seen}
-use Rattle.avro_schema_json.specs.declared.raw.RawField.{RawField}
+use Rattle.avro_schema_json.proofs.Words.{◌≡◌, List, ℕ, false, Option, Some, None, refl, sym, ap, ◌∙◌, slice_get, string_bytes, is_some, label_of, btree_map_updates_str, fields_seen, KeptField as RawField}
 use Rattle.avro_schema_json.proofs.DefaultSteps.{field_at-found}
-use Rattle.avro_schema_json.proofs.RawSeen.{field_item}
-use Rattle.avro_schema_json.proofs.RepeatsSeen.{name-found, names-next, apart-next, all-apart, within_fields}
+use Rattle.avro_schema_json.proofs.RawSeen.{field_item, fields_past}
+use Rattle.avro_schema_json.proofs.RepeatsSeen.{name-found, names-next, new-next, none-left}
 use Rattle.avro_schema_json.proofs.repeats.repeats_name.Goals as goal
+
+none-there : (o : Option ℕ) → is_some o ≡ false → o ≡ None
+none-there None h = refl
+none-there (Some x) h = absurd cc
 
 pub returns-then-contains_key-clause-found : goal.returns-then-contains_key-clause-found
 returns-then-contains_key-clause-found c = λ holds.
@@ -26,10 +28,10 @@ loop-i-preserved c =
     let found = field_at-found fields l.i name f.node.0 (slice_get fields l.i) refl (field_item fs l.i f name c.loop-i-test.true c.index-fields-i.is (c.as_str-name.ensures.value ∙ ap (λ (g : RawField). string_bytes g.name) (sym c.index-fields-i.is))) in
     let put = λ (word : List ℕ). btree_map_updates_str name l.names c.insert.new.self _ c.in_ok-insert.ensures.updates word in (
       names-next fields l.names c.insert.new.self l.i found.0 name found.1.at (sym found.1.named) put l.invariant.0,
-      apart-next fields l.names c.insert.new.self l.i found.0 name found.1.at (sym found.1.named) (sym c.contains_key.ensures ∙ c.if-contains_key.false) put l.invariant.1,
+      λ left. l.invariant.1 (new-next fields l.names c.insert.new.self l.i found.0 name found.1.at (sym found.1.named)
+          (none-there (label_of l.names name) (sym c.contains_key.ensures ∙ c.if-contains_key.false)) put left),
     )
 
 pub returns-clause-distinct : goal.returns-clause-distinct
 returns-clause-distinct c = λ answer.
-    all-apart (fields_seen c.args.fields.now)
-    (λ j k f g above there here. c.loop-i.invariant.1.1 j k f g above (within_fields c.args.fields.now k g c.loop-i.i c.loop-i-test.false here) there here)
+    c.loop-i.invariant.1 (none-left (fields_seen c.args.fields.now) c.loop-i.names c.loop-i.i (fields_past c.args.fields.now c.loop-i.i c.loop-i-test.false))

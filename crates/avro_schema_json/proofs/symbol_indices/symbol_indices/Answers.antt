@@ -1,5 +1,4 @@
-use Rattle.std.proofs.Common.{rules, arith, ◌≡◌, ◌-◌, suc, ap, ◌∙◌, string_bytes}
-use Rattle.avro_schema_json.proofs.Words.{get_by_text, btree_map_updates_text}
+use Rattle.avro_schema_json.proofs.Words.{rules, arith, ◌≡◌, ◌-◌, suc, ap, ◌∙◌, string_bytes, get_by_text, btree_map_updates_text}
 use Rattle.avro_schema_json.proofs.SymbolsFound.{index_from, index_next}
 use Rattle.avro_schema_json.proofs.symbol_indices.symbol_indices.Goals as goal
 

@@ -1,5 +1,4 @@
-use Rattle.std.proofs.Common.{◌≡◌, ◌≤◌, ℕ, List, length}
-use Rattle.std.specs.BTreeMap.{get_by_text}
+use Rattle.avro_schema_json.proofs.Words.{◌≡◌, ◌≤◌, ℕ, List, length, get_by_text}
 use Rattle.avro_schema_json.proofs.SymbolsFound.{index_from}
 use Rattle.avro_schema_json.proofs.symbol_indices.symbol_indices.Given as goal
 

@@ -1,5 +1,4 @@
-use Rattle.std.proofs.Common.{◌≡◌, Some, arith}
-use Rattle.avro_schema_json.proofs.Words.{name_of, SchemaError}
+use Rattle.avro_schema_json.proofs.Words.{◌≡◌, Some, arith, name_of, SchemaError}
 use Rattle.std.proofs.lemmas.Grind.{common_steps}
 use Rattle.avro_schema_json.proofs.PartsRead.{ok-or_memory, some-from_ok_or}
 use Rattle.avro_schema_json.proofs.declarations.attributes.full_names.Goals as goal

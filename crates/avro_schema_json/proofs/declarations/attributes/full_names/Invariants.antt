@@ -1,5 +1,4 @@
-use Rattle.std.proofs.Common.{◌≡◌, ◌++◌, drop, filter_map, is_some}
-use Rattle.avro_schema_json.proofs.Words.{list_all, name_of, texts_of}
+use Rattle.avro_schema_json.proofs.Words.{◌≡◌, ◌++◌, drop, filter_map, is_some, list_all, name_of, texts_of}
 use Rattle.avro_schema_json.proofs.declarations.attributes.full_names.Given as goal
 
 abbrev pub invariant-loop-text : goal.invariant-loop-text

@@ -1,5 +1,4 @@
-use Rattle.std.proofs.Common.{option_map, ap, ◌∙◌}
-use Rattle.avro_schema_json.proofs.Words.{view, view_of_ref, view-lookup}
+use Rattle.avro_schema_json.proofs.Words.{option_map, ap, ◌∙◌, view, view_of_ref, view-lookup}
 use Rattle.avro_schema_json.proofs.declarations.attributes.member.Goals as goal
 
 pub returns : goal.returns

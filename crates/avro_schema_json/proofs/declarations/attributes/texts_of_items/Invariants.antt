@@ -1,5 +1,4 @@
-use Rattle.std.proofs.Common.{◌≡◌, ◌++◌, drop, option_map}
-use Rattle.avro_schema_json.proofs.Words.{texts_of, items_view, texts_in}
+use Rattle.avro_schema_json.proofs.Words.{◌≡◌, ◌++◌, drop, option_map, texts_of, items_view, texts_in}
 use Rattle.avro_schema_json.proofs.declarations.attributes.texts_of_items.Given as goal
 
 abbrev pub invariant-loop-item : goal.invariant-loop-item

@@ -1,9 +1,4 @@
-use Rattle.std.proofs.Common.{◌+◌, subst, ◌∙◌}
-use Rattle.std.proofs.lemmas.Bool.{false≢true}
-use Rattle.avro_schema_json.specs.inside.Covers.{place_of}
-use Rattle.avro_schema_json.specs.inside.OwnDefaults.{all_without_defaults, without_defaults}
-use Rattle.avro_schema_json.specs.inside.Parents.{Label, IsParent}
-use Rattle.avro_schema_json.specs.inside.Symbols.{HasSymbols}
+use Rattle.avro_schema_json.proofs.Words.{◌+◌, subst, ◌∙◌, false≢true, place_of, all_without_defaults, without_defaults, Label, IsParent, HasSymbols}
 use Rattle.avro_schema_json.proofs.NodesSeen.{next-node, all-nodes}
 use Rattle.avro_schema_json.proofs.ParentsSeen.{null-parent, parent-kept, has-kept}
 use Rattle.avro_schema_json.proofs.defaults.edges.parents_of.Goals as goal

@@ -1,8 +1,4 @@
-use Rattle.std.proofs.Common.{◌≡◌, ◌+◌, length}
-use Rattle.avro_schema_json.specs.inside.Covers.{place_of}
-use Rattle.avro_schema_json.specs.inside.OwnDefaults.{all_without_defaults}
-use Rattle.avro_schema_json.specs.inside.Parents.{IsParent}
-use Rattle.avro_schema_json.specs.inside.Symbols.{HasSymbols}
+use Rattle.avro_schema_json.proofs.Words.{◌≡◌, ◌+◌, length, place_of, all_without_defaults, IsParent, HasSymbols}
 use Rattle.avro_schema_json.proofs.NodesSeen.{BeforeNode}
 use Rattle.avro_schema_json.proofs.defaults.edges.parents_of.Given as goal
 

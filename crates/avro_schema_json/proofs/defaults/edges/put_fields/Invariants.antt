@@ -1,8 +1,5 @@
-use Rattle.std.proofs.Common.{◌≡◌, ℕ, ◌<◌, Some}
+use Rattle.avro_schema_json.proofs.Words.{◌≡◌, ℕ, ◌<◌, Some, FieldNode, all_without_defaults, fields_seen, IsField, KeepsLabels, KeepsParents}
 use Rattle.std.specs.Prelude.{slice_get}
-use Rattle.avro_schema.specs.Node.{FieldNode}
-use Rattle.avro_schema_json.specs.inside.OwnDefaults.{all_without_defaults, fields_seen}
-use Rattle.avro_schema_json.specs.inside.Parents.{IsField, KeepsLabels, KeepsParents}
 use Rattle.avro_schema_json.proofs.defaults.edges.put_fields.Given as goal
 
 abbrev pub invariant-loop-field : goal.invariant-loop-field

@@ -1,5 +1,4 @@
-use Rattle.std.proofs.Common.{sym}
-use Rattle.std.proofs.lemmas.Map.Text.{btree_map_updates_str}
+use Rattle.avro_schema_json.proofs.Words.{sym, btree_map_updates_str}
 use Rattle.avro_schema_json.proofs.ParentsSeen.{label-kept}
 use Rattle.avro_schema_json.proofs.defaults.edges.put_label.Goals as goal
 

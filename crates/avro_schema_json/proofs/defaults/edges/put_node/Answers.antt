@@ -1,9 +1,4 @@
-use Rattle.std.proofs.Common.{List, sym, subst}
-use Rattle.std.proofs.lemmas.Result.{on_ok_weaker}
-use Rattle.avro_schema_json.specs.inside.OwnDefaults.{all_without_defaults, without_defaults, fields_seen}
-use Rattle.avro_schema_json.specs.inside.Parents.{AreFields, IsParent}
-use Rattle.avro_schema_json.specs.declared.raw.RawField.{RawField}
-use Rattle.avro_schema_json.specs.declared.raw.RawNode.{RawNode}
+use Rattle.avro_schema_json.proofs.Words.{List, sym, subst, on_ok_weaker, all_without_defaults, without_defaults, fields_seen, AreFields, IsParent, KeptField as RawField, KeptNode as RawNode}
 use Rattle.avro_schema_json.proofs.ParentsSeen.{array-parent, map-parent, record-parent}
 use Rattle.avro_schema_json.proofs.defaults.edges.put_node.Goals as goal
 

@@ -1,5 +1,4 @@
-use Rattle.std.proofs.Common.{length, refl}
-use Rattle.std.proofs.lemmas.Option.{slice_get_read}
+use Rattle.avro_schema_json.proofs.Words.{length, refl, slice_get_read}
 use Rattle.avro_schema_json.proofs.ParentsSeen.{parents-put, parents-added}
 use Rattle.avro_schema_json.proofs.defaults.edges.put_parent.Goals as goal
 

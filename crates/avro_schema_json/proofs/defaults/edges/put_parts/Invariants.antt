@@ -1,8 +1,5 @@
-use Rattle.std.proofs.Common.{◌≡◌, ℕ, ◌<◌, Some}
+use Rattle.avro_schema_json.proofs.Words.{◌≡◌, ℕ, ◌<◌, Some, ids_of, place_of, KeepsParents, few_of, has_few}
 use Rattle.std.specs.Prelude.{slice_get}
-use Rattle.avro_schema.specs.Seen.{ids_of}
-use Rattle.avro_schema_json.specs.inside.Covers.{place_of}
-use Rattle.avro_schema_json.specs.inside.Parents.{KeepsParents, few_of, has_few}
 use Rattle.avro_schema_json.proofs.defaults.edges.put_parts.Given as goal
 
 abbrev pub invariant-loop-id : goal.invariant-loop-id

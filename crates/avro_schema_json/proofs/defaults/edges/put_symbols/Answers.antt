@@ -1,7 +1,4 @@
-use Rattle.std.proofs.Common.{◌+◌, ap, ◌∙◌}
-use Rattle.std.specs.Prelude.{string_bytes}
-use Rattle.avro_schema_json.specs.inside.Parents.{Label}
-use Rattle.avro_schema_json.specs.inside.Symbols.{HasSymbol}
+use Rattle.avro_schema_json.proofs.Words.{◌+◌, ap, sym, ◌∙◌, Label, label_of, HasSymbol}
 use Rattle.avro_schema_json.proofs.ParentsSeen.{keeps-on, names-on, has-kept}
 use Rattle.avro_schema_json.proofs.SymbolsSeen.{next-word, all-words}
 use Rattle.avro_schema_json.proofs.defaults.edges.put_symbols.Goals as goal
@@ -16,10 +13,10 @@ loop-word-preserved c =
     let kept = c.in_ok-put_parent.ensures.kept in (
       keeps-on c.args.parents.now.items l.parents.items new l.invariant.0 kept,
       names-on c.args.labels.now l.labels labels l.invariant.1 names,
-      next-word c.args.words.now l.word-index c.word-item.result c.as_str.result.now (HasSymbol l.labels l.parents.items last c.args.parent)
-          (HasSymbol labels new last c.args.parent) c.loop-word-test.true (c.as_str.ensures.value ∙ ap string_bytes c.word-item.is)
+      next-word c.args.words.now l.word-index c.word-item.result (HasSymbol l.labels l.parents.items last c.args.parent)
+          (HasSymbol labels new last c.args.parent) c.loop-word-test.true c.word-item.is
           (λ t has. has-kept l.labels labels l.parents.items new (Label.named t) (last + 1) c.args.parent names kept has)
-          (c.in_ok-label.label, c.in_ok-label.ensures.found, c.in_ok-put_parent.ensures.added) l.invariant.2,
+          (c.in_ok-label.label, ap (label_of labels) (sym c.as_str.ensures.value) ∙ c.in_ok-label.ensures.found, c.in_ok-put_parent.ensures.added) l.invariant.2,
     )
 
 pub returns-clause-added : goal.returns-clause-added

@@ -1,5 +1,4 @@
-use Rattle.avro_schema_json.specs.inside.Parents.{KeepsLabels, KeepsParents}
-use Rattle.avro_schema_json.specs.inside.Symbols.{HasSymbol}
+use Rattle.avro_schema_json.proofs.Words.{KeepsLabels, KeepsParents, HasSymbol}
 use Rattle.avro_schema_json.proofs.SymbolsSeen.{BeforeWord}
 use Rattle.avro_schema_json.proofs.defaults.edges.put_symbols.Given as goal
 

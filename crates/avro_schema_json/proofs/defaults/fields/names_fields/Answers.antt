@@ -1,8 +1,4 @@
-use Rattle.std.proofs.Common.{ℕ, List, ap, ◌∙◌}
-use Rattle.std.specs.List.{list_any}
-use Rattle.avro_schema_json.specs.DeclaredDefaults.{member_keys, names_only}
-use Rattle.avro_schema_json.specs.inside.OwnDefaults.{fields_seen}
-use Rattle.serde_json.specs.View.{members_view}
+use Rattle.avro_schema_json.proofs.Words.{ℕ, List, ap, ◌∙◌, list_any, member_keys, names_only, fields_seen, members_view}
 use Rattle.avro_schema_json.proofs.NamesSeen.{is_named, key_named, key_unnamed}
 use Rattle.avro_schema_json.proofs.defaults.fields.names_fields.Goals as goal
 

@@ -1,7 +1,4 @@
-use Rattle.std.proofs.Common.{◌≡◌}
-use Rattle.avro_schema_json.specs.DeclaredDefaults.{member_keys, names_only}
-use Rattle.avro_schema_json.specs.inside.OwnDefaults.{fields_seen}
-use Rattle.serde_json.specs.View.{members_view}
+use Rattle.avro_schema_json.proofs.Words.{◌≡◌, member_keys, names_only, fields_seen, members_view}
 use Rattle.avro_schema_json.proofs.defaults.fields.names_fields.Given as goal
 
 abbrev pub invariant-loop-key : goal.invariant-loop-key

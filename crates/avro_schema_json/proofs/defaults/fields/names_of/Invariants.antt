@@ -1,10 +1,6 @@
-use Rattle.std.proofs.Common.{◌≡◌, ℕ, List, ◌||◌, drop}
+use Rattle.avro_schema_json.proofs.Words.{◌≡◌, ℕ, List, ◌||◌, drop, list_any, slice_cmp, get_by, fields_seen}
 use Rattle.std.specs.Prelude.{is_some}
-use Rattle.std.specs.List.{list_any}
 use Rattle.std.specs.Ordering.{nat_cmp}
-use Rattle.std.specs.Cmp.Lexicographic.{slice_cmp}
-use Rattle.std.specs.BTreeMap.{get_by}
-use Rattle.avro_schema_json.specs.inside.OwnDefaults.{fields_seen}
 use Rattle.avro_schema_json.proofs.NamesSeen.{is_named}
 use Rattle.avro_schema_json.proofs.defaults.fields.names_of.Given as goal
 

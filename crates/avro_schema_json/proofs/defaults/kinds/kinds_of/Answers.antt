@@ -1,6 +1,4 @@
-use Rattle.std.proofs.Common.{arith, sym, subst}
-use Rattle.avro_schema_json.specs.inside.Covers.{place_of}
-use Rattle.avro_schema_json.specs.inside.Kinds.{HasKind, kind_of}
+use Rattle.avro_schema_json.proofs.Words.{arith, sym, subst, place_of, HasKind, kind_of}
 use Rattle.avro_schema_json.proofs.KindsSeen.{past_last}
 use Rattle.avro_schema_json.proofs.NodesSeen.{next-node, all-nodes}
 use Rattle.avro_schema_json.proofs.defaults.kinds.kinds_of.Goals as goal

@@ -1,5 +1,4 @@
-use Rattle.avro_schema_json.specs.inside.Covers.{place_of}
-use Rattle.avro_schema_json.specs.inside.Kinds.{HasKind, kind_of}
+use Rattle.avro_schema_json.proofs.Words.{place_of, HasKind, kind_of}
 use Rattle.avro_schema_json.proofs.NodesSeen.{BeforeNode}
 use Rattle.avro_schema_json.proofs.defaults.kinds.kinds_of.Given as goal
 

@@ -1,6 +1,4 @@
-use Rattle.std.proofs.Common.{ℕ, sym, subst, ◌∙◌}
-use Rattle.serde_json.specs.View.{members_view}
-use Rattle.avro_schema_json.specs.inside.Kinds.{HasKind}
+use Rattle.avro_schema_json.proofs.Words.{ℕ, sym, subst, ◌∙◌, members_view, HasKind}
 use Rattle.avro_schema_json.proofs.LeavesSeen.{object-kind, keys-distinct, keys-count}
 use Rattle.avro_schema_json.proofs.defaults.leaves.row_of_object.Goals as goal
 

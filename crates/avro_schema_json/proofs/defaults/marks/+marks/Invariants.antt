@@ -1,22 +1,16 @@
-use Rattle.std.proofs.Common.{◌≡◌, List, length}
-use Rattle.avro_schema.specs.Node.{Node}
-use Rattle.serde_json.specs.View.{items_view, members_view}
-use Rattle.avro_schema_json.specs.inside.Marks.{AreItemsMarked, AreMembersMarked, Stays}
-use Rattle.avro_schema_json.specs.inside.Steps.{AreSteps}
-use Rattle.avro_schema_json.specs.inside.Tables.{AreTables}
+use Rattle.avro_schema_json.proofs.Words.{◌≡◌, length, Data, items_view, members_view}
+use Rattle.avro_schema_json.proofs.MarksSeen.{Gathers}
+use Rattle.avro_schema_json.proofs.WalkSeen.{AreLeft}
 use Rattle.avro_schema_json.proofs.defaults.marks.+marks.Given as goal
 
 abbrev pub invariant-mark_array-loop-item : goal.invariant-mark_array-loop-item
 invariant-mark_array-loop-item l = record {
-  count : length l.of_items.items ≡ l.item-index;
-  steps : AreSteps l.tables.parents.items l.marks.memo;
-  stays : Stays l.fn.marks l.marks;
-  marked : (nodes : List Node) → AreTables nodes l.tables → AreItemsMarked nodes l.tables.last l.marks (items_view l.items.items) l.of_items.items;
+  count : length l.parts.items ≡ l.item-index;
+  gathers : Gathers l.tables (Data.array (items_view l.items.items)) l.fn.marks l.marks l.fn.row.value.words l.row.value.words l.parts.items;
 }
 
 abbrev pub invariant-mark_object-loop-key : goal.invariant-mark_object-loop-key
 invariant-mark_object-loop-key l = record {
-  steps : AreSteps l.tables.parents.items l.marks.memo;
-  stays : Stays l.fn.marks l.marks;
-  marked : (nodes : List Node) → AreTables nodes l.tables → AreMembersMarked nodes l.tables.last l.marks (members_view l.members.entries) l.of_members;
+  left : AreLeft l.members.entries l.key-iterator (length l.parts.items);
+  gathers : Gathers l.tables (Data.object (members_view l.members.entries)) l.fn.marks l.marks l.fn.row.value.words l.row.value.words l.parts.items;
 }

@@ -1,7 +1,4 @@
-use Rattle.std.proofs.Common.{◌≡◌, ◌-◌, ◌<◌, ◌%◌, List, length, refl, sym, ap, subst, ◌∙◌, arith}
-use Rattle.std.proofs.lemmas.Option.{slice_get_read}
-use Rattle.avro_schema_json.specs.inside.Parents.{has_few}
-use Rattle.avro_schema_json.specs.declared.defaults.parents.Few.{Few}
+use Rattle.avro_schema_json.proofs.Words.{◌≡◌, ◌-◌, ◌<◌, ◌%◌, List, length, refl, sym, ap, subst, ◌∙◌, arith, slice_get_read, has_few, Few}
 use Rattle.avro_schema_json.proofs.ParentsSeen.{few-push, few-last, few-set, few-here, few-at}
 use Rattle.avro_schema_json.proofs.RowsSeen.{bit-itself}
 use Rattle.avro_schema_json.proofs.defaults.parents.add_parent.Goals as goal

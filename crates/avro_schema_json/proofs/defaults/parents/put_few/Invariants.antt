@@ -1,8 +1,5 @@
-use Rattle.std.proofs.Common.{◌≡◌, ℕ, ◌/◌, ◌%◌, ◌<◌, Some, true}
+use Rattle.avro_schema_json.proofs.Words.{◌≡◌, ℕ, ◌/◌, ◌%◌, ◌<◌, Some, true, bit_at, has_place, IsWithin, Few}
 use Rattle.std.specs.Prelude.{slice_get}
-use Rattle.std.specs.Int.{bit_at}
-use Rattle.avro_schema_json.specs.inside.Rows.{has_place, IsWithin}
-use Rattle.avro_schema_json.specs.declared.defaults.parents.Few.{Few}
 use Rattle.avro_schema_json.proofs.defaults.parents.put_few.Given as goal
 
 abbrev pub invariant-loop-it : goal.invariant-loop-it

@@ -1,8 +1,5 @@
-use Rattle.std.proofs.Common.{List, sym, subst}
-use Rattle.std.specs.BTreeMap.{get}
+use Rattle.avro_schema_json.proofs.Words.{List, sym, subst, get, has_few, Few}
 use Rattle.std.specs.Ordering.{is_eq, nat_cmp}
-use Rattle.avro_schema_json.specs.inside.Parents.{has_few}
-use Rattle.avro_schema_json.specs.declared.defaults.parents.Few.{Few}
 use Rattle.avro_schema_json.proofs.ParentsSeen.{kept-put, same_key}
 use Rattle.avro_schema_json.proofs.defaults.parents.put_under.Goals as goal
 

@@ -1,7 +1,4 @@
-use Rattle.std.proofs.Common.{◌≡◌, ℕ, ◌*◌, ◌+◌, ◌<◌, true}
-use Rattle.std.specs.Int.{bit_at}
-use Rattle.avro_schema_json.specs.inside.Rows.{has_place, IsWithin}
-use Rattle.avro_schema_json.specs.inside.Parents.{has_few, few_of}
+use Rattle.avro_schema_json.proofs.Words.{◌≡◌, ℕ, ◌*◌, ◌+◌, ◌<◌, true, bit_at, has_place, IsWithin, has_few, few_of}
 use Rattle.avro_schema_json.proofs.defaults.parents.put_word.Given as goal
 
 abbrev pub invariant-loop-i : goal.invariant-loop-i

@@ -1,5 +1,4 @@
-use Rattle.std.proofs.Common.{◌≡◌, ◌++◌, drop, nat_lt}
-use Rattle.std.specs.List.{list_all}
+use Rattle.avro_schema_json.proofs.Words.{◌≡◌, ◌++◌, drop, nat_lt, list_all}
 use Rattle.avro_schema_json.proofs.defaults.plain_defaults.bytes_of_characters.Given as goal
 
 abbrev pub invariant-loop-character : goal.invariant-loop-character

@@ -1,5 +1,4 @@
-use Rattle.std.proofs.Common.{◌≡◌, ℕ, ◌<◌, ◌≤◌, get_or}
-use Rattle.std.specs.Int.RustNames.{bit_or}
+use Rattle.avro_schema_json.proofs.Words.{◌≡◌, ℕ, ◌<◌, ◌≤◌, get_or, bit_or}
 use Rattle.avro_schema_json.proofs.defaults.rows.add_row.Given as goal
 
 abbrev pub invariant-loop-i : goal.invariant-loop-i

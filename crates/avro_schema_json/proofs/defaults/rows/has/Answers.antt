@@ -1,5 +1,4 @@
-use Rattle.std.proofs.Common.{arith}
-use Rattle.std.proofs.lemmas.Nat.Bits.{shr_and_one}
+use Rattle.avro_schema_json.proofs.Words.{arith, shr_and_one}
 use Rattle.avro_schema_json.proofs.defaults.rows.has.Goals as goal
 
 pub returns-then-word-lt64 : goal.returns-then-word-lt64

@@ -1,15 +1,5 @@
-use Rattle.std.proofs.Common.{◌≡◌, Some, length, option_map, refl, sym, ap, ◌∙◌}
-use Rattle.std.specs.Prelude.{slice_get}
-use Rattle.std.proofs.lemmas.Option.{slice_get_read}
-use Rattle.std.proofs.lemmas.Slice.Eq.{bytes_eq-Decides}
-use Rattle.avro_schema_json.specs.declared.defaults.rows.Row.{Row}
+use Rattle.avro_schema_json.proofs.Words.{Some, sym, ap, ◌∙◌, bytes_eq-Decides}
 use Rattle.avro_schema_json.proofs.defaults.sets.is_at.Goals as goal
 
 pub returns-in-Some : goal.returns-in-Some
-returns-in-Some c = λ yes.
-    let found = c.in-Some.ensures.lookup in
-    let there = c.in-Some.there.now in
-    let words : c.deref-in-Some.result.now.words ≡ c.args.row.now.words = (bytes_eq-Decides _ _).0 (sym c.eq.ensures ∙ yes) in
-    let here : slice_get c.deref.result.now c.args.number ≡ Some there = slice_get_read c.deref.result.now (length c.deref.result.now) c.args.number there refl found.3.0 found.1 in
-    ap (λ xs. option_map (λ b. b.value.words) (slice_get xs c.args.number)) (sym c.deref.ensures.value) ∙ ap (option_map (λ b. b.value.words)) here
-    ∙ ap Some (ap (λ (r : Row). r.words) (sym c.deref-in-Some.ensures) ∙ words)
+returns-in-Some c = λ yes. sym c.in-Some.ensures ∙ ap Some ((bytes_eq-Decides _ _).0 (sym c.eq.ensures ∙ yes))

@@ -1,23 +1,26 @@
-use Rattle.std.proofs.Common.{◌≡◌, ℕ, List, Option, Some, arith}
-use Rattle.std.specs.Prelude.{Result, Ok, Err, IfOk}
-use Rattle.avro_schema.specs.Seen.{ids_of}
-use Rattle.serde_json.specs.Data.{Data}
-use Rattle.avro_schema_json.specs.inside.Sets.{row_at}
-use Rattle.avro_schema_json.specs.inside.Walk.{FitsNoneBefore, HasNoneBefore, IsKnown, nodes_of}
-use Rattle.avro_schema_json.specs.declared.defaults.parts.Mark.{Mark}
-use Rattle.avro_schema_json.specs.declared.defaults.walk.Walk.{Walk}
-use Rattle.avro_schema_json.proofs.WalkSeen.{none-before}
+use Rattle.avro_schema_json.proofs.Words.{sym, arith, ids_of}
+use Rattle.avro_schema_json.proofs.WalkSeen.{none-before, none-in, one-more}
 use Rattle.avro_schema_json.proofs.defaults.walk.first_branch.Goals as goal
 
-by-set : {E : Type 0} (walk : Walk) (mark : Option Mark) (m : Mark) (ids : List ℕ) (r : Result ℕ E) → mark ≡ Some m
-    → IfOk r (λ first. (row : List ℕ) → row_at walk.marks.now.memo.sets m.set ≡ Some row → HasNoneBefore walk.last row ids first)
-    → IfOk r (λ first. (d : Data) → IsKnown walk d mark → FitsNoneBefore (nodes_of walk) d ids first)
-by-set walk mark m ids (Ok first) is none = λ d known. none-before walk d mark m ids first is none known
-by-set walk mark m ids (Err e) is none = tt
+pub returns-in_default-clause-first : goal.returns-in_default-clause-first
+returns-in_default-clause-first c = λ d known j id below at. absurd (omega (arith, below))
 
-pub returns-in-Some-clause-first : goal.returns-in-Some-clause-first
-returns-in-Some-clause-first c =
-    by-set c.args.walk.now c.args.mark c.in-Some.mark (ids_of c.args.ids.now) c.first_of_set.result c.in-Some.is c.first_of_set.ensures.first
+pub returns-in_default-row_of-clause-first : goal.returns-in_default-row_of-clause-first
+returns-in_default-row_of-clause-first c = λ d known j id below at. absurd (omega (arith, below))
 
-pub returns-in-None-clause-first : goal.returns-in-None-clause-first
-returns-in-None-clause-first c = λ d known j id below at. absurd (omega (arith, below))
+pub returns-in-Some-get-clause-first : goal.returns-in-Some-get-clause-first
+returns-in-Some-get-clause-first c = λ d known.
+    let ids = ids_of c.args.ids.now in
+    none-before c.args.walk.now d c.args.mark c.in-Some.mark ids _ c.in-Some.is
+    (λ row at. c.requires.firsts c.args.union.0 c.in-Some.mark.set _ ids row (sym c.in-Some-get.ensures.value) c.requires.branches at) known
+
+pub returns-clause-first : goal.returns-clause-first
+returns-clause-first c = λ d known.
+    none-before c.args.walk.now d c.args.mark c.in-Some.mark (ids_of c.args.ids.now) _ c.in-Some.is
+    (none-in c.args.walk.now c.in-Some.mark.set c.in-Some-row_of.row.now.words (ids_of c.args.ids.now) _ (sym c.in-Some-row_of.ensures) c.first_in-first.ensures) known
+
+pub returns-clause-firsts : goal.returns-clause-firsts
+returns-clause-firsts c =
+    one-more c.args.walk.now c.args.firsts.now c.insert.new.self c.args.union.0 c.in-Some.mark.set c.first_in-first.result (ids_of c.args.ids.now) c.requires.firsts c.requires.branches
+    (none-in c.args.walk.now c.in-Some.mark.set c.in-Some-row_of.row.now.words (ids_of c.args.ids.now) _ (sym c.in-Some-row_of.ensures) c.first_in-first.ensures)
+    (λ q. c.in_ok-insert.ensures.updates.0 q)

@@ -1,5 +1,4 @@
-use Rattle.std.proofs.Common.{ℕ, false, sym, subst, ◌∙◌, ◌≡◌, arith}
-use Rattle.avro_schema_json.specs.inside.Rows.{has_place}
+use Rattle.avro_schema_json.proofs.Words.{ℕ, false, sym, subst, ◌∙◌, ◌≡◌, arith, has_place}
 use Rattle.avro_schema_json.proofs.WalkSeen.{none-next}
 use Rattle.avro_schema_json.proofs.defaults.walk.first_in.Goals as goal
 
@@ -8,7 +7,7 @@ loop-i-init c = λ j id below at. absurd (omega (arith, below))
 
 pub loop-i-preserved : goal.loop-i-preserved
 loop-i-preserved c =
-    none-next c.args.last c.args.row.now.words c.args.ids.now c.loop-i.i _ c.loop-i.invariant
+    none-next c.args.last c.args.row.now.words c.args.ids.now c.loop-i.i _ c.loop-i-test.true c.loop-i.invariant
     (subst (λ (p : ℕ). has_place c.args.row.now.words p ≡ false) c.place_of.ensures (sym c.has.ensures ∙ c.if-has.false))
 
 pub returns : goal.returns

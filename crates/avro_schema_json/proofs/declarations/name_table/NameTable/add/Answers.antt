@@ -1,5 +1,4 @@
-use Rattle.std.proofs.Common.{sym, ap, ◌∙◌, subst}
-use Rattle.avro_schema_json.proofs.Words.{Known, defining, number_of, IsIndexOf}
+use Rattle.avro_schema_json.proofs.Words.{sym, ap, ◌∙◌, subst, Known, defining, number_of, IsIndexOf}
 use Rattle.avro_schema_json.proofs.KnownFound.{named_after}
 use Rattle.avro_schema_json.proofs.declarations.name_table.NameTable.add.Goals as goal
 

@@ -1,5 +1,4 @@
-use Rattle.std.proofs.Common.{ap, ◌∙◌}
-use Rattle.avro_schema_json.specs.inside.KnownNames.{number_of}
+use Rattle.avro_schema_json.proofs.Words.{ap, ◌∙◌, number_of}
 use Rattle.avro_schema_json.proofs.KnownFound.{inserted_after}
 use Rattle.avro_schema_json.proofs.declarations.name_table.NameTable.add_number.Goals as goal
 

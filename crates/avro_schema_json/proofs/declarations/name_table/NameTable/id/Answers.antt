@@ -1,5 +1,4 @@
-use Rattle.std.proofs.Common.{sym, ap, ◌∙◌}
-use Rattle.avro_schema_json.proofs.Words.{id_of, number_of, IfOk-weaker}
+use Rattle.avro_schema_json.proofs.Words.{sym, ap, ◌∙◌, id_of, number_of, IfOk-weaker}
 use Rattle.avro_schema_json.proofs.declarations.name_table.NameTable.id.Goals as goal
 
 pub returns-in-Some : goal.returns-in-Some

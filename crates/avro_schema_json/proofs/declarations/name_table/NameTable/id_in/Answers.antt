@@ -1,5 +1,4 @@
-use Rattle.std.proofs.Common.{rules, ◌≡◌, ap, ◌∙◌}
-use Rattle.avro_schema_json.proofs.Words.{get, id_of, key_cmp}
+use Rattle.avro_schema_json.proofs.Words.{rules, ◌≡◌, ap, ◌∙◌, get, id_of, key_cmp}
 use Rattle.avro_schema_json.proofs.declarations.name_table.NameTable.id_in.Goals as goal
 
 pub returns : goal.returns

@@ -1,5 +1,4 @@
-use Rattle.std.proofs.Common.{drop}
-use Rattle.avro_schema_json.proofs.Words.{ids_of, items_view, branches_of, field_meanings, in_turn, made_at, state_of, Keeps, raw_fields_of}
+use Rattle.avro_schema_json.proofs.Words.{drop, ids_of, items_view, branches_of, field_meanings, in_turn, made_at, state_of, Keeps, raw_fields_of}
 use Rattle.avro_schema_json.proofs.TypesRead.{IsReading}
 use Rattle.avro_schema_json.proofs.declarations.progress.Progress.+types.Given as goal
 

@@ -1,5 +1,4 @@
-use Rattle.std.proofs.Common.{refl, subst, sym, ap, ◌∙◌, is_some}
-use Rattle.avro_schema_json.proofs.Words.{members_view, Node, name_in, RawNode, defining, id_of, State, IsAdded, state_of}
+use Rattle.avro_schema_json.proofs.Words.{refl, subst, sym, ap, ◌∙◌, is_some, members_view, Node, name_in, RawNode, defining, id_of, State, IsAdded, state_of}
 use Rattle.avro_schema_json.proofs.KnownFound.{found_in}
 use Rattle.avro_schema_json.proofs.PartsRead.{ok-or_memory, not_some, name_faults-new, beginning-known}
 use Rattle.avro_schema_json.proofs.declarations.progress.Progress.begin.Goals as goal

@@ -1,5 +1,4 @@
-use Rattle.std.proofs.Common.{sym, ◌∙◌, inr}
-use Rattle.avro_schema_json.proofs.Words.{name_of, state_of, SchemaError}
+use Rattle.avro_schema_json.proofs.Words.{sym, ◌∙◌, inr, name_of, state_of, SchemaError}
 use Rattle.avro_schema_json.proofs.PartsRead.{reference-read, reference-unknown, ok-or_memory, some-from_ok_or}
 use Rattle.avro_schema_json.proofs.declarations.progress.Progress.find.Goals as goal
 

@@ -1,5 +1,4 @@
-use Rattle.std.proofs.Common.{refl, sym, ◌∙◌}
-use Rattle.std.proofs.lemmas.Result.{IfOk-weaker}
+use Rattle.avro_schema_json.proofs.Words.{refl, sym, ◌∙◌, IfOk-weaker}
 use Rattle.avro_schema_json.proofs.KnownFound.{found_in, named_alone}
 use Rattle.avro_schema_json.proofs.declarations.progress.Progress.id_of_word.Goals as goal
 

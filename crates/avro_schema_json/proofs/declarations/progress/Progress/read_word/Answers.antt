@@ -1,5 +1,4 @@
-use Rattle.std.proofs.Common.{ℕ, IfErr, subst}
-use Rattle.avro_schema_json.proofs.Words.{Meaning, Refuses, state_of}
+use Rattle.avro_schema_json.proofs.Words.{ℕ, IfErr, subst, Meaning, Refuses, state_of}
 use Rattle.avro_schema_json.proofs.declarations.progress.Progress.read_word.Goals as goal
 
 pub returns-in-TypeName-clause-refused : goal.returns-in-TypeName-clause-refused
