@@ -1,15 +1,14 @@
 -- What is gathered of items and entries, and what is moved.
-use Rattle.std.proofs.Common.{◌≡◌, ℕ, zero, suc, ◌+◌, List, [], ◌∷◌, ◌++◌, length, replicate, Option, true, refl, sym, ap, subst, ◌∙◌, append_assoc, arith, if◌then◌else◌}
-use Rattle.std.specs.Prelude.{Result, Ok, Err, OnOk, is_ok, pos}
+use Rattle.std.proofs.Common.{◌≡◌, ℕ, zero, suc, ◌+◌, List, [], ◌∷◌, ◌++◌, length, replicate, Option, true, refl, sym, ap, subst, ◌∙◌, append_assoc, arith}
+use Rattle.std.specs.Prelude.{Result, Ok, Err, OnOk, pos}
 use Rattle.std.proofs.lemmas.List.{length-append, length-replicate}
 use Rattle.avro_schema.specs.Empty.{are_empty}
 use Rattle.avro_schema.specs.Value.{Value}
 use Rattle.avro_schema.specs.Seen.{values_from, entries_from}
 use Rattle.avro_cursor.specs.Encoding.{plain, plain_bytes, plain_blocks, plain_values, plain_entries}
 use Rattle.avro_binary.proofs.public.EmptyData.{plain_values-empty}
-use Rattle.avro_packed.specs.Appended.{AreItems, AreEntries, Holds, StandsAt, branch_bytes}
+use Rattle.avro_packed.specs.Appended.{AreItems, AreEntries, Holds, branch_bytes}
 use Rattle.avro_zigzag.specs.Number.{number_bytes}
-use Rattle.avro_packed.specs.inside.Outputs.{stands_last}
 use Rattle.avro_packed.specs.declared.gathered.Gathered.{Gathered}
 use Rattle.avro_packed.specs.declared.written.Written.{Written}
 use Rattle.avro_packed.proofs.Joined.{values_with_one, entries_with_one, values_count-length, entries_count-length}
@@ -56,13 +55,6 @@ block_of_entries out at g es are =
     ap (λ b. branch_bytes b ++ plain_blocks g.count (plain_entries (entries_from es))) are.0
     ∙ ap (λ n. branch_bytes at ++ plain_blocks n (plain_entries (entries_from es))) (are.1 ∙ sym (entries_count-length es))
 
--- more after what was moved
-pub moved_behind : {T E : Type 0} (r : Result T E) (old mid new front more bytes : List ℕ) → mid ≡ old ++ front → bytes ≡ front ++ more
-    → new ≡ (if is_ok r then mid ++ more else mid) → OnOk r (new ≡ old ++ bytes)
-moved_behind (Err e) old mid new front more bytes is splits added = tt
-moved_behind (Ok u) old mid new front more bytes is splits added =
-    added ∙ ap (λ (l : List ℕ). l ++ more) is ∙ append_assoc old front more ∙ ap (λ (l : List ℕ). old ++ l) (sym splits)
-
 -- one more field
 pub field_behind : {T E : Type 0} (r : Result T E) (front : List ℕ) (vs : List Value) (v : Value) (P : List ℕ → Type 0)
     → OnOk r (P ((front ++ plain_values (values_from vs)) ++ plain v)) → OnOk r (P (front ++ plain_values (values_from (vs ++ v ∷ []))))
@@ -79,15 +71,8 @@ blocks_some : (count : ℕ) (bytes : List ℕ) → (count ≡ 0 → ⊥) → pla
 blocks_some zero bytes some = absurd (some refl)
 blocks_some (suc count) bytes some = refl
 
--- a number in the output, and after it the items and the end in a room of their own
-pub block_apart : (out old front k items all bytes : List ℕ) (count start end : ℕ) → out ≡ (old ++ front) ++ k → start ≡ length old → end ≡ length out
-    → k ≡ number_bytes (pos count) → (count ≡ 0 → ⊥) → all ≡ items ++ 0 ∷ [] → items ≡ bytes
-    → (x : List ℕ) × StandsAt out start end x × (front ++ plain_blocks count bytes ≡ x ++ all)
-block_apart out old front k items all bytes count start end split starts ends named some added is = (
-  front ++ k,
-  stands_last out old (front ++ k) start end (split ∙ append_assoc old front k) starts ends,
-  ap (λ (l : List ℕ). front ++ l)
-      (blocks_some count bytes some ∙ ap (λ (n : List ℕ). (n ++ bytes) ++ 0 ∷ []) (sym named) ∙ ap (λ (i : List ℕ). (k ++ i) ++ 0 ∷ []) (sym is)
-      ∙ append_assoc k items (0 ∷ []) ∙ ap (λ (a : List ℕ). k ++ a) (sym added))
-      ∙ sym (append_assoc front k all),
-)
+-- the head of a block, its items or entries, and the end
+pub block_closed : (front bytes : List ℕ) (count : ℕ) → (count ≡ 0 → ⊥) → ((front ++ number_bytes (pos count)) ++ bytes) ++ 0 ∷ [] ≡ front ++ plain_blocks count bytes
+block_closed front bytes count some =
+    let k = number_bytes (pos count) in
+    ap (λ (l : List ℕ). l ++ 0 ∷ []) (append_assoc front k bytes) ∙ append_assoc front (k ++ bytes) (0 ∷ []) ∙ ap (λ (l : List ℕ). front ++ l) (sym (blocks_some count bytes some))

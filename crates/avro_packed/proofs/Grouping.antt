@@ -1,13 +1,9 @@
 -- Groups of a number that are written one by one.
-use Rattle.std.proofs.Common.{◌≡◌, ℕ, ℤ, ◌+◌, ◌/◌, ◌%◌, ◌<◌, ◌≤◌, List, [], ◌∷◌, ◌++◌, sym, ap, subst, ◌∙◌, append_assoc}
+use Rattle.std.proofs.Common.{◌≡◌, ℕ, ℤ, ◌+◌, ◌/◌, ◌%◌, ◌≤◌, List, [], ◌∷◌, ◌++◌, sym, ap, subst, ◌∙◌, append_assoc}
 use Rattle.std.specs.Prelude.{Result, Ok, Err, OnOk}
-use Rattle.std.proofs.lemmas.List.{append-nil}
 use Rattle.avro_zigzag.specs.Number.{zigzag, AreLeastGroups, number_bytes}
-use Rattle.avro_zigzag.proofs.public.Spelling.{least-last, least-more, number_bytes-from_spelling}
+use Rattle.avro_zigzag.proofs.public.Spelling.{least-more, number_bytes-from_spelling}
 use Rattle.avro_packed.specs.inside.Groups.{GroupsSoFar}
-
-pub no_groups : (number : ℕ) (before : List ℕ) → GroupsSoFar number number before before
-no_groups number before = record { groups = []; written = sym (append-nil before); so_far = λ tail least. least }
 
 pub one_group_more : (number rest b : ℕ) (before after next : List ℕ) → 128 ≤ rest → b ≡ 128 + rest % 128 → GroupsSoFar number rest before after → next ≡ after ++ b ∷ []
     → GroupsSoFar number (rest / 128) before next
@@ -18,14 +14,6 @@ one_group_more number rest b before after next low is far added = record {
       subst (AreLeastGroups number) (sym (append_assoc far.groups (b ∷ []) tail))
       (far.so_far (b ∷ tail) (subst (λ n. AreLeastGroups rest (n ∷ tail)) (sym is) (least-more rest tail low least)));
 }
-
-pub last_group : (number rest : ℕ) (before after next : List ℕ) → rest < 128 → GroupsSoFar number rest before after → next ≡ after ++ rest ∷ []
-    → (groups : List ℕ) × AreLeastGroups number groups × (next ≡ before ++ groups)
-last_group number rest before after next low far added = (
-  far.groups ++ rest ∷ [],
-  far.so_far (rest ∷ []) (least-last rest low),
-  added ∙ ap (λ (l : List ℕ). l ++ rest ∷ []) far.written ∙ append_assoc before far.groups (rest ∷ []),
-)
 
 pub groups_spell : {T E : Type 0} (r : Result T E) (v : ℤ) (n : ℕ) (old new : List ℕ) → n ≡ zigzag v
     → OnOk r ((groups : List ℕ) × AreLeastGroups n groups × (new ≡ old ++ groups)) → OnOk r (new ≡ old ++ number_bytes v)

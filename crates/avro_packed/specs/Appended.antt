@@ -1,5 +1,5 @@
 -- Where the bytes of a part of an encoding stand, while data are read into an output.
-use Rattle.std.specs.Prelude.{◌≡◌, ℕ, ◌+◌, List, [], ◌++◌, length, Option, None, Some, pos}
+use Rattle.std.specs.Prelude.{◌≡◌, ℕ, ◌+◌, ◌<◌, ◌≤◌, List, [], ◌++◌, length, Bool, true, false, Option, None, Some, pos}
 use Rattle.avro_zigzag.specs.Number.{number_bytes}
 use Rattle.avro_schema.specs.Value.{Value}
 use Rattle.avro_schema.specs.Seen.{values_from, entries_from}
@@ -20,11 +20,17 @@ pub record StandsAt (out : List ℕ) (start end : ℕ) (bytes : List ℕ) : Type
   pub starts : start ≡ length before
   pub ends : end ≡ start + length bytes
 
--- what was written are these bytes
+-- what was written are these bytes, or so many
 abbrev pub Holds : List ℕ → Written → List ℕ → Type 0
 Holds out (Written.Range start end) bytes = StandsAt out start end bytes
 Holds out (Written.Apart apart) bytes =
     (front : List ℕ) × StandsAt out apart.value.start apart.value.end front × (bytes ≡ front ++ apart.value.more.items)
+Holds out (Written.Counted count) bytes = count ≡ length bytes
+
+-- bytes were put behind an output, which is then not longer than `most`, or else it would be, and they were not
+abbrev pub AppendsWithin : ℕ → List ℕ → List ℕ → List ℕ → Bool → Type 0
+AppendsWithin most before after bytes true = (after ≡ before ++ bytes) × (length after ≤ most)
+AppendsWithin most before after bytes false = (after ≡ before) × (most < length (before ++ bytes))
 
 -- the index of the branch that a value goes into, if there is one
 abbrev pub branch_bytes : Option ℕ → List ℕ

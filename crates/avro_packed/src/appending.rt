@@ -3,10 +3,10 @@
 ghost use Rattle.std.specs.Prelude.{◌≡◌, ◌++◌, [], ◌∷◌, List, ℕ, IfOk, OnOk, OnErr, length, pos};
 ghost use Rattle.avro_zigzag.specs.Number.{number_bytes};
 ghost use Rattle.avro_cursor.specs.Encoding.{plain_bytes, plain_blocks};
-ghost use Rattle.avro_packed.specs.Appended.{Grows, Holds, branch_bytes};
+ghost use Rattle.avro_packed.specs.Appended.{AppendsWithin, Grows, Holds, branch_bytes};
 
 use crate::gathered::Gathered;
-use crate::moving::{append_written, give_back, in_room, is_nothing, join, join_key};
+use crate::moving::{append_written, closed, fits_behind, give_back, is_nothing, join, join_key};
 use crate::numbers::{append_byte, append_number};
 use crate::written::{Apart, Written};
 use avro_binary::Make;
@@ -17,10 +17,11 @@ use std::marker::Model;
 /// the index of the branch in front.
 ///
 /// Items of arrays and entries of maps are moved into a room of their own, since their number comes
-/// before them. Rooms are kept for later.
+/// before them. Rooms are kept for later. Once the output is longer than a limit, bytes are only counted.
 #[derive(Drop)]
 pub struct Appending {
     pub(crate) out: Vec<u8>,
+    pub(crate) most: usize,
     pub(crate) spares: Vec<Box<Apart>>,
     pub(crate) slots: Vec<Vec<Option<Written>>>,
     pub(crate) ends: Vec<Vec<usize>>,
@@ -35,12 +36,13 @@ impl Model for Appending {
 }
 
 impl Appending {
-    /// A maker whose output is empty.
+    /// A maker whose output is empty and has no limit.
     pub fn new(alloc: Global) -> Appending
         ensures { result ≡ [] }
     {
         Appending {
             out: Vec::new(alloc),
+            most: usize::MAX,
             spares: Vec::new(alloc),
             slots: Vec::new(alloc),
             ends: Vec::new(alloc),
@@ -54,18 +56,34 @@ impl Appending {
         self.out.clear();
     }
 
-    /// Appends to other bytes what was written.
+    /// Sets after how many bytes of output further ones are only counted.
+    #[inline(always)]
+    pub(crate) fn keep_at_most(&mut self, most: usize)
+        ensures { self.new ≡ self.old }
+    {
+        self.most = most;
+    }
+
+    /// Appends to other bytes what was written, unless they would be more than `most`. Returns whether they were not.
     ///
     /// # Errors
     ///
     /// Memory ran out; they are as they were.
-    pub fn append(&self, written: &Written, to: &mut Vec<u8>) -> Result<(), AllocError>
-        ensures appended { (bytes : List ℕ) → Holds self.now written.now bytes → OnOk result (to.new.items ≡ to.old.items ++ bytes) }
+    pub fn append(
+        &self,
+        written: &Written,
+        most: usize,
+        to: &mut Vec<u8>,
+    ) -> Result<bool, AllocError>
+        ensures appended { (bytes : List ℕ) → Holds self.now written.now bytes → IfOk result (λ fits. AppendsWithin most to.old.items to.new.items bytes fits) }
         ensures unchanged { OnErr result (to.new.items ≡ to.old.items) }
     {
         let end = to.len();
+        if !fits_behind(end, written, most)? {
+            return Ok(false);
+        }
         match append_written(&self.out, written, to) {
-            Ok(()) => Ok(()),
+            Ok(()) => Ok(true),
             Err(_) => {
                 to.truncate(end);
                 Err(AllocError)
@@ -95,12 +113,28 @@ impl Appending {
         Ok(start)
     }
 
-    /// What was written from an offset on.
+    /// What was written from an offset on, where it is kept.
     #[inline(always)]
-    pub(crate) fn since(&self, start: usize) -> Written
-        ensures { (before bytes : List ℕ) → self.now ≡ before ++ bytes → start ≡ length before → Holds self.now result bytes }
+    pub(crate) fn since(&mut self, start: usize) -> Written
+        ensures holds { (before bytes : List ℕ) → self.old ≡ before ++ bytes → start ≡ length before → Holds self.new result bytes }
+        ensures kept { (before bytes : List ℕ) → self.old ≡ before ++ bytes → start ≡ length before → Grows before self.new }
     {
+        if start > self.most {
+            return self.count_since(start);
+        }
         Written::Range(start, self.out.len())
+    }
+
+    /// Takes back what was written from an offset on, and counts it.
+    #[inline(never)]
+    fn count_since(&mut self, start: usize) -> Written
+        ensures holds { (before bytes : List ℕ) → self.old ≡ before ++ bytes → start ≡ length before → Holds self.new result bytes }
+        ensures back { (before bytes : List ℕ) → self.old ≡ before ++ bytes → start ≡ length before → self.new ≡ before }
+        ensures kept { (before bytes : List ℕ) → self.old ≡ before ++ bytes → start ≡ length before → Grows before self.new }
+    {
+        let count = self.out.len().saturating_sub(start);
+        self.out.truncate(start);
+        Written::Counted(count)
     }
 
     /// Writes a number.
@@ -135,11 +169,11 @@ impl Appending {
         ensures count { result.count ≡ 0 }
         ensures written { Holds self.now result.written [] }
     {
-        let written = self.since(self.out.len());
+        let end = self.out.len();
         Gathered {
             branch,
             count: 0,
-            written,
+            written: Written::Range(end, end),
         }
     }
 
@@ -157,13 +191,8 @@ impl Appending {
         }
         match i64::try_from(gathered.count) {
             Ok(count) => {
-                let mut room = in_room(alloc, &self.out, &mut self.spares, gathered.written)?;
-                append_byte(0, &mut room.more)?;
-                let start = self.begin(gathered.branch)?;
-                append_number(count, &mut self.out)?;
-                room.start = start;
-                room.end = self.out.len();
-                Ok(Written::Apart(room))
+                let head = self.number(gathered.branch, count)?;
+                closed(alloc, &self.out, &mut self.spares, head, gathered.written)
             }
             Err(_) => Err(AllocError),
         }

@@ -1,13 +1,15 @@
 //! Moving what was written.
 
-ghost use Rattle.std.specs.Prelude.{◌≡◌, ◌++◌, ◌≤◌, [], List, ℕ, true, length, IfOk, OnOk};
+ghost use Rattle.std.specs.Prelude.{◌≡◌, ◌++◌, ◌+◌, ◌<◌, ◌≤◌, [], ◌∷◌, List, ℕ, true, false, length, IfOk, OnOk};
+ghost use Rattle.std.specs.Option.{IfSome};
 ghost use Rattle.avro_cursor.specs.Encoding.{plain_bytes};
 ghost use Rattle.avro_packed.specs.Appended.{Grows, Holds, StandsAt};
 
-use crate::numbers::append_number;
+use crate::numbers::{append_byte, append_number};
 use crate::spares::{give, room};
 use crate::written::{Apart, Written};
 use std::alloc::{AllocError, Global};
+use std::mem::replace;
 
 /// Appends the bytes of an output between two offsets to other bytes.
 #[inline(always)]
@@ -23,7 +25,7 @@ fn append_range(out: &[u8], start: usize, end: usize, to: &mut Vec<u8>) -> Resul
     to.extend_from_slice(bytes)
 }
 
-/// Appends to other bytes what was written; if memory runs out, a part of it.
+/// Appends to other bytes what was written; if memory runs out, or it was only counted, a part of it.
 #[inline(always)]
 pub(crate) fn append_written(
     out: &[u8],
@@ -36,6 +38,7 @@ pub(crate) fn append_written(
     match written {
         Written::Range(start, end) => append_range(out, *start, *end, to),
         Written::Apart(apart) => append_apart(out, apart, to),
+        Written::Counted(_) => Err(AllocError),
     }
 }
 
@@ -49,39 +52,54 @@ fn append_apart(out: &[u8], apart: &Apart, to: &mut Vec<u8>) -> Result<(), Alloc
     to.extend_from_slice(&apart.more)
 }
 
+/// The sum of two sizes, where a machine number counts it.
+fn sum(first: Option<usize>, second: Option<usize>) -> Result<usize, AllocError>
+    ensures { (a b : ℕ) → IfSome first (λ size. size ≡ a) → IfSome second (λ size. size ≡ b) → IfOk result (λ size. size ≡ a + b) }
+{
+    match (first, second) {
+        (Some(first), Some(second)) => match first.checked_add(second) {
+            Some(sum) => Ok(sum),
+            None => Err(AllocError),
+        },
+        _ => Err(AllocError),
+    }
+}
+
 /// Keeps the room of what was written for later.
 pub(crate) fn give_back(spares: &mut Vec<Box<Apart>>, written: Written) {
     match written {
         Written::Range(_, _) => {}
         Written::Apart(room) => give(spares, room),
+        Written::Counted(_) => {}
     }
 }
 
-/// A room that holds what was written alone.
-#[inline(always)]
-pub(crate) fn in_room(
-    alloc: Global,
-    out: &[u8],
-    spares: &mut Vec<Box<Apart>>,
-    written: Written,
-) -> Result<Box<Apart>, AllocError>
-    ensures { (bytes : List ℕ) → Holds out.now written bytes → IfOk result (λ all. all.value.more.items ≡ bytes) }
+/// How many bytes were written, where a machine number counts them.
+fn size(written: &Written) -> Option<usize>
+    ensures { (out bytes : List ℕ) → Holds out written.now bytes → IfSome result (λ size. size ≡ length bytes) }
 {
     match written {
-        Written::Range(start, end) => {
-            let mut all = room(alloc, spares)?;
-            append_range(out, start, end, &mut all.more)?;
-            Ok(all)
-        }
-        Written::Apart(apart) => {
-            if apart.start == apart.end {
-                return Ok(apart);
-            }
-            let mut all = room(alloc, spares)?;
-            append_apart(out, &apart, &mut all.more)?;
-            give(spares, apart);
-            Ok(all)
-        }
+        Written::Range(start, end) => end.checked_sub(*start),
+        Written::Apart(apart) => match apart.end.checked_sub(apart.start) {
+            Some(size) => size.checked_add(apart.more.len()),
+            None => None,
+        },
+        Written::Counted(size) => Some(*size),
+    }
+}
+
+/// Whether what was written, behind so many bytes, is not more than `most`.
+///
+/// # Errors
+///
+/// No machine number counts it.
+pub(crate) fn fits_behind(end: usize, written: &Written, most: usize) -> Result<bool, AllocError>
+    ensures within { (out bytes : List ℕ) → Holds out written.now bytes → IfOk result (λ fits. fits ≡ true → end + length bytes ≤ most) }
+    ensures over { (out bytes : List ℕ) → Holds out written.now bytes → IfOk result (λ fits. fits ≡ false → most < end + length bytes) }
+{
+    match size(written) {
+        Some(size) => Ok(end <= most && size <= most - end),
+        None => Err(AllocError),
     }
 }
 
@@ -93,7 +111,23 @@ pub(crate) fn is_nothing(written: &Written) -> bool
     match written {
         Written::Range(start, end) => *start == *end,
         Written::Apart(_) => false,
+        Written::Counted(count) => *count == 0,
     }
+}
+
+/// Counts what was written before and what was written after it, and keeps neither.
+#[inline(never)]
+fn join_counted(
+    spares: &mut Vec<Box<Apart>>,
+    first: &mut Written,
+    second: Written,
+) -> Result<(), AllocError>
+    ensures { (out a b : List ℕ) → Holds out first.old a → Holds out second b → OnOk result (Holds out first.new (a ++ b)) }
+{
+    let count = sum(size(first), size(&second))?;
+    give_back(spares, second);
+    give_back(spares, replace(first, Written::Counted(count)));
+    Ok(())
 }
 
 /// Puts what was written after what was written before.
@@ -133,6 +167,13 @@ pub(crate) fn join(
                     *first = Written::Apart(apart);
                     return Ok(());
                 }
+                if apart.start == apart.end {
+                    let mut apart = apart;
+                    apart.start = start;
+                    apart.end = end;
+                    *first = Written::Apart(apart);
+                    return Ok(());
+                }
                 let mut all = room(alloc, spares)?;
                 append_apart(out, &apart, &mut all.more)?;
                 give(spares, apart);
@@ -141,12 +182,27 @@ pub(crate) fn join(
                 *first = Written::Apart(all);
                 Ok(())
             }
+            Written::Counted(count) => join_counted(spares, first, Written::Counted(count)),
         },
         Written::Apart(apart) => {
+            if is_counted(&second) {
+                return join_counted(spares, first, second);
+            }
             append_written(out, &second, &mut apart.more)?;
             give_back(spares, second);
             Ok(())
         }
+        Written::Counted(_) => join_counted(spares, first, second),
+    }
+}
+
+/// Whether bytes were only counted.
+#[inline(always)]
+fn is_counted(written: &Written) -> bool {
+    match written {
+        Written::Range(_, _) => false,
+        Written::Apart(_) => false,
+        Written::Counted(_) => true,
     }
 }
 
@@ -172,6 +228,7 @@ fn brought(out: &mut Vec<u8>, before: &Written, written: Written) -> Result<Writ
             Ok(Written::Range(start, end))
         }
         Written::Apart(room) => Ok(Written::Apart(room)),
+        Written::Counted(count) => Ok(Written::Counted(count)),
     }
 }
 
@@ -181,6 +238,7 @@ fn ends_at(written: &Written, len: usize) -> bool {
     match written {
         Written::Range(start, end) => *start < *end && *end == len,
         Written::Apart(_) => false,
+        Written::Counted(_) => false,
     }
 }
 
@@ -233,6 +291,52 @@ pub(crate) fn join_key(
             Ok(())
         }
         Written::Apart(apart) => append_measured(key, &mut apart.more),
+        Written::Counted(count) => {
+            let mut all = room(alloc, spares)?;
+            append_measured(key, &mut all.more)?;
+            *count = sum(Some(*count), Some(all.more.len()))?;
+            give(spares, all);
+            Ok(())
+        }
+    }
+}
+
+/// The block of items or entries behind its head, and the end of their array or map.
+#[inline(always)]
+pub(crate) fn closed(
+    alloc: Global,
+    out: &[u8],
+    spares: &mut Vec<Box<Apart>>,
+    head: Written,
+    written: Written,
+) -> Result<Written, AllocError>
+    ensures { (a b : List ℕ) → Holds out.now head a → Holds out.now written b → IfOk result (λ all. Holds out.now all ((a ++ b) ++ 0 ∷ [])) }
+{
+    let mut all = head;
+    join(alloc, out, spares, &mut all, written)?;
+    close(alloc, spares, &mut all)?;
+    Ok(all)
+}
+
+/// Puts the end of an array or a map after its block.
+#[inline(always)]
+fn close(alloc: Global, spares: &mut Vec<Box<Apart>>, block: &mut Written) -> Result<(), AllocError>
+    ensures { (out a : List ℕ) → Holds out block.old a → OnOk result (Holds out block.new (a ++ 0 ∷ [])) }
+{
+    match block {
+        Written::Range(start, end) => {
+            let mut all = room(alloc, spares)?;
+            append_byte(0, &mut all.more)?;
+            all.start = *start;
+            all.end = *end;
+            *block = Written::Apart(all);
+            Ok(())
+        }
+        Written::Apart(apart) => append_byte(0, &mut apart.more),
+        Written::Counted(count) => {
+            *count = sum(Some(*count), Some(1))?;
+            Ok(())
+        }
     }
 }
 

@@ -1,9 +1,10 @@
 //! Reading into an output that has bytes already, and settling what was written behind them.
 
-ghost use Rattle.std.specs.Prelude.{◌≡◌, ◌++◌, List, ℕ, length, OnOk, OnErr};
-ghost use Rattle.avro_packed.specs.Appended.{Grows, Holds, StandsAt};
+ghost use Rattle.std.specs.Prelude.{◌≡◌, ◌++◌, ◌+◌, ◌<◌, ◌≤◌, List, ℕ, true, false, length, IfOk, OnOk, OnErr};
+ghost use Rattle.avro_packed.specs.Appended.{AppendsWithin, Grows, Holds, StandsAt};
 
 use crate::appending::Appending;
+use crate::moving::fits_behind;
 use crate::written::{Apart, Written};
 use std::alloc::AllocError;
 use std::mem::swap;
@@ -21,25 +22,58 @@ impl Appending {
     }
 }
 
-/// Takes back all behind the end that an output had, but what was written.
+/// Takes back all behind the end that an output had, but what was written, or that too where the output would be longer than
+/// `most`. Returns whether it is not.
 ///
 /// # Errors
 ///
 /// Memory ran out; the output is as it was at that end.
 #[inline(always)]
-pub(crate) fn settle(out: &mut Vec<u8>, end: usize, written: &Written) -> Result<(), AllocError>
+pub(crate) fn settle(
+    out: &mut Vec<u8>,
+    end: usize,
+    written: &Written,
+    most: usize,
+) -> Result<bool, AllocError>
     ensures settled { (old bytes : List ℕ) → Grows old out.old.items → end ≡ length old → Holds out.old.items written.now bytes
-        → OnOk result (out.new.items ≡ old ++ bytes) }
+        → IfOk result (λ fits. AppendsWithin most old out.new.items bytes fits) }
     ensures unchanged { (old bytes : List ℕ) → Grows old out.old.items → end ≡ length old → Holds out.old.items written.now bytes
         → OnErr result (out.new.items ≡ old) }
 {
-    match leave(out, end, written) {
-        Ok(()) => Ok(()),
+    match leave_within(out, end, written, most) {
+        Ok(true) => Ok(true),
+        Ok(false) => {
+            out.truncate(end);
+            Ok(false)
+        }
         Err(_) => {
             out.truncate(end);
             Err(AllocError)
         }
     }
+}
+
+/// Leaves what was written right behind the end that an output had, where the output is then not longer than `most`; otherwise,
+/// or if memory runs out, anything behind that end.
+#[inline(always)]
+fn leave_within(
+    out: &mut Vec<u8>,
+    end: usize,
+    written: &Written,
+    most: usize,
+) -> Result<bool, AllocError>
+    ensures left { (old bytes : List ℕ) → Grows old out.old.items → end ≡ length old → Holds out.old.items written.now bytes
+        → IfOk result (λ fits. fits ≡ true → (out.new.items ≡ old ++ bytes) × (end + length bytes ≤ most)) }
+    ensures over { (old bytes : List ℕ) → Holds out.old.items written.now bytes
+        → IfOk result (λ fits. fits ≡ false → most < end + length bytes) }
+    ensures kept { (old bytes : List ℕ) → Grows old out.old.items → end ≡ length old → Holds out.old.items written.now bytes
+        → Grows old out.new.items }
+{
+    if !fits_behind(end, written, most)? {
+        return Ok(false);
+    }
+    leave(out, end, written)?;
+    Ok(true)
 }
 
 /// Leaves what was written right behind the end that an output had; if memory runs out, anything behind that end.
@@ -53,6 +87,7 @@ fn leave(out: &mut Vec<u8>, end: usize, written: &Written) -> Result<(), AllocEr
     match written {
         Written::Range(start, stop) => leave_range(out, end, *start, *stop),
         Written::Apart(apart) => leave_apart(out, end, apart),
+        Written::Counted(_) => Err(AllocError),
     }
 }
 

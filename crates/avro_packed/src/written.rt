@@ -5,6 +5,8 @@ pub enum Written {
     Range(usize, usize),
     /// In the output, and after these in a room of their own.
     Apart(Box<Apart>),
+    /// Nowhere: so many bytes, which were only counted.
+    Counted(usize),
 }
 
 /// Bytes of an output, from one offset to another, and those of a room after them.

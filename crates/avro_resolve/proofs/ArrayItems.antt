@@ -178,12 +178,6 @@ module _ {I O : Type 0} (S : I → List Value → Type 0) (SO : O → Value → 
       subst (λ (xs : List Value). IsSmall (values_size (values_from xs)) → resolve writer reader (node_at writer w.0) (node_at reader r.0) (Value.array (values_from xs)) ≡ Err (turned fault.value)) (sym (append_assoc vs (replicate n v) more))
       (h are is (replicate n v ++ more))
 
-  pub item_after_fault : (at : At) (fault : Box Fault) → ItemsStandAs S writer reader nodes id at (Run.Faulty fault) vs → ItemsStandAs S writer reader nodes id at (Run.Faulty fault) (vs ++ v ∷ [])
-  item_after_fault Ignored fault h = absurd h
-  item_after_fault (Pair w r) fault h = λ are is more.
-      subst (λ (xs : List Value). IsSmall (values_size (values_from xs)) → resolve writer reader (node_at writer w.0) (node_at reader r.0) (Value.array (values_from xs)) ≡ Err (turned fault.value)) (sym (append_assoc vs (v ∷ []) more))
-      (h are is (v ∷ more))
-
 -- ---- Arrays
 
 module _ {I O : Type 0} (S : I → List Value → Type 0) (SO : O → Value → Type 0) (writer reader nodes : List Node) (id : ℕ) (vs : List Value) where
@@ -196,11 +190,3 @@ module _ {I O : Type 0} (S : I → List Value → Type 0) (SO : O → Value → 
       let good = h are is (smaller (values_size (values_from vs)) (suc (values_size (values_from vs))) less small) in
       subst (MadeAs SO (Made.Good out)) (sym (array_whole S writer reader (node_at writer w.0) (node_at reader r.0) kept count branch a b vs good))
       (made_in SO branch out (Value.array (values_from good.made)) (law good.made good.stands))
-
-  pub faulty_array : (at : At) (fault : Box Fault) → ItemsStandAs S writer reader nodes id at (Run.Faulty fault) vs
-      → StandsAs SO writer reader nodes (Node.array id) at (Made.Faulty fault) (Value.array (values_from vs))
-  faulty_array Ignored fault h = absurd h
-  faulty_array (Pair w r) fault h = λ are is small.
-      let less : values_size (values_from vs) ≤ suc (values_size (values_from vs)) = omega arith in
-      subst (λ (xs : List Value). IsSmall (values_size (values_from xs)) → resolve writer reader (node_at writer w.0) (node_at reader r.0) (Value.array (values_from xs)) ≡ Err (turned fault.value)) (append-nil vs) (h are is [])
-      (smaller (values_size (values_from vs)) (suc (values_size (values_from vs))) less small)

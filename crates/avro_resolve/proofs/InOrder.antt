@@ -119,14 +119,6 @@ module _ (writer reader : List Node) (w r : Node) where
           ∙ ap (λ (us : List (List ℕ × Value)). entries_before us es) (sym kept))
       moved (Err f) = refl
 
-  pub entry_fails : (entries made : List (String Global × Datum)) (i : ℕ) (d : String Global × Datum) (e : ResolveError) → i < length entries
-      → Fails e (inside i (resolve writer reader w r (value_of (slice_index_or entries i d).1)))
-      → EntriesSoFar entries i made → Fails e (resolve_entries writer reader w r 0 (entries_of entries))
-  entry_fails entries made i d e low bad h =
-      subst (Fails e) (sym (h ∙ ap (result_map (entries_before (map pair_of made))) (at_entry entries i d low)))
-      (fails_first e (entry (string_bytes (slice_index_or entries i d).0)) (entries_before (map pair_of made)) (inside i (resolve writer reader w r (value_of (slice_index_or entries i d).1)))
-      (resolve_entries writer reader w r (suc i) (entries_of (drop (i + 1) entries))) bad)
-
   pub entries_done : (entries made : List (String Global × Datum)) (i : ℕ) → length entries ≤ i → EntriesSoFar entries i made
       → resolve_entries writer reader w r 0 (entries_of entries) ≡ Ok (entries_of made)
   entries_done entries made i high h =

@@ -2,7 +2,6 @@
 use Rattle.std.proofs.Common.{◌≡◌, ℕ, suc, ◌+◌, ◌-◌, ◌≤◌, ◌^◌, List, [], ◌∷◌, ◌++◌, length, Option, Result, Ok, Err, refl, sym, ap, ◌∙◌, subst, arith}
 use Rattle.std.specs.Prelude.{min}
 use Rattle.std.specs.Global.{Box}
-use Rattle.std.proofs.lemmas.List.{append-nil, append_assoc}
 use Rattle.avro_schema.specs.Value.{Value, Entries, entry, size, entries_size}
 use Rattle.avro_schema.specs.Node.{Node, node_at, values_node}
 use Rattle.avro_schema.specs.Seen.{entries_from}
@@ -132,12 +131,6 @@ module _ {I O : Type 0} (S : I → List (List ℕ × Value) → Type 0) (SO : O 
       absurd (stands are (node_there S writer reader (node_at writer w.0) (node_at reader r.0) old count branch a b vs good nodes id are is)
       (smaller (size v) (entries_size (entries_from (vs ++ (key, v) ∷ []))) (size_entry vs key v []) small))
 
-  pub entry_after_fault : (at : At) (fault : Box Fault) → EntriesStandAs S writer reader nodes id at (Run.Faulty fault) vs → EntriesStandAs S writer reader nodes id at (Run.Faulty fault) (vs ++ (key, v) ∷ [])
-  entry_after_fault Ignored fault h = absurd h
-  entry_after_fault (Pair w r) fault h = λ are is more.
-      subst (λ (xs : List (List ℕ × Value)). IsSmall (entries_size (entries_from xs)) → resolve writer reader (node_at writer w.0) (node_at reader r.0) (Value.map_of (entries_from xs)) ≡ Err (turned fault.value)) (sym (append_assoc vs ((key, v) ∷ []) more))
-      (h are is ((key, v) ∷ more))
-
 -- ---- Arrays
 
 module _ {I O : Type 0} (S : I → List (List ℕ × Value) → Type 0) (SO : O → Value → Type 0) (writer reader nodes : List Node) (id : ℕ) (vs : List (List ℕ × Value)) where
@@ -150,11 +143,3 @@ module _ {I O : Type 0} (S : I → List (List ℕ × Value) → Type 0) (SO : O 
       let good = h are is (smaller (entries_size (entries_from vs)) (suc (entries_size (entries_from vs))) less small) in
       subst (MadeAs SO (Made.Good out)) (sym (map_whole S writer reader (node_at writer w.0) (node_at reader r.0) kept count branch a b vs good))
       (made_in SO branch out (Value.map_of (entries_from good.made)) (law good.made good.stands))
-
-  pub faulty_map : (at : At) (fault : Box Fault) → EntriesStandAs S writer reader nodes id at (Run.Faulty fault) vs
-      → StandsAs SO writer reader nodes (Node.map_of id) at (Made.Faulty fault) (Value.map_of (entries_from vs))
-  faulty_map Ignored fault h = absurd h
-  faulty_map (Pair w r) fault h = λ are is small.
-      let less : entries_size (entries_from vs) ≤ suc (entries_size (entries_from vs)) = omega arith in
-      subst (λ (xs : List (List ℕ × Value)). IsSmall (entries_size (entries_from xs)) → resolve writer reader (node_at writer w.0) (node_at reader r.0) (Value.map_of (entries_from xs)) ≡ Err (turned fault.value)) (append-nil vs) (h are is [])
-      (smaller (entries_size (entries_from vs)) (suc (entries_size (entries_from vs))) less small)

@@ -100,11 +100,6 @@ module _ {O : Type 0} (S : O → Value → Type 0) (writer reader : List Node) (
       fails : (v : Value) → stands (Made.Faulty fault) v → is_within limits v ≡ true → resolve_root writer reader v ≡ Err (fault_of from_root)
       fails v h within = law (Made.Faulty fault) v h (small_within limits v few within) ∙ ap as_fault (sym same)
 
-  pub not_nothing : (len : ℕ) → BuildsExactly stands writer n limits bytes (Ok (Made.Nothing, len)) → MakesResolved S writer reader stands → ⊥
-  not_nothing len there law =
-      let b = at_root (Ok (Made.Nothing, len)) there in
-      law Made.Nothing b.found.0 b.found.1 (small_within limits b.found.0 few b.found.4)
-
   pub unread : (e : ReadError) → BuildsExactly stands writer n limits bytes (Err e) → BuildsResolved S writer reader limits bytes (Err (ReadResolveError.Read e))
   unread e there =
       let b = at_root (Err e) there in

@@ -11,14 +11,14 @@ use Rattle.avro_resolve.specs.Copied.{ArePlain, IsAsSpelled}
 use Rattle.avro_resolve.proofs.Slots.{values_seen}
 
 -- the same fields
-module _ {ws xs rs ys : List FieldNode} (e : ws ≡ xs) (f : rs ≡ ys) (found : Sourced) where
-  pub plain_by : (reader nodes : List Node) (bytes ends : List ℕ) → nodes ≡ reader → ArePlain reader xs ys found bytes ends → ArePlain nodes ws rs found bytes ends
+module _ {rs ys : List FieldNode} (ws : List FieldNode) (f : rs ≡ ys) (found : Sourced) where
+  pub plain_by : (reader nodes : List Node) (bytes ends : List ℕ) → nodes ≡ reader → ArePlain reader ws ys found bytes ends → ArePlain nodes ws rs found bytes ends
   plain_by reader nodes bytes ends same h =
       subst (λ (ns : List Node). ArePlain ns ws rs found bytes ends) (sym same)
-      (subst (λ (gs : List FieldNode). ArePlain reader ws gs found bytes ends) (sym f) (subst (λ (gs : List FieldNode). ArePlain reader gs ys found bytes ends) (sym e) h))
+      (subst (λ (gs : List FieldNode). ArePlain reader ws gs found bytes ends) (sym f) h)
 
-  pub values_by : values_from (map (field_value ws found) rs) ≡ field_values xs found ys
-  values_by = sym (values_seen ws rs found) ∙ ap (λ (gs : List FieldNode). field_values gs found rs) e ∙ ap (field_values xs found) f
+  pub values_by : values_from (map (field_value ws found) rs) ≡ field_values ws found ys
+  values_by = sym (values_seen ws rs found) ∙ ap (field_values ws found) f
 
 -- a field's value, whose source is copied
 pub value_copied : (reader : List Node) (ws rs : List FieldNode) (found : Sourced) (bytes ends : List ℕ) (f : FieldNode) (k : ℕ) (content : List ℕ) → source_of ws f ≡ Some k → IsField f rs

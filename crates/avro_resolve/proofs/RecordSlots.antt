@@ -223,12 +223,6 @@ module _ {O F : Type 0} (S : O → Value → Type 0) (T : Option ℕ → F → L
       (reader_field ws rs (length vs)) fault (at_count a b (Made.Faulty fault) (length slots.items) good.counted stands) in
       record_fails S T writer reader wn rn slots.items start branch a b vs good v got.0 (turned fault.value) got.1 got.2 more ∙ ap as_fault (sym step)
 
-  pub field_after_fault : (at : At) (fault : Box Fault) → FieldsStandAs S T writer reader nodes fs at (Slots.Faulty fault) vs → FieldsStandAs S T writer reader nodes fs at (Slots.Faulty fault) (vs ++ v ∷ [])
-  field_after_fault Ignored fault h = absurd h
-  field_after_fault (Pair w r) fault h = λ are of_record more.
-      subst (λ (xs : List Value). IsSmall (values_size (values_from xs)) → resolve writer reader (node_at writer w.0) (node_at reader r.0) (Value.record_of (values_from xs)) ≡ Err (turned fault.value)) (sym (append_assoc vs (v ∷ []) more))
-      (h are of_record (v ∷ more))
-
 -- more fields, where one before has a fault
 pub fields_after_fault : {O F : Type 0} (S : O → Value → Type 0) (T : Option ℕ → F → List Value → Type 0) (writer reader nodes : List Node) (fs : List FieldNode) (vs ws : List Value) (at : At) (fault : Box Fault)
     → FieldsStandAs S T writer reader nodes fs at (Slots.Faulty fault) vs → FieldsStandAs S T writer reader nodes fs at (Slots.Faulty fault) (vs ++ ws)

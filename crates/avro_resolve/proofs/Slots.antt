@@ -2,7 +2,6 @@
 use Rattle.std.proofs.Common.{◌≡◌, ℕ, zero, suc, ◌+◌, ◌<◌, ◌≤◌, true, List, [], ◌∷◌, ◌++◌, drop, length, Option, Some, None, Result, Ok, Err, refl, sym, ap, ◌∙◌, subst, arith, ⊎_elim}
 use Rattle.std.specs.Prelude.{slice_index_or, slice_get, unwrap_or, map, bytes_eq, cond, ◌==◌}
 use Rattle.std.specs.List.{AllZip, flat_map}
-use Rattle.std.specs.Global.{Vec}
 use Rattle.std.proofs.lemmas.Bool.{cases_lt, cases_eq, cond-true, cond-false, eq-eqb, ne_eqb}
 use Rattle.std.proofs.lemmas.List.{append-nil, append_assoc, length_push}
 use Rattle.std.proofs.Math.ListN.{drop_of_length-le}
@@ -18,7 +17,7 @@ use Rattle.avro_compare.specs.Fault.{ResolutionFault}
 use Rattle.avro_compare.specs.Source.{source_of}
 use Rattle.avro_compare.specs.Resolve.{Sourced, sourced_at, resolve_sources, result_map, field_value, field_values, fields_at}
 use Rattle.avro_compare.specs.Fields.{IsField, here, later}
-use Rattle.avro_resolve.specs.Ends.{Slotted, SlotsAre, SlotsFor, IsSeen, slot_out, EndsSlot, EndsFound, field_step, Fails, AllBelow, before}
+use Rattle.avro_resolve.specs.Ends.{Slotted, SlotsAre, SlotsFor, IsSeen, slot_out, EndsSlot, field_step, Fails, AllBelow, before}
 use Rattle.avro_resolve.specs.declared.error.ResolveError.{ResolveError}
 use Rattle.avro_compare.proofs.public.Lists.{next_in, seen_next, get_past, get_before, get_last}
 use Rattle.avro_resolve.proofs.InOrder.{fails_mapped}
@@ -65,9 +64,6 @@ module _ {O : Type 0} (S : O → Value → Type 0) (ws : List FieldNode) (found 
   value_missing index slots e held h = value_sourced index e ∙ slotted_none S (slice_get slots index) (sourced_at found index) held (h f here index e)
 
 -- ---- The reader's fields in order
-
-pub all_slots : {O : Type 0} (S : O → Value → Type 0) (ws rs : List FieldNode) (found : Sourced) (slots : List (Option O)) → SlotsAre S found slots → SlotsFor S ws rs found slots
-all_slots S ws rs found slots h = λ g is k src. h k
 
 pub values_seen : (ws rs : List FieldNode) (found : Sourced) → field_values ws found rs ≡ values_from (map (field_value ws found) rs)
 values_seen ws [] found = refl
@@ -182,25 +178,6 @@ pub record FieldsSoFar (writer reader : List Node) (ws rs : List FieldNode) (val
   pub left : resolve_sources writer reader ws rs 0 (values_of values) ≡ result_map (before found) (resolve_sources writer reader ws rs i (values_of (drop i values)))
 
 module _ (writer reader : List Node) (ws rs : List FieldNode) (values : List Datum) where
-  pub none_so_far : FieldsSoFar writer reader ws rs values 0 []
-  none_so_far = record {
-    found = [];
-    count = refl;
-    below = tt;
-    stand = λ k. empty k;
-    left = unchanged (resolve_sources writer reader ws rs 0 (values_of values));
-  }
-    where
-      nothing : List (Option Datum)
-      nothing = []
-
-      empty : (k : ℕ) → Slotted IsSeen (slice_get nothing k) (sourced_at [] k)
-      empty k = refl
-
-      unchanged : (r : Result Sourced ResolutionFault) → r ≡ result_map (before []) r
-      unchanged (Ok found) = refl
-      unchanged (Err e) = refl
-
   at_field : (i : ℕ) (d : Datum) → i < length values → resolve_sources writer reader ws rs i (values_of (drop i values))
       ≡ field_step writer reader ws rs i (value_of (slice_index_or values i d)) (resolve_sources writer reader ws rs (suc i) (values_of (drop (i + 1) values)))
   at_field i d low = ap (λ (xs : List Datum). resolve_sources writer reader ws rs i (values_of xs)) (next_in values i d low)
@@ -247,8 +224,3 @@ module _ (writer reader : List Node) (ws rs : List FieldNode) (values : List Dat
   field_fails i d slots e low step h =
       subst (Fails e) (sym (h.left ∙ ap (result_map (before h.found)) (at_field i d low))) (fails_mapped e (before h.found) (field_step writer reader ws rs i (value_of (slice_index_or values i d)) (resolve_sources writer reader ws rs (suc i) (values_of (drop (i + 1) values))))
       (step (resolve_sources writer reader ws rs (suc i) (values_of (drop (i + 1) values)))))
-
-  pub fields_done : (i : ℕ) (slots : Vec (Option Datum)) → length values ≤ i → FieldsSoFar writer reader ws rs values i slots.items
-      → EndsFound (Ok slots) (resolve_sources writer reader ws rs 0 (values_of values))
-  fields_done i slots high h =
-      (h.found, h.left ∙ ap (λ (xs : List Datum). result_map (before h.found) (resolve_sources writer reader ws rs i (values_of xs))) (drop_of_length-le values high) ∙ ap (λ (zs : Sourced). Ok zs) (append-nil h.found), h.stand)

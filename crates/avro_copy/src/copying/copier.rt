@@ -6,7 +6,7 @@ ghost use Rattle.std.specs.Coded.{codes};
 ghost use Rattle.avro_schema.specs.contracts.datum.Datum as datum;
 ghost use Rattle.avro_container.specs.Held.{held};
 ghost use Rattle.avro_container.specs.HeaderTaken.{header_value};
-ghost use Rattle.avro_container.specs.NoBytes.{PacksNoBytes};
+ghost use Rattle.avro_copy.specs.inside.DataPacked.{IsKeptOf};
 ghost use Rattle.avro_copy.specs.Steps.{reading_of};
 ghost use Rattle.avro_copy.specs.TaskSeen.{job_of};
 
@@ -14,7 +14,7 @@ use crate::copying::Step;
 use crate::copying::block::copy_block;
 use crate::copying::header::copy_header;
 use crate::copying::opened::Opened;
-use crate::copying::state::{Store, Task};
+use crate::copying::state::{BlockTask, Store, Task};
 use avro_container::{CopyError, FileLimits};
 use avro_device::{Input, Output};
 use avro_schema_json::ReaderText;
@@ -28,14 +28,12 @@ pub struct Copier<'a> {
     pub(crate) opened: Option<Opened<'a>>,
     pub(crate) blocks: u64,
     pub(crate) store: Store,
-    // the plain encoding that a datum without bytes is copied as, if one was read
-    pub(crate) empty: Option<Vec<u8>>,
     pub(crate) ended: bool,
     pub(crate) failed: bool,
     ghost near: { length (held store.buffer) ≤ task.limits.block + 36 },
     // nothing is held before the header
     ghost none_yet: { opened ≡ None → held store.buffer ≡ [] },
-    ghost known: { ForSome opened (λ o. ForSome empty (λ unit. ∥ PacksNoBytes (reading_of (job_of task) task.limits (header_value o.0)) unit.items ∥₁)) },
+    ghost known: { ForSome opened (λ o. IsKeptOf (reading_of (job_of task) task.limits (header_value o.0)) store.empty) },
     // the data are read for the task's reader
     ghost same: { ForSome opened (λ o. o.1 ≡ option_copied task.reader) } by { Prim.hlevel (codes, datum.the_row.coded) },
 }
@@ -74,7 +72,6 @@ impl<'a> Copier<'a> {
             opened: None,
             blocks: 0,
             store: Store::new(alloc),
-            empty: None,
             ended: false,
             failed: false,
         }
@@ -148,19 +145,13 @@ impl<'a> Copier<'a> {
     {
         match &self.opened {
             Some(opened) => {
-                let number = self.blocks;
-                let header = opened.header();
-                let plan = opened.plan();
-                match copy_block(
-                    input,
-                    output,
-                    &mut self.store,
-                    number,
-                    &self.task,
-                    header,
-                    &plan,
-                    &mut self.empty,
-                )? {
+                let block = BlockTask {
+                    number: self.blocks,
+                    task: &self.task,
+                    header: opened.header(),
+                    plan: opened.plan(),
+                };
+                match copy_block(input, output, &mut self.store, &block)? {
                     Some(count) => {
                         self.blocks += 1;
                         Ok(Step::Block(u64::from(count)))
@@ -173,7 +164,7 @@ impl<'a> Copier<'a> {
             }
             None => {
                 let opened = copy_header(self.alloc, input, output, &mut self.store, &self.task)?;
-                self.empty = None;
+                self.store.empty = None;
                 self.opened = Some(opened);
                 Ok(Step::Header)
             }

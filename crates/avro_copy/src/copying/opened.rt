@@ -43,8 +43,7 @@ impl<'a> Model for Opened<'a> {
 
 impl<'a> Opened<'a> {
     ghost use Rattle.std.specs.Prelude.{◌≡◌, IfOk, option_map};
-    ghost use Rattle.std.specs.Option.{IfSome, option_copied};
-    ghost use Rattle.avro_schema.specs.SeenSchema.{schema_nodes};
+    ghost use Rattle.std.specs.Option.{option_copied};
 
     /// A header whose data are read for this reader, or as they are if there is none.
     ///
@@ -83,8 +82,7 @@ impl<'a> Opened<'a> {
 
     /// The plan by which its data are read, if there is a reader.
     pub(crate) fn plan(&self) -> Option<PlanRef<'_>>
-        ensures of_writer { IfSome result (λ p. p.0 ≡ self.now.0.schema) }
-        ensures of_reader { option_map (λ p. schema_nodes p.1) result ≡ option_map (λ r. schema_nodes r.1) self.now.1 }
+        ensures { result ≡ option_map (λ r. (self.now.0.schema, r.1)) self.now.1 }
     {
         match &self.target {
             Some(target) => {

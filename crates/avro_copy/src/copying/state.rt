@@ -1,6 +1,12 @@
-//! What a copier is to do, and what it keeps from block to block.
+//! What a copier is to do, what a block is copied by, and what is kept from block to block.
 
-use avro_container::{Buffer, FileLimits};
+ghost use Rattle.std.specs.Prelude.{◌≡◌, option_map};
+ghost use Rattle.std.specs.Option.{option_copied};
+ghost use Rattle.std.specs.Coded.{codes};
+ghost use Rattle.avro_schema.specs.contracts.datum.Datum as datum;
+
+use avro_container::{Buffer, FileLimits, Header};
+use avro_resolve::PlanRef;
 use avro_schema_json::ReaderText;
 use std::alloc::Global;
 
@@ -12,16 +18,30 @@ pub(crate) struct Task<'a> {
     pub(crate) limits: FileLimits,
 }
 
-/// The buffers kept from block to block: the bytes taken, the data packed, and the block to put.
+/// What a block is copied by: the number of earlier ones, the copier's task, the header of the file, and the plan, if there
+/// is a reader.
+#[derive(Drop)]
+pub(crate) struct BlockTask<'a> {
+    pub(crate) number: u64,
+    pub(crate) task: &'a Task<'a>,
+    pub(crate) header: &'a Header,
+    pub(crate) plan: Option<PlanRef<'a>>,
+    // the plan is of the header's schema and the reader's
+    ghost planned: { plan ≡ option_map (λ r. (header.now.schema, r.1)) (option_copied task.now.reader) } by { Prim.hlevel (codes, datum.the_row.coded) },
+}
+
+/// What is kept from block to block: the bytes taken, the data packed, the block to put, and the plain encoding that a datum
+/// without bytes is copied as, if one was read.
 #[derive(Drop)]
 pub(crate) struct Store {
     pub(crate) buffer: Buffer,
     pub(crate) packed: Vec<u8>,
     pub(crate) block: Vec<u8>,
+    pub(crate) empty: Option<Vec<u8>>,
 }
 
 impl Store {
-    ghost use Rattle.std.specs.Prelude.{◌≡◌, []};
+    ghost use Rattle.std.specs.Prelude.{[]};
     ghost use Rattle.avro_container.specs.Held.{held};
 
     /// An empty store.
@@ -32,6 +52,7 @@ impl Store {
             buffer: Buffer::new(alloc),
             packed: Vec::new(alloc),
             block: Vec::new(alloc),
+            empty: None,
         }
     }
 

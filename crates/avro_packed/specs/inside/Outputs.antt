@@ -1,6 +1,6 @@
 -- Outputs that grow, and what stands in them.
-use Rattle.std.proofs.Common.{◌≡◌, ℕ, List, [], ◌∷◌, ◌++◌, ◌-◌, ◌≤◌, length, take, drop, refl, sym, ap, ◌∙◌, append_assoc, length-append, arith}
-use Rattle.std.proofs.lemmas.List.{append-nil, take_at, drop_at}
+use Rattle.std.proofs.Common.{◌≡◌, ℕ, List, [], ◌∷◌, ◌++◌, length, take, refl, sym, ap, ◌∙◌, append_assoc, length-append, arith}
+use Rattle.std.proofs.lemmas.List.{append-nil, take_at}
 use Rattle.avro_packed.specs.Appended.{Grows, StandsAt, Holds}
 use Rattle.avro_packed.specs.declared.written.Written.{Written}
 
@@ -25,6 +25,7 @@ stands_still s t start end bytes kept stand = record {
 pub still_holds : (s t : List ℕ) (w : Written) (bytes : List ℕ) → Grows s t → Holds s w bytes → Holds t w bytes
 still_holds s t (Written.Range start end) bytes kept holds = stands_still s t start end bytes kept holds
 still_holds s t (Written.Apart apart) bytes kept holds = (holds.0, stands_still s t apart.value.start apart.value.end holds.0 kept holds.1, holds.2)
+still_holds s t (Written.Counted count) bytes kept holds = holds
 
 -- the end of an output
 pub stands_last : (out before bytes : List ℕ) (start end : ℕ) → out ≡ before ++ bytes → start ≡ length before → end ≡ length out → StandsAt out start end bytes
@@ -35,19 +36,6 @@ stands_last out before bytes start end split starts ends = record {
   starts = starts;
   ends = omega (arith, ends, starts, ap length split, length-append before bytes);
 }
-
--- what stands in an output, as it is taken of it
-pub taken_at : (out : List ℕ) (start end : ℕ) (bytes : List ℕ) → StandsAt out start end bytes → take (end - start) (drop start out) ≡ bytes
-taken_at out start end bytes stand =
-    let back : drop start out ≡ bytes ++ stand.rest =
-    ap (drop start) (stand.split ∙ append_assoc stand.before bytes stand.rest) ∙ drop_at stand.before (bytes ++ stand.rest) start (sym stand.starts) in
-    ap (take (end - start)) back ∙ take_at bytes stand.rest (end - start) (omega (arith, stand.ends))
-
-pub ends_inside : (out : List ℕ) (start end : ℕ) (bytes : List ℕ) → StandsAt out start end bytes → (start ≤ end) × (end ≤ length out)
-ends_inside out start end bytes stand = (
-  omega (arith, stand.ends),
-  omega (arith, stand.ends, stand.starts, ap length stand.split, length-append (stand.before ++ bytes) stand.rest, length-append stand.before bytes),
-)
 
 -- two parts of which one ends where the other starts
 pub stands_joined : (out : List ℕ) (start middle end : ℕ) (a b : List ℕ) → StandsAt out start middle a → StandsAt out middle end b → StandsAt out start end (a ++ b)
@@ -75,8 +63,3 @@ holds_joined out start middle end more a b front first second is =
 pub none_between : (out : List ℕ) (start end : ℕ) (bytes : List ℕ) → StandsAt out start end bytes → start ≡ end → bytes ≡ []
 none_between out start end [] stand same = refl
 none_between out start end (b ∷ bytes) stand same = absurd (omega (arith, stand.ends, same))
-
--- what was written apart, where the output has nothing of it
-pub apart_alone : (out : List ℕ) (start end : ℕ) (more bytes front : List ℕ) → StandsAt out start end front → bytes ≡ front ++ more → start ≡ end → more ≡ bytes
-apart_alone out start end more bytes front stand is same =
-    sym (is ∙ ap (λ (l : List ℕ). l ++ more) (none_between out start end front stand same))

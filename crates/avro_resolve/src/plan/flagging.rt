@@ -8,7 +8,7 @@ ghost use Rattle.avro_compare.specs.Planned.{AreComparisons, AreSources, IsCompa
 ghost use Rattle.avro_compare.specs.Resolve.{fields_at};
 ghost use Rattle.avro_resolve.specs.Copied.{AreCopied, AreFlags, CopiedFrom, IsCopied, IsStraight, is_as_written};
 
-use crate::plan::keeping::aim_kept;
+use crate::plan::keeping::{Kept, aim_kept};
 use crate::plan::plan_ref::index_at;
 use avro_compare::{Aim, Comparison, fields_of, first_entry, rest_entries};
 use avro_schema::{Field, Memory, Node, NodeId, Schema};
@@ -154,7 +154,8 @@ fn is_copied(
     requires { AreComparisons (schema_nodes writer.now) (schema_nodes reader.now) pairs.now }
     ensures { result ≡ true → IsCopied (schema_nodes writer.now) (schema_nodes reader.now) (node_at (schema_nodes writer.now) w.0) (node_at (schema_nodes reader.now) r.0) }
 {
-    match aim_kept(pairs, None, index, writer, w, reader, r) {
+    let kept = Kept { pairs, order: None };
+    match aim_kept(kept, index, writer, w, reader, r) {
         Aim::To(None, q) => {
             if q != r {
                 return false;

@@ -14,6 +14,13 @@ use avro_compare::{
 };
 use avro_schema::{NodeId, Schema};
 
+/// What is kept of pairs of nodes, and the order by which the index of a pair is found, if there is one.
+#[derive(Clone, Copy)]
+pub(crate) struct Kept<'p> {
+    pub(crate) pairs: &'p [Comparison],
+    pub(crate) order: Option<&'p PairOrder>,
+}
+
 /// What is kept at an index, if it is of these two nodes.
 #[inline(always)]
 fn pair_of(pairs: &[Comparison], index: u32, w: NodeId, r: NodeId) -> Option<&Comparison>
@@ -32,17 +39,12 @@ fn pair_of(pairs: &[Comparison], index: u32, w: NodeId, r: NodeId) -> Option<&Co
 }
 
 /// What is kept of two nodes, where the order of the pairs has them.
-fn pair_by<'p>(
-    pairs: &'p [Comparison],
-    order: Option<&PairOrder>,
-    w: NodeId,
-    r: NodeId,
-) -> Option<&'p Comparison>
-    ensures { (writer reader : List Node) → AreComparisons writer reader pairs.now
+fn pair_by<'p>(kept: Kept<'p>, w: NodeId, r: NodeId) -> Option<&'p Comparison>
+    ensures { (writer reader : List Node) → AreComparisons writer reader kept.entry.pairs.now
         → IfSome result (λ p. IsComparison writer reader p.now × (p.now.w ≡ w) × (p.now.r ≡ r)) }
 {
-    match order {
-        Some(order) => pair_of(pairs, order.index_of(w, r), w, r),
+    match kept.order {
+        Some(order) => pair_of(kept.pairs, order.index_of(w, r), w, r),
         None => None,
     }
 }
@@ -51,16 +53,11 @@ fn pair_by<'p>(
 /// through where it is passed the indices.
 #[cold]
 #[inline(never)]
-fn inside_by<'p>(
-    pairs: &'p [Comparison],
-    order: Option<&PairOrder>,
-    w: NodeId,
-    q: NodeId,
-) -> Option<&'p Comparison>
-    ensures { (writer reader : List Node) → AreComparisons writer reader pairs.now
+fn inside_by<'p>(kept: Kept<'p>, w: NodeId, q: NodeId) -> Option<&'p Comparison>
+    ensures { (writer reader : List Node) → AreComparisons writer reader kept.entry.pairs.now
         → IfSome result (λ p. AreInside (node_at writer w.0) (node_at reader q.0) p.now) }
 {
-    match pair_by(pairs, order, w, q) {
+    match pair_by(kept, w, q) {
         Some(pair) => match pair.aim {
             Aim::To(None, _) => Some(pair),
             Aim::To(Some(_), _) => None,
@@ -72,23 +69,17 @@ fn inside_by<'p>(
 
 /// What is kept of two nodes and inside them, at an index or else where the order of the pairs has them.
 #[inline(always)]
-fn inside_of<'p>(
-    pairs: &'p [Comparison],
-    order: Option<&PairOrder>,
-    index: u32,
-    w: NodeId,
-    q: NodeId,
-) -> Option<&'p Comparison>
-    ensures { (writer reader : List Node) → AreComparisons writer reader pairs.now
+fn inside_of<'p>(kept: Kept<'p>, index: u32, w: NodeId, q: NodeId) -> Option<&'p Comparison>
+    ensures { (writer reader : List Node) → AreComparisons writer reader kept.entry.pairs.now
         → IfSome result (λ p. AreInside (node_at writer w.0) (node_at reader q.0) p.now) }
 {
-    match pair_of(pairs, index, w, q) {
+    match pair_of(kept.pairs, index, w, q) {
         Some(pair) => match pair.aim {
             Aim::To(None, _) => Some(pair),
             Aim::To(Some(_), _) => None,
             Aim::Fault(_) => None,
         },
-        None => inside_by(pairs, order, w, q),
+        None => inside_by(kept, w, q),
     }
 }
 
@@ -96,19 +87,12 @@ fn inside_of<'p>(
 /// well.
 #[cold]
 #[inline(never)]
-fn aim_by(
-    pairs: &[Comparison],
-    order: Option<&PairOrder>,
-    writer: &Schema,
-    w: NodeId,
-    reader: &Schema,
-    r: NodeId,
-) -> Aim
-    requires { AreComparisons (schema_nodes writer.now) (schema_nodes reader.now) pairs.now }
+fn aim_by(kept: Kept<'_>, writer: &Schema, w: NodeId, reader: &Schema, r: NodeId) -> Aim
+    requires { AreComparisons (schema_nodes writer.now) (schema_nodes reader.now) kept.pairs.now }
     ensures { IsAim (schema_nodes writer.now) (schema_nodes reader.now)
         (node_at (schema_nodes writer.now) w.0) (node_at (schema_nodes reader.now) r.0) result }
 {
-    match pair_by(pairs, order, w, r) {
+    match pair_by(kept, w, r) {
         Some(pair) => pair.aim,
         None => aim(writer, w, reader, r),
     }
@@ -117,39 +101,37 @@ fn aim_by(
 /// Where a pair of nodes leads, as it is kept at an index or else by name.
 #[inline(always)]
 pub(crate) fn aim_kept(
-    pairs: &[Comparison],
-    order: Option<&PairOrder>,
+    kept: Kept<'_>,
     index: u32,
     writer: &Schema,
     w: NodeId,
     reader: &Schema,
     r: NodeId,
 ) -> Aim
-    requires { AreComparisons (schema_nodes writer.now) (schema_nodes reader.now) pairs.now }
+    requires { AreComparisons (schema_nodes writer.now) (schema_nodes reader.now) kept.pairs.now }
     ensures { IsAim (schema_nodes writer.now) (schema_nodes reader.now)
         (node_at (schema_nodes writer.now) w.0) (node_at (schema_nodes reader.now) r.0) result }
 {
-    match pair_of(pairs, index, w, r) {
+    match pair_of(kept.pairs, index, w, r) {
         Some(pair) => pair.aim,
-        None => aim_by(pairs, order, writer, w, reader, r),
+        None => aim_by(kept, writer, w, reader, r),
     }
 }
 
 /// The reader's first field without a source and a default, as it is kept at an index or else by name.
 #[inline(always)]
 pub(crate) fn missing_kept(
-    pairs: &[Comparison],
-    order: Option<&PairOrder>,
+    kept: Kept<'_>,
     index: u32,
     writer: &Schema,
     w: NodeId,
     reader: &Schema,
     q: NodeId,
 ) -> Option<usize>
-    requires { AreComparisons (schema_nodes writer.now) (schema_nodes reader.now) pairs.now }
+    requires { AreComparisons (schema_nodes writer.now) (schema_nodes reader.now) kept.pairs.now }
     ensures { result ≡ missing_field (fields_at (node_at (schema_nodes writer.now) w.0)) (fields_at (node_at (schema_nodes reader.now) q.0)) }
 {
-    match inside_of(pairs, order, index, w, q) {
+    match inside_of(kept, index, w, q) {
         Some(pair) => pair.missing,
         None => missing(fields_of(writer, w), fields_of(reader, q)),
     }
@@ -182,18 +164,17 @@ pub(crate) fn whole_kept(
 /// What the writer's fields are for, if it is kept at an index.
 #[inline(always)]
 pub(crate) fn fields_kept<'p>(
-    pairs: &'p [Comparison],
-    order: Option<&PairOrder>,
+    kept: Kept<'p>,
     index: u32,
     writer: &Schema,
     w: NodeId,
     reader: &Schema,
     q: NodeId,
 ) -> Option<&'p [(usize, At)]>
-    requires { AreComparisons (schema_nodes writer.now) (schema_nodes reader.now) pairs.now }
+    requires { AreComparisons (schema_nodes writer.now) (schema_nodes reader.now) kept.pairs.now }
     ensures { IfSome result (λ known. AreFor (fields_at (node_at (schema_nodes writer.now) w.0)) (fields_at (node_at (schema_nodes reader.now) q.0)) known.now) }
 {
-    match inside_of(pairs, order, index, w, q) {
+    match inside_of(kept, index, w, q) {
         Some(pair) => Some(&pair.fields),
         None => None,
     }
@@ -231,18 +212,17 @@ pub(crate) fn field_kept(
 /// The sources of the reader's fields, if they are kept at an index.
 #[inline(always)]
 pub(crate) fn sources_kept<'p>(
-    pairs: &'p [Comparison],
-    order: Option<&PairOrder>,
+    kept: Kept<'p>,
     index: u32,
     writer: &Schema,
     w: NodeId,
     reader: &Schema,
     q: NodeId,
 ) -> Option<&'p [(usize, usize)]>
-    requires { AreComparisons (schema_nodes writer.now) (schema_nodes reader.now) pairs.now }
+    requires { AreComparisons (schema_nodes writer.now) (schema_nodes reader.now) kept.pairs.now }
     ensures { IfSome result (λ sources. AreSources (fields_at (node_at (schema_nodes writer.now) w.0)) (fields_at (node_at (schema_nodes reader.now) q.0)) sources.now) }
 {
-    match inside_of(pairs, order, index, w, q) {
+    match inside_of(kept, index, w, q) {
         Some(pair) => Some(&pair.sources),
         None => None,
     }
@@ -250,8 +230,7 @@ pub(crate) fn sources_kept<'p>(
 
 /// The reader's symbol for a writer's, as it is kept at an index or else by name.
 pub(crate) fn symbol_kept(
-    pairs: &[Comparison],
-    order: Option<&PairOrder>,
+    kept: Kept<'_>,
     index: u32,
     writer: &Schema,
     w: NodeId,
@@ -259,10 +238,10 @@ pub(crate) fn symbol_kept(
     reader: &Schema,
     q: NodeId,
 ) -> Option<u32>
-    requires { AreComparisons (schema_nodes writer.now) (schema_nodes reader.now) pairs.now }
+    requires { AreComparisons (schema_nodes writer.now) (schema_nodes reader.now) kept.pairs.now }
     ensures { IsSymbol (enum_as (symbol_at (node_at (schema_nodes writer.now) w.0) symbol) (node_at (schema_nodes reader.now) q.0)) result }
 {
-    match inside_of(pairs, order, index, w, q) {
+    match inside_of(kept, index, w, q) {
         Some(pair) => {
             if (symbol as usize) < pair.symbols.len() {
                 return pair.symbols[symbol as usize];

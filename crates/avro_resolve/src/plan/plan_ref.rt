@@ -4,7 +4,7 @@ ghost use Rattle.avro_resolve.specs.inside.Guided.{kept_or};
 use crate::error::ReadResolveError;
 use crate::plan::flagging::{is_set, straight_kept};
 use crate::plan::keeping::{
-    aim_kept, field_kept, fields_kept, missing_kept, sources_kept, symbol_kept, whole_kept,
+    Kept, aim_kept, field_kept, fields_kept, missing_kept, sources_kept, symbol_kept, whole_kept,
 };
 use crate::plan::pair_order::PairOrder;
 use crate::plan::parts::{branch_of, items_of, values_of};
@@ -22,11 +22,10 @@ use std::marker::Model;
 pub struct PlanRef<'a> {
     writer: &'a Schema,
     reader: &'a Schema,
-    pairs: &'a [Comparison],
+    kept: Kept<'a>,
     parts: &'a [Vec<u32>],
     flags: &'a [bool],
     root: u32,
-    order: &'a PairOrder,
 }
 
 impl<'a> Model for PlanRef<'a> {
@@ -43,8 +42,8 @@ impl<'a> Model for PlanRef<'a> {
 
     ghost view = { λ p. (p.writer.now, p.reader.now) };
 
-    ghost invariant = { λ p. AreComparisons (schema_nodes p.writer.now) (schema_nodes p.reader.now) p.pairs.now
-        × AreFlags (schema_nodes p.writer.now) (schema_nodes p.reader.now) p.pairs.now p.flags.now };
+    ghost invariant = { λ p. AreComparisons (schema_nodes p.writer.now) (schema_nodes p.reader.now) p.kept.pairs.now
+        × AreFlags (schema_nodes p.writer.now) (schema_nodes p.reader.now) p.kept.pairs.now p.flags.now };
 }
 
 impl<'a> PlanRef<'a> {
@@ -78,11 +77,13 @@ impl<'a> PlanRef<'a> {
         PlanRef {
             writer,
             reader,
-            pairs,
+            kept: Kept {
+                pairs,
+                order: Some(order),
+            },
             parts,
             flags,
             root,
-            order,
         }
     }
 
@@ -180,15 +181,7 @@ impl<'a> PlanRef<'a> {
         ensures { IsAim (schema_nodes self.now.0) (schema_nodes self.now.1)
             (node_at (schema_nodes self.now.0) w.0) (node_at (schema_nodes self.now.1) r.0) result }
     {
-        aim_kept(
-            self.pairs,
-            Some(self.order),
-            index,
-            self.writer,
-            w,
-            self.reader,
-            r,
-        )
+        aim_kept(self.kept, index, self.writer, w, self.reader, r)
     }
 
     /// The nodes of the items of two nodes.
@@ -235,15 +228,7 @@ impl<'a> PlanRef<'a> {
     pub(crate) fn missing(&self, index: u32, w: NodeId, q: NodeId) -> Option<usize>
         ensures { result ≡ missing_field (fields_at (node_at (schema_nodes self.now.0) w.0)) (fields_at (node_at (schema_nodes self.now.1) q.0)) }
     {
-        missing_kept(
-            self.pairs,
-            Some(self.order),
-            index,
-            self.writer,
-            w,
-            self.reader,
-            q,
-        )
+        missing_kept(self.kept, index, self.writer, w, self.reader, q)
     }
 
     /// What the writer's fields are for, where two nodes lead to each other, no field is missing, and this is kept.
@@ -251,7 +236,7 @@ impl<'a> PlanRef<'a> {
     pub(crate) fn whole(&self, index: u32, w: NodeId, r: NodeId) -> Option<&'a [(usize, At)]>
         ensures { IfSome result (λ known. IsWhole (schema_nodes self.now.0) (schema_nodes self.now.1) w r known.now) }
     {
-        whole_kept(self.pairs, index, w, r)
+        whole_kept(self.kept.pairs, index, w, r)
     }
 
     /// What the writer's fields are for, if it is kept.
@@ -259,15 +244,7 @@ impl<'a> PlanRef<'a> {
     pub(crate) fn fields(&self, index: u32, w: NodeId, q: NodeId) -> Option<&'a [(usize, At)]>
         ensures { IfSome result (λ known. AreFor (fields_at (node_at (schema_nodes self.now.0) w.0)) (fields_at (node_at (schema_nodes self.now.1) q.0)) known.now) }
     {
-        fields_kept(
-            self.pairs,
-            Some(self.order),
-            index,
-            self.writer,
-            w,
-            self.reader,
-            q,
-        )
+        fields_kept(self.kept, index, self.writer, w, self.reader, q)
     }
 
     /// What the writer's field at an index is for, by what is known from there on.
@@ -289,15 +266,7 @@ impl<'a> PlanRef<'a> {
     pub(crate) fn sources(&self, index: u32, w: NodeId, q: NodeId) -> Option<&[(usize, usize)]>
         ensures { IfSome result (λ sources. AreSources (fields_at (node_at (schema_nodes self.now.0) w.0)) (fields_at (node_at (schema_nodes self.now.1) q.0)) sources.now) }
     {
-        sources_kept(
-            self.pairs,
-            Some(self.order),
-            index,
-            self.writer,
-            w,
-            self.reader,
-            q,
-        )
+        sources_kept(self.kept, index, self.writer, w, self.reader, q)
     }
 
     /// Whether the pair at an index is flagged as straight.
@@ -312,7 +281,7 @@ impl<'a> PlanRef<'a> {
         ensures { IfSome result (λ sources. IsStraight (schema_nodes self.now.0) (schema_nodes self.now.1) w r
             × AreSources (fields_at (node_at (schema_nodes self.now.0) w.0)) (fields_at (node_at (schema_nodes self.now.1) r.0)) sources.now) }
     {
-        straight_kept(self.pairs, self.flags, index, w, r)
+        straight_kept(self.kept.pairs, self.flags, index, w, r)
     }
 
     /// The reader's symbol for a writer's.
@@ -320,16 +289,7 @@ impl<'a> PlanRef<'a> {
     pub(crate) fn symbol(&self, index: u32, w: NodeId, symbol: u32, q: NodeId) -> Option<u32>
         ensures { IsSymbol (enum_as (symbol_at (node_at (schema_nodes self.now.0) w.0) symbol) (node_at (schema_nodes self.now.1) q.0)) result }
     {
-        symbol_kept(
-            self.pairs,
-            Some(self.order),
-            index,
-            self.writer,
-            w,
-            symbol,
-            self.reader,
-            q,
-        )
+        symbol_kept(self.kept, index, self.writer, w, symbol, self.reader, q)
     }
 }
 

@@ -23,6 +23,13 @@ use avro_schema::{Field, Node, NodeId, Schema};
 use avro_zigzag::starts_shortest;
 use std::alloc::{AllocError, Global};
 
+/// The encodings of the fields of a record, one after another: each stands from one end to the next.
+#[derive(Clone, Copy)]
+struct Pieces<'b> {
+    bytes: &'b [u8],
+    ends: &'b [usize],
+}
+
 /// What is made of a record whose pair is straight, or `None` where a field is not spelled as it is written.
 #[inline(always)]
 pub(crate) fn copy_record<P: Put>(
@@ -42,13 +49,11 @@ pub(crate) fn copy_record<P: Put>(
         At::Ignored => Ok(None),
         At::Pair(w, r) => match plan.straight(plan.index_of(part), w, r) {
             Some(sources) => {
-                let writes = fields_of(plan.writer(), w);
-                let reads = fields_of(plan.reader(), r);
                 let reader = plan.reader();
+                let reads = fields_of(reader, r);
+                let pieces = Pieces { bytes, ends: &ends };
                 let start = builder.fields(alloc, None)?;
-                match copy_fields(
-                    alloc, builder, reader, writes, reads, sources, bytes, &ends, start,
-                )? {
+                match copy_fields(alloc, builder, reader, reads, sources, pieces, start)? {
                     Some(fields) => {
                         let out = builder.record(alloc, fields)?;
                         builder.keep_ends(ends);
@@ -68,17 +73,15 @@ fn copy_fields<P: Put>(
     alloc: Global,
     builder: &mut P,
     reader: &Schema,
-    writes: &[Field],
     reads: &[Field],
     sources: &[(usize, usize)],
-    bytes: &[u8],
-    ends: &[usize],
+    pieces: Pieces<'_>,
     start: P::Fields,
 ) -> Result<Option<P::Fields>, AllocError>
-    requires { AreSources (seen_fields writes.now) (seen_fields reads.now) sources.now }
     ensures kept { OnOk result (P.keeps builder.old builder.new) }
-    ensures stands { (found : Sourced) → ArePlain (schema_nodes reader.now) (seen_fields writes.now) (seen_fields reads.now) found bytes.now ends.now → P.fields_stand_for builder.old None start []
-        → IfOk result (λ o. IfSome o (λ fields. P.fields_stand_for builder.new None fields (map (field_value (seen_fields writes.now) found) (seen_fields reads.now)))) }
+    ensures stands { (ws : List FieldNode) (found : Sourced) → AreSources ws (seen_fields reads.now) sources.now
+        → ArePlain (schema_nodes reader.now) ws (seen_fields reads.now) found pieces.entry.bytes.now pieces.entry.ends.now → P.fields_stand_for builder.old None start []
+        → IfOk result (λ o. IfSome o (λ fields. P.fields_stand_for builder.new None fields (map (field_value ws found) (seen_fields reads.now)))) }
 {
     let mut fields = start;
     let mut left = sources;
@@ -86,7 +89,7 @@ fn copy_fields<P: Put>(
         let f = &reads[index];
         let source = first_entry(left, index);
         left = rest_entries(left, index);
-        match copy_field(alloc, builder, reader, source, f, bytes, ends)? {
+        match copy_field(alloc, builder, reader, source, f, pieces)? {
             Some(value) => builder.field(alloc, &mut fields, value)?,
             None => return Ok(None),
         }
@@ -102,15 +105,14 @@ fn copy_field<P: Put>(
     reader: &Schema,
     source: Option<usize>,
     f: &Field,
-    bytes: &[u8],
-    ends: &[usize],
+    pieces: Pieces<'_>,
 ) -> Result<Option<P::Out>, AllocError>
     ensures kept { OnOk result (P.keeps builder.old builder.new) }
-    ensures stands { (ws rs : List FieldNode) (found : Sourced) → source ≡ source_of ws (field_of f.now) → IsField (field_of f.now) rs → ArePlain (schema_nodes reader.now) ws rs found bytes.now ends.now
+    ensures stands { (ws rs : List FieldNode) (found : Sourced) → source ≡ source_of ws (field_of f.now) → IsField (field_of f.now) rs → ArePlain (schema_nodes reader.now) ws rs found pieces.entry.bytes.now pieces.entry.ends.now
         → IfOk result (λ o. IfSome o (λ out. P.stands_for builder.new out (field_value ws found (field_of f.now)))) }
 {
     match source {
-        Some(field) => match piece_of(bytes, ends, field) {
+        Some(field) => match piece_of(pieces, field) {
             Some(content) => {
                 if !is_as_written(reader, f.node, content) {
                     return Ok(None);
@@ -140,9 +142,10 @@ fn put_default<P: Put>(alloc: Global, builder: &mut P, f: &Field) -> Result<P::O
 
 /// The encoding of a field, by its index, among the encodings of some fields.
 #[inline(always)]
-fn piece_of<'b>(bytes: &'b [u8], ends: &[usize], field: usize) -> Option<&'b [u8]>
-    ensures { IfSome result (λ content. content.now ≡ piece bytes.now ends.now field) }
+fn piece_of<'b>(pieces: Pieces<'b>, field: usize) -> Option<&'b [u8]>
+    ensures { IfSome result (λ content. content.now ≡ piece pieces.entry.bytes.now pieces.entry.ends.now field) }
 {
+    let (bytes, ends) = (pieces.bytes, pieces.ends);
     if field >= ends.len() {
         return None;
     }

@@ -31,12 +31,12 @@ returns-in_ok-append_apart-in-Apart-second c = λ a b first second.
     let out = c.args.out.now in
     let front = subst (λ w. Holds out w a) c.in-Range.is first in
     let back = subst (λ w. Holds out w b) c.in-Apart-second.is second in
-    let here = subst (λ (r : Apart). StandsAt out r.start r.end back.0) (sym c.deref-in-Apart-second.ensures) back.1 in
+    let here = subst (λ (r : Apart). StandsAt out r.start r.end back.0) (sym c.deref-in-Apart-second-3.ensures) back.1 in
     let empty : c.deref_mut-in-Apart-second.result.now.more.items ≡ [] =
     ap (λ (r : Apart). r.more.items) c.deref_mut-in-Apart-second.ensures.value ∙ c.in_ok-all-in-Apart-second.ensures in
     let all : c.append_apart.new.to.items ≡ b =
-    c.in_ok-append_apart-in-Apart-second.ensures.appended back.0 here ∙ ap (λ (l : List ℕ). (l ++ back.0) ++ c.deref-in-Apart-second.result.now.more.items) empty
-    ∙ ap (λ (r : Apart). back.0 ++ r.more.items) c.deref-in-Apart-second.ensures ∙ sym back.2 in
+    c.in_ok-append_apart-in-Apart-second.ensures.appended back.0 here ∙ ap (λ (l : List ℕ). (l ++ back.0) ++ c.deref-in-Apart-second-3.result.now.more.items) empty
+    ∙ ap (λ (r : Apart). back.0 ++ r.more.items) c.deref-in-Apart-second-3.ensures ∙ sym back.2 in
     let start : c.deref_mut-in-Apart-second-3.result.now.start ≡ c.in-Range.start = search rules in
     let more : c.deref_mut-in-Apart-second-3.result.now.more.items ≡ c.append_apart.new.to.items = search rules in
     (a, subst (λ n. StandsAt out n c.in-Range.end a) (sym start) front, ap (λ (l : List ℕ). a ++ l) (sym (more ∙ all)))

@@ -10,14 +10,14 @@ on_err : {T E : Type 0} (r : Result T E) (P : Type 0) → P → OnErr r P
 on_err (Ok u) P h = tt
 on_err (Err e) P h = h
 
-pub returns-in_err-settle-in-Ok-clause-unchanged : goal.returns-in_err-settle-in-Ok-clause-unchanged
-returns-in_err-settle-in-Ok-clause-unchanged c =
+pub returns-in_err-fits-in-Ok-clause-unchanged : goal.returns-in_err-fits-in-Ok-clause-unchanged
+returns-in_err-fits-in-Ok-clause-unchanged c =
     let old = c.args.out.now.items in
     let ends : c.len-end.result ≡ length old = search rules in
     let back = sym c.exchange-2.ensures.given in
     let read = c.in-Ok.ensures.reads.found in
     let kept = c.read_made-read.ensures.stays old (subst (λ (o : List ℕ). Grows old o) (sym c.exchange.ensures.taken) (grows_none old)) in
-    on_err c.from_residual.result _ (c.in_err-settle-in-Ok.ensures.unchanged old (plain read.0) (subst (λ (o : List ℕ). Grows old o) back kept) ends
+    on_err c.from_residual.result _ (c.in_err-fits-in-Ok.ensures.unchanged old (plain read.0) (subst (λ (o : List ℕ). Grows old o) back kept) ends
     (subst (λ (o : List ℕ). Holds o c.in-Ok.written (plain read.0)) back read.1.1))
 
 pub returns-in-Err-clause-unchanged : goal.returns-in-Err-clause-unchanged

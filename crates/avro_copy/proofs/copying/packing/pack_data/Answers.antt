@@ -1,14 +1,21 @@
 -- The data up to the first without bytes are packed, and then the rest.
-use Rattle.std.proofs.Common.{arith}
-use Rattle.avro_container.specs.BlockFails.{BlockReading}
-use Rattle.avro_copy.specs.Steps.{reading_of}
-use Rattle.avro_container.specs.HeaderTaken.{header_value}
-use Rattle.avro_copy.specs.TaskSeen.{job_of}
+use Rattle.std.proofs.Common.{◌≡◌, true, arith, subst, take}
+use Rattle.avro_schema.specs.SeenSchema.{schema_nodes}
+use Rattle.avro_schema.specs.WellFormed.{is_schema}
 use Rattle.avro_container.proofs.public.Data.{data_left}
+use Rattle.avro_copy.specs.inside.BlockSeen.{reading_for}
+use Rattle.avro_copy.proofs.KnownEmpty.{known-some, merely-some}
 use Rattle.avro_copy.proofs.copying.packing.pack_data.Goals as goal
+
+pub pack_each-requires-clause-known : goal.pack_each-requires-clause-known
+pack_each-requires-clause-known c =
+    let r = reading_for c.args.block.now in
+    let formed : is_schema r.nodes ≡ true = subst (λ s. is_schema (schema_nodes s) ≡ true) c.schema.ensures c.len.ensures.formed in
+    known-some c.prefix.ensures c.plain_encodes.ensures (λ v. v.items) r c.args.empty.now formed c.requires.known
 
 pub returns-then-start-body-clause-refused : goal.returns-then-start-body-clause-refused
 returns-then-start-body-clause-refused c = λ f is.
-    let r : BlockReading = reading_of (job_of c.args.task.now) c.args.task.now.limits (header_value c.args.header.now) in
-    let packs = c.in_ok-pack_rest.ensures.found in
-    data_left r c.args.number c.args.count c.in_ok-done.start c.args.body.now packs.made f packs.whole (omega (arith, c.if-start-body.true)) is
+    let body = c.args.body.now in
+    let start = c.in_ok-done.start in
+    let packs = c.in_ok-pack_rest.ensures.found (take start body) c.in_ok-done.ensures.found in
+    data_left (reading_for c.args.block.now) c.args.block.now.number c.args.count start body packs.made f packs.whole (omega (arith, c.if-start-body.true)) is

@@ -11,5 +11,5 @@ returns-clause-holds c =
     let back = number_bytes c.args.value in
     let begun : c.self.inside.out.items ≡ old ++ front = search rules in
     let appended = subst (λ (z : ℤ). c.append_number.new.out.items ≡ c.self.inside.out.items ++ number_bytes z) (to_z-of_z w64 c.args.value c.ranges.value) c.in_ok-append_number.ensures.appended in
-    c.since.ensures old (front ++ back) (appended ∙ ap (λ (l : List ℕ). l ++ back) begun ∙ append_assoc old front back)
+    c.since.ensures.holds old (front ++ back) (appended ∙ ap (λ (l : List ℕ). l ++ back) begun ∙ append_assoc old front back)
     c.in_ok-start.ensures.start

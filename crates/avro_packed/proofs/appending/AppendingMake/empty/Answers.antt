@@ -6,5 +6,5 @@ use Rattle.avro_packed.proofs.appending.AppendingMake.empty.Goals as goal
 pub returns-clause-stands : goal.returns-clause-stands
 returns-clause-stands c = λ nodes n v fitting empty.
     let front = branch_bytes c.args.at in
-    let written = c.since.ensures c.args.self.now front c.in_ok-start.ensures.begun c.in_ok-start.ensures.start in
-    subst (λ (bytes : List ℕ). Holds c.begin.new.self c.since.result bytes) (sym (ap (λ (b : List ℕ). front ++ b) (plain-empty v empty) ∙ append-nil front)) written
+    let written = c.since.ensures.holds c.args.self.now front c.in_ok-start.ensures.begun c.in_ok-start.ensures.start in
+    subst (λ (bytes : List ℕ). Holds c.since.new.self c.since.result bytes) (sym (ap (λ (b : List ℕ). front ++ b) (plain-empty v empty) ∙ append-nil front)) written

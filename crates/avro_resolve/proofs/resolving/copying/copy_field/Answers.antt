@@ -9,5 +9,5 @@ pub returns-else-not-is_as_written-clause-stands : goal.returns-else-not-is_as_w
 returns-else-not-is_as_written-clause-stands g c = λ ws rs found src is plain.
     let yes : c.is_as_written.result ≡ true = search rules in
     c.copied.ensures.stands (field_value ws found (field_of c.args.f.now))
-    (value_copied (schema_nodes c.args.reader.now) ws rs found c.args.bytes.now c.args.ends.now (field_of c.args.f.now) c.in-Some.field c.in-Some-piece_of.content.now
+    (value_copied (schema_nodes c.args.reader.now) ws rs found c.args.pieces.bytes.now c.args.pieces.ends.now (field_of c.args.f.now) c.in-Some.field c.in-Some-piece_of.content.now
     (sym src ∙ c.in-Some.is) is plain c.in-Some-piece_of.ensures (c.is_as_written.ensures yes))

@@ -11,15 +11,14 @@ use Rattle.avro_resolve.proofs.resolving.copying.copy_fields.Goals as goal
 
 pub loop-index-init : goal.loop-index-init
 loop-index-init g c = (
-  c.requires,
   g.met.P.Put.keeps_itself c.args.builder.now,
-  λ found plain starts. no_values_yet (g.P.Put.fields_stand_for c.args.builder.now None) (seen_fields c.args.writes.now) found c.args.reads.now c.args.start starts,
+  λ ws from. from,
+  λ ws found from plain starts. no_values_yet (g.P.Put.fields_stand_for c.args.builder.now None) ws found c.args.reads.now c.args.start starts,
 )
 
 pub loop-index-preserved : goal.loop-index-preserved
 loop-index-preserved g c =
     let T = g.P.Put.fields_stand_for in
-    let ws = seen_fields c.args.writes.now in
     let reads = c.args.reads.now in
     let i = c.loop-index.index in
     let f = c.index-reads-index.result in
@@ -30,25 +29,24 @@ loop-index-preserved g c =
     let third = c.field.new.self in
     let kept = c.in_ok-value.ensures.kept in
     let on = c.in_ok-field-in-Some.ensures.kept in
-    let left = c.loop-index.left.now in
-    let from = c.loop-index.invariant.0 in (
-      subst (λ (ps : List (ℕ × ℕ)). AreSourcesFrom (i + 1) ws (seen_fields reads) ps) (sym c.rest_entries-left.ensures) (rest_sources i ws (seen_fields reads) left from),
-      g.met.P.Put.keeps_on c.args.builder.now second third (g.met.P.Put.keeps_on c.args.builder.now first second c.loop-index.invariant.1 kept) on,
-      λ found plain starts.
+    let left = c.loop-index.left.now in (
+      g.met.P.Put.keeps_on c.args.builder.now second third (g.met.P.Put.keeps_on c.args.builder.now first second c.loop-index.invariant.0 kept) on,
+      λ ws sources. subst (λ (ps : List (ℕ × ℕ)). AreSourcesFrom (i + 1) ws (seen_fields reads) ps) (sym c.rest_entries-left.ensures) (rest_sources i ws (seen_fields reads) left (c.loop-index.invariant.1 ws sources)),
+      λ ws found sources plain starts.
           let at = seen_at reads i f low is in
-          let src = c.first_entry-source.ensures ∙ first_source i ws (seen_fields reads) left from (field_of f) at in
+          let src = c.first_entry-source.ensures ∙ first_source i ws (seen_fields reads) left (c.loop-index.invariant.1 ws sources) (field_of f) at in
           let made = subst (λ o. IfSome o (λ out. g.P.Put.stands_for second out (field_value ws found (field_of f)))) c.in-Some.is
           (c.in_ok-value.ensures.stands ws (seen_fields reads) found src (is_field_at (seen_fields reads) i (field_of f) at) plain) in
           values_more ws reads i f low is (T first None) (T third None) found c.loop-index.fields c.field.new.fields
-          (λ us h. c.in_ok-field-in-Some.ensures.stands None us (field_value ws found (field_of f)) (g.met.P.Put.fields_kept first second None _ us kept h) made) (c.loop-index.invariant.2 found plain starts),
+          (λ us h. c.in_ok-field-in-Some.ensures.stands None us (field_value ws found (field_of f)) (g.met.P.Put.fields_kept first second None _ us kept h) made) (c.loop-index.invariant.2 ws found sources plain starts),
     )
 
 pub returns-in-None-clause-kept : goal.returns-in-None-clause-kept
-returns-in-None-clause-kept g c = g.met.P.Put.keeps_on c.args.builder.now c.loop-index.builder c.copy_field.new.builder c.loop-index.invariant.1 c.in_ok-value.ensures.kept
+returns-in-None-clause-kept g c = g.met.P.Put.keeps_on c.args.builder.now c.loop-index.builder c.copy_field.new.builder c.loop-index.invariant.0 c.in_ok-value.ensures.kept
 
 pub returns-clause-kept : goal.returns-clause-kept
-returns-clause-kept g c = c.loop-index.invariant.1
+returns-clause-kept g c = c.loop-index.invariant.0
 
 pub returns-clause-stands : goal.returns-clause-stands
-returns-clause-stands g c = λ found plain starts.
-    values_all (g.P.Put.fields_stand_for c.loop-index.builder None) (seen_fields c.args.writes.now) found c.args.reads.now c.loop-index.index c.loop-index.fields c.loop-index-test.false (c.loop-index.invariant.2 found plain starts)
+returns-clause-stands g c = λ ws found sources plain starts.
+    values_all (g.P.Put.fields_stand_for c.loop-index.builder None) ws found c.args.reads.now c.loop-index.index c.loop-index.fields c.loop-index-test.false (c.loop-index.invariant.2 ws found sources plain starts)

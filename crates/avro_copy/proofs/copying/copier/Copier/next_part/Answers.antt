@@ -2,29 +2,29 @@
 use Rattle.std.proofs.Common.{◌≡◌, ◌∙◌, Some, refl, ap, sym, subst, rules, arith}
 use Rattle.std.proofs.lemmas.Option.{same_Some, none-some}
 use Rattle.std.proofs.lemmas.Result.{err_from_is_err_and}
-use Rattle.std.specs.Option.{ForSome}
+use Rattle.std.specs.Option.{option_copied}
 use Rattle.std.specs.Prelude.{option_map}
 use Rattle.avro_copy.specs.CopierSeen.{job_in, limits_in, stored_of}
 use Rattle.avro_container.specs.HeaderTaken.{header_value}
 use Rattle.avro_copy.specs.Steps.{reading_of}
 use Rattle.avro_copy.specs.TaskSeen.{job_of}
-use Rattle.avro_container.specs.NoBytes.{PacksNoBytes}
+use Rattle.avro_copy.specs.inside.DataPacked.{IsKeptOf}
 use Rattle.avro_copy.proofs.Stepping.{block-gives, end-gives, header-gives}
 use Rattle.avro_copy.proofs.copying.copier.Copier.next_part.Goals as goal
 
 pub returns-in-Some-2-clause-gives : goal.returns-in-Some-2-clause-gives
 returns-in-Some-2-clause-gives g c = λ on.
     let self = c.args.self.now in
-    let kept : (stored_of self).header ≡ Some (header_value c.header-header.result.now) =
-    ap (option_map (λ o. header_value o.0)) c.in-Some.is ∙ ap (λ h. Some (header_value h)) (sym c.header-header.ensures) in
+    let kept : (stored_of self).header ≡ Some (header_value c.header.result.now) =
+    ap (option_map (λ o. header_value o.0)) c.in-Some.is ∙ ap (λ h. Some (header_value h)) (sym c.header.ensures) in
     block-gives g.I.Input.gives g.O.Output.keeps _ _ _ _ (job_in self) (limits_in self) _ (stored_of self) _ _ c.from.result c.in-Some-2.count (search rules)
     kept kept (search (rules, arith)) on (rw c.in-Some-2.is at c.in_ok-count-in-Some.ensures.block)
 
 pub returns-in-None-2-clause-gives : goal.returns-in-None-2-clause-gives
 returns-in-None-2-clause-gives g c = λ on.
     let self = c.args.self.now in
-    let kept : (stored_of self).header ≡ Some (header_value c.header-header.result.now) =
-    ap (option_map (λ o. header_value o.0)) c.in-Some.is ∙ ap (λ h. Some (header_value h)) (sym c.header-header.ensures) in
+    let kept : (stored_of self).header ≡ Some (header_value c.header.result.now) =
+    ap (option_map (λ o. header_value o.0)) c.in-Some.is ∙ ap (λ h. Some (header_value h)) (sym c.header.ensures) in
     let empty = rw c.in-None-2.is at c.in_ok-count-in-Some.ensures.empty in
     end-gives g.I.Input.gives g.O.Output.keeps g.met.O.Output.none _ _ _ _ (job_in self) (limits_in self) _ (stored_of self) _ _
     kept kept empty.0 empty.1 refl refl on.0 (rw c.in-None-2.is at c.in_ok-count-in-Some.ensures.told) (rw c.in-None-2.is at c.in_ok-count-in-Some.ensures.none) (rw c.in-None-2.is at c.in_ok-count-in-Some.ensures.still)
@@ -35,7 +35,7 @@ returns-in_err-count-in-Some-clause-refused g c =
     let p = err_from_is_err_and c.from_residual.result c.from_residual.ensures.1 in
     rw (p.1, p.2)
     (c.in_err-count-in-Some.ensures.refused (stored_of self)
-    (ap (option_map (λ o. header_value o.0)) c.in-Some.is ∙ ap (λ h. Some (header_value h)) (sym c.header-header.ensures)) refl refl)
+    (ap (option_map (λ o. header_value o.0)) c.in-Some.is ∙ ap (λ h. Some (header_value h)) (sym c.header.ensures)) refl refl)
 
 pub returns-in_ok-opened-in-None-clause-gives : goal.returns-in_ok-opened-in-None-clause-gives
 returns-in_ok-opened-in-None-clause-gives g c = λ on.
@@ -50,11 +50,20 @@ returns-in_err-opened-in-None-clause-refused g c =
     rw (p.1, p.2)
     (c.in_err-opened-in-None.ensures.refused (stored_of self) (ap (option_map (λ o. header_value o.0)) c.in-None.is) (self.none_yet c.in-None.is))
 
+pub invariant_of-block : goal.invariant_of-block
+invariant_of-block g c =
+    let self = c.args.self.now in
+    let read = option_copied self.task.reader in
+    record {
+      planned = c.plan.ensures ∙ ap (option_map (λ r. (c.in-Some.opened.0.schema, r.1))) (self.same c.in-Some.opened c.in-Some.is)
+          ∙ ap (λ h. option_map (λ r. (h.schema, r.1)) read) (sym c.header.ensures);
+    }
+
 pub copy_block-requires-clause-known : goal.copy_block-requires-clause-known
 copy_block-requires-clause-known g c =
     let self = c.args.self.now in
-    subst (λ h. ForSome self.empty (λ unit. ∥ PacksNoBytes (reading_of (job_of self.task) self.task.limits (header_value h)) unit.items ∥₁))
-    (sym c.header-header.ensures) (self.known c.in-Some.opened c.in-Some.is)
+    subst (λ h. IsKeptOf (reading_of (job_of self.task) self.task.limits (header_value h)) self.store.empty)
+    (sym c.header.ensures) (self.known c.in-Some.opened c.in-Some.is)
 
 pub invariant_of-self : goal.invariant_of-self
 invariant_of-self g c =
@@ -63,19 +72,19 @@ invariant_of-self g c =
     record {
       near = c.copy_block.ensures.limited;
       none_yet = λ none. absurd (none-some _ (sym none ∙ c.in-Some.is));
-      known = λ opened is. subst (λ h. ForSome c.copy_block.new.empty (λ unit. ∥ PacksNoBytes (reading_of (job_of task) task.limits (header_value h)) unit.items ∥₁))
-          (c.header-header.ensures ∙ ap (λ o. o.0) (same_Some _ _ (sym c.in-Some.is ∙ is))) c.copy_block.ensures.known;
+      known = λ opened is. subst (λ h. IsKeptOf (reading_of (job_of task) task.limits (header_value h)) c.copy_block.new.store.empty)
+          (c.header.ensures ∙ ap (λ o. o.0) (same_Some _ _ (sym c.in-Some.is ∙ is))) c.copy_block.ensures.known;
       same = self.same;
     }
 
 pub invariant_of-self-in-Some-2-clause-known : goal.invariant_of-self-in-Some-2-clause-known
 invariant_of-self-in-Some-2-clause-known g c = λ opened is.
     let task = c.args.self.now.task in
-    subst (λ h. ForSome c.copy_block.new.empty (λ unit. ∥ PacksNoBytes (reading_of (job_of task) task.limits (header_value h)) unit.items ∥₁))
-    (c.header-header.ensures ∙ ap (λ o. o.0) (same_Some _ _ (sym c.in-Some.is ∙ is))) c.copy_block.ensures.known
+    subst (λ h. IsKeptOf (reading_of (job_of task) task.limits (header_value h)) c.copy_block.new.store.empty)
+    (c.header.ensures ∙ ap (λ o. o.0) (same_Some _ _ (sym c.in-Some.is ∙ is))) c.copy_block.ensures.known
 
 pub invariant_of-self-in-None-2-clause-known : goal.invariant_of-self-in-None-2-clause-known
 invariant_of-self-in-None-2-clause-known g c = λ opened is.
     let task = c.args.self.now.task in
-    subst (λ h. ForSome c.copy_block.new.empty (λ unit. ∥ PacksNoBytes (reading_of (job_of task) task.limits (header_value h)) unit.items ∥₁))
-    (c.header-header.ensures ∙ ap (λ o. o.0) (same_Some _ _ (sym c.in-Some.is ∙ is))) c.copy_block.ensures.known
+    subst (λ h. IsKeptOf (reading_of (job_of task) task.limits (header_value h)) c.copy_block.new.store.empty)
+    (c.header.ensures ∙ ap (λ o. o.0) (same_Some _ _ (sym c.in-Some.is ∙ is))) c.copy_block.ensures.known
