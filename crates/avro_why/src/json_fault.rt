@@ -1,6 +1,8 @@
 //! Why a text is not the JSON that is taken.
 
-use crate::position::Position;
+ghost use Rattle.std.specs.Prelude.{◌≤◌, length};
+
+use crate::position::{Position, position_at};
 use serde_json::Value;
 use std::alloc::{AllocError, Global};
 
@@ -20,14 +22,16 @@ impl JsonFault {
     pub(crate) fn at(position: Position, words: &'static str) -> JsonFault {
         JsonFault {
             line: position.line,
-            column: position.column(),
+            column: position.column,
             words,
         }
     }
 }
 
 /// Where a text is not the JSON that is taken, and why, if it is not.
-pub(crate) fn json_fault(alloc: Global, text: &[u8]) -> Result<Option<JsonFault>, AllocError> {
+pub(crate) fn json_fault(alloc: Global, text: &[u8]) -> Result<Option<JsonFault>, AllocError>
+    requires small { length text.now ≤ 1048576 }
+{
     let beginning = Position::BEGINNING;
     if text.starts_with(b"Obj\x01") {
         let words = "this is a container file: 'avro header FILE' prints its schema";
@@ -38,14 +42,16 @@ pub(crate) fn json_fault(alloc: Global, text: &[u8]) -> Result<Option<JsonFault>
         return Ok(Some(JsonFault::at(beginning, words)));
     }
     if let Err(error) = str::from_utf8(text) {
-        let position = beginning.at(text, error.valid_up_to());
+        let position = position_at(text, error.valid_up_to());
         return Ok(Some(JsonFault::at(position, "the bytes are not UTF-8")));
     }
     syntax_fault(alloc, text)
 }
 
 /// Where a text is no JSON, or is nested too deep.
-fn syntax_fault(alloc: Global, text: &[u8]) -> Result<Option<JsonFault>, AllocError> {
+fn syntax_fault(alloc: Global, text: &[u8]) -> Result<Option<JsonFault>, AllocError>
+    requires small { length text.now ≤ 1048576 }
+{
     match Value::from_slice(alloc, text) {
         Ok(_) => Ok(None),
         Err(error) => {
@@ -65,12 +71,14 @@ fn syntax_fault(alloc: Global, text: &[u8]) -> Result<Option<JsonFault>, AllocEr
 }
 
 /// A fault, or that the text is nested too deep, where that comes first.
-fn nested_or(text: &[u8], fault: JsonFault) -> JsonFault {
+fn nested_or(text: &[u8], fault: JsonFault) -> JsonFault
+    requires small { length text.now ≤ 1048576 }
+{
     let Some(offset) = too_deep(text) else {
         return fault;
     };
-    let position = Position::BEGINNING.at(text, offset);
-    if (fault.line, fault.column) < (position.line, position.column()) {
+    let position = position_at(text, offset);
+    if (fault.line, fault.column) < (position.line, position.column) {
         return fault;
     }
     JsonFault::at(position, "this is nested more than 127 levels deep")

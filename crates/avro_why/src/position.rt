@@ -1,36 +1,43 @@
+ghost use Rattle.std.specs.Prelude.{◌≤◌, length};
+ghost use Rattle.avro_why.specs.Position.{EndsAt, IsPosition};
+
 /// A position in a text.
 #[derive(Clone, Copy)]
 pub(crate) struct Position {
-    pub(crate) offset: usize,
     /// The line, counted from 1.
     pub(crate) line: usize,
-    // where the line begins
-    start: usize,
+    /// The column, in bytes, counted from 1.
+    pub(crate) column: usize,
 }
 
 impl Position {
     /// The beginning of a text.
-    pub(crate) const BEGINNING: Position = Position {
-        offset: 0,
-        line: 1,
-        start: 0,
-    };
+    pub(crate) const BEGINNING: Position = Position { line: 1, column: 1 };
+}
 
-    /// The column, in bytes, counted from 1.
-    pub(crate) fn column(self) -> usize {
-        self.offset.saturating_sub(self.start).saturating_add(1)
-    }
+/// The position of an offset; of one past the end, that of the end.
+pub(crate) fn position_at(text: &[u8], offset: usize) -> Position
+    requires small { length text.now ≤ 1048576 }
+    ensures { IsPosition text.now result.line result.column }
+{
+    let (before, _) = text.split_at(offset.min(text.len()));
+    end_of(before)
+}
 
-    /// A later position.
-    pub(crate) fn at(self, text: &[u8], offset: usize) -> Position {
-        let mut position = Position { offset, ..self };
-        let skipped = text.get(self.offset..offset).unwrap_or(&[]);
-        for (index, byte) in skipped.iter().enumerate() {
-            if *byte == b'\n' {
-                position.line = position.line.saturating_add(1);
-                position.start = self.offset.saturating_add(index).saturating_add(1);
-            }
+/// The position of the end.
+fn end_of(text: &[u8]) -> Position
+    requires small { length text.now ≤ 1048576 }
+    ensures { EndsAt text.now result.line result.column }
+{
+    let mut line = 1;
+    let mut column = 1;
+    for byte in text {
+        if *byte == b'\n' {
+            line += 1;
+            column = 1;
+        } else {
+            column += 1;
         }
-        position
     }
+    Position { line, column }
 }

@@ -1,8 +1,12 @@
+ghost use Rattle.std.specs.Prelude.{◌≤◌, ℕ, List, IfOk, length};
+ghost use Rattle.avro_why.specs.Placed.{ArePlaced};
+ghost use Rattle.avro_why.specs.Position.{IsPosition};
+
 use crate::fault::Fault;
 use crate::json_fault::{JsonFault, json_fault};
 use crate::offsets::offsets_of;
 use crate::places::{PlaceId, WHOLE};
-use crate::position::Position;
+use crate::position::{Position, position_at};
 use crate::walk::Walk;
 use crate::words::words_of;
 use avro_schema_json::SchemaError;
@@ -45,7 +49,9 @@ pub fn find_reasons(
     text: &[u8],
     error: SchemaError,
     limit: usize,
-) -> Result<Reasons, AllocError> {
+) -> Result<Reasons, AllocError>
+    ensures placed { IfOk result (λ r. ArePlaced text.now r.first.items) }
+{
     if text.len() > MAX_TEXT {
         let words = "the text has more than 1048576 bytes";
         return reasons_without_json(alloc, Some(JsonFault::at(Position::BEGINNING, words)));
@@ -61,7 +67,9 @@ pub fn find_reasons(
 }
 
 /// What there is of a text that is no JSON.
-fn reasons_without_json(alloc: Global, fault: Option<JsonFault>) -> Result<Reasons, AllocError> {
+fn reasons_without_json(alloc: Global, fault: Option<JsonFault>) -> Result<Reasons, AllocError>
+    ensures { (text : List ℕ) → IfOk result (λ r. ArePlaced text r.first.items) }
+{
     let mut first = Vec::new(alloc);
     if let Some(fault) = fault {
         first.push(Reason {
@@ -81,7 +89,10 @@ fn reasons_in_tree(
     tree: &Value,
     error: SchemaError,
     limit: usize,
-) -> Result<Reasons, AllocError> {
+) -> Result<Reasons, AllocError>
+    requires small { length text.now ≤ 1048576 }
+    ensures { IfOk result (λ r. ArePlaced text.now r.first.items) }
+{
     let mut walk = Walk::new(alloc)?;
     // Other errors are found in trees of whole numbers alone.
     if error == SchemaError::UnsupportedNumber {
@@ -107,33 +118,38 @@ fn ordered(alloc: Global, text: &[u8], walk: &Walk<'_>) -> Result<Vec<(usize, us
 }
 
 /// The first faults of a walk.
-fn told(alloc: Global, text: &[u8], walk: &Walk<'_>, limit: usize) -> Result<Reasons, AllocError> {
+fn told(alloc: Global, text: &[u8], walk: &Walk<'_>, limit: usize) -> Result<Reasons, AllocError>
+    requires small { length text.now ≤ 1048576 }
+    ensures { IfOk result (λ r. ArePlaced text.now r.first.items) }
+{
     let order = ordered(alloc, text, walk)?;
     let mut first = Vec::new(alloc);
-    let mut position = Position::BEGINNING;
     for (offset, index) in order.iter().take(limit) {
-        position = position.at(text, *offset);
         if let Some((place, fault)) = walk.faults.get(*index) {
-            first.push(reason_of(alloc, text, walk, position, *place, *fault)?)?;
+            first.push(reason_of(alloc, text, walk, *offset, *place, *fault)?)?;
         }
     }
     let others = order.len().saturating_sub(first.len());
     Ok(Reasons { first, others })
 }
 
-/// A fault at a position.
+/// A fault of the value at an offset.
 fn reason_of(
     alloc: Global,
     text: &[u8],
     walk: &Walk<'_>,
-    position: Position,
+    offset: usize,
     place: PlaceId,
     fault: Fault<'_>,
-) -> Result<Reason, AllocError> {
-    let words = words_of(alloc, text, &walk.places, position.offset, fault)?;
+) -> Result<Reason, AllocError>
+    requires small { length text.now ≤ 1048576 }
+    ensures { IfOk result (λ reason. IsPosition text.now reason.line reason.column) }
+{
+    let Position { line, column } = position_at(text, offset);
+    let words = words_of(alloc, text, &walk.places, offset, fault)?;
     Ok(Reason {
-        line: position.line,
-        column: position.column(),
+        line,
+        column,
         pointer: Some(walk.places.pointer(alloc, place)?),
         words,
     })
