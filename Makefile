@@ -14,11 +14,11 @@ PREFIX ?= /usr/local
 DESTDIR ?=
 
 PROGRAM := crates/avro/out/avro
-LIBRARY := bindings/out/libavro.so
+LIBRARY := bindings/out/libavrojudge.so
 TESTS := avro_data_tests avro_answer_tests
 
 .DEFAULT_GOAL := help
-.PHONY: help try files program library install quick test check fmt bench robust words clean
+.PHONY: help try files program library install install-library quick test check fmt bench robust words clean
 
 help: ## lists the targets
 	@awk -F ':.*## ' '/^[a-z]+:.*## / { printf "make %-8s %s\n", $$1, $$2 }' $(MAKEFILE_LIST)
@@ -42,10 +42,10 @@ program: ## proves and builds the program and the crates below it, and says wher
 	@cd crates/avro && rt run -- schema $(abspath examples/int.avsc)
 	@echo "the program is $(abspath $(PROGRAM))"
 
-library: ## proves and builds bindings/out/libavro.a and libavro.so, for C and Python (an hour and more)
+library: ## proves and builds bindings/out/libavrojudge.a and libavrojudge.so, for C and Python (an hour and more)
 	@cd crates/avro_c && rt lib
 	@bindings/link.sh crates/avro_c/out/libavro_c.a bindings/out
-	@echo "the libraries are $(abspath bindings/out/libavro.a) and $(abspath $(LIBRARY))"
+	@echo "the libraries are $(abspath bindings/out/libavrojudge.a) and $(abspath $(LIBRARY))"
 
 $(LIBRARY):
 	@echo "run 'make library' first: it proves and builds $(LIBRARY)" >&2; false
@@ -53,12 +53,20 @@ $(LIBRARY):
 $(PROGRAM):
 	@echo "run 'make program' first: it proves and builds $(PROGRAM)" >&2; false
 
-install: $(PROGRAM) ## installs the proved program, its man page and its completions under DESTDIR and PREFIX (a second)
+install: $(PROGRAM) ## installs the proved program, its man page and completions, and the library if there is one (a second)
 	install -D -m 755 $(PROGRAM) $(DESTDIR)$(PREFIX)/bin/avro
 	install -D -m 644 man/avro.1 $(DESTDIR)$(PREFIX)/share/man/man1/avro.1
 	install -D -m 644 completions/avro.bash $(DESTDIR)$(PREFIX)/share/bash-completion/completions/avro
 	install -D -m 644 completions/avro.zsh $(DESTDIR)$(PREFIX)/share/zsh/site-functions/_avro
 	install -D -m 644 completions/avro.fish $(DESTDIR)$(PREFIX)/share/fish/vendor_completions.d/avro.fish
+	@! test -e $(LIBRARY) || $(MAKE) --no-print-directory install-library
+
+install-library: $(LIBRARY)
+	install -D -m 755 $(LIBRARY) $(DESTDIR)$(PREFIX)/lib/libavrojudge.so
+	install -D -m 644 $(LIBRARY:.so=.a) $(DESTDIR)$(PREFIX)/lib/libavrojudge.a
+	install -D -m 644 bindings/c/avrojudge.h $(DESTDIR)$(PREFIX)/include/avrojudge.h
+	install -d $(DESTDIR)$(PREFIX)/lib/pkgconfig
+	sed 's|@PREFIX@|$(PREFIX)|' bindings/c/avrojudge.pc.in > $(DESTDIR)$(PREFIX)/lib/pkgconfig/avrojudge.pc
 
 quick: words ## runs all tests without any proof (thirteen minutes of processor time)
 	@for crate in $(TESTS); do echo "== $$crate"; (cd crates/$$crate && rt try --test) || exit 1; done

@@ -1,5 +1,5 @@
 #!/bin/sh
-# Makes libavro.a and libavro.so in OUT of the static library that `rt lib` builds of avro_c.
+# Makes libavrojudge.a and libavrojudge.so in OUT of the static library that `rt lib` builds of avro_c.
 #
 #     link.sh ARCHIVE OUT
 #
@@ -10,6 +10,6 @@ out=$2
 here=$(dirname "$0")
 heap=$(dirname "$(rt doc)")/c/liblibc_c.a
 mkdir -p "$out"
-printf '%s\n' "create $out/libavro.a" "addlib $archive" "addlib $heap" save end | "${AR:-ar}" -M
-"${CC:-cc}" -shared -o "$out/libavro.so" -Wl,--version-script="$here/c/avro.map" \
+printf '%s\n' "create $out/libavrojudge.a" "addlib $archive" "addlib $heap" save end | "${AR:-ar}" -M
+"${CC:-cc}" -shared -o "$out/libavrojudge.so" -Wl,--version-script="$here/c/avrojudge.map" \
     -Wl,--whole-archive "$archive" -Wl,--no-whole-archive "$heap" -Wl,--gc-sections -Wl,-z,relro,-z,now,-z,noexecstack

@@ -12,13 +12,14 @@ _avro_options() {
         copy) echo --reader --sync --progress --help ;;
         pipe) echo --reader --sync --counts --progress --help ;;
         header) echo --metadata --help ;;
+        read) echo --reader --skip --json --help ;;
         *) echo --version --help ;;
     esac
 }
 
 _avro() {
     local word=${COMP_WORDS[COMP_CWORD]} before=${COMP_WORDS[COMP_CWORD - 1]}
-    local commands='judge explain confirm history schema check show copy pipe header help'
+    local commands='judge explain confirm history schema check show copy pipe header read help'
     local choices=()
     if ((COMP_CWORD == 1)); then
         mapfile -t choices < <(compgen -W "$commands $(_avro_options)" -- "$word")
@@ -26,7 +27,7 @@ _avro() {
         ((COMP_CWORD > 2)) || mapfile -t choices < <(compgen -W "$commands" -- "$word")
     elif [[ $before == --mode ]]; then
         mapfile -t choices < <(compgen -W 'backward forward full' -- "$word")
-    elif [[ $before =~ ^--(sync|limit|max-pairs|max-size|max-depth)$ ]]; then
+    elif [[ $before =~ ^--(sync|limit|skip|max-pairs|max-size|max-depth)$ ]]; then
         choices=()
     elif [[ $word == -* ]]; then
         mapfile -t choices < <(compgen -W "$(_avro_options "${COMP_WORDS[1]}")" -- "$word")

@@ -14,6 +14,7 @@ complete -c avro -n __fish_use_subcommand -a show -d 'print each datum of a cont
 complete -c avro -n __fish_use_subcommand -a copy -d 'write a container file anew'
 complete -c avro -n __fish_use_subcommand -a pipe -d 'copy a container file from standard input to standard output'
 complete -c avro -n __fish_use_subcommand -a header -d 'print the schema in the header of a container file'
+complete -c avro -n __fish_use_subcommand -a read -d 'print the datum that encoded data begin with'
 complete -c avro -n __fish_use_subcommand -a help -d 'print the usage'
 
 complete -c avro -n '__fish_seen_subcommand_from judge' -l certificate -r -F -d 'write the certificate of a yes'
@@ -48,5 +49,8 @@ complete -c avro -n '__fish_seen_subcommand_from pipe' -l sync -x -d 'use this s
 complete -c avro -n '__fish_seen_subcommand_from pipe' -l counts -d 'print the numbers of data and blocks'
 complete -c avro -n '__fish_seen_subcommand_from pipe' -l progress -d 'tell how far it is'
 complete -c avro -n '__fish_seen_subcommand_from header' -l metadata -d 'print all metadata as JSON'
+complete -c avro -n '__fish_seen_subcommand_from read' -l reader -r -F -d 'resolve the datum to a schema'
+complete -c avro -n '__fish_seen_subcommand_from read' -l skip -x -d 'skip a number of bytes first'
+complete -c avro -n '__fish_seen_subcommand_from read' -l json -d 'print a line of JSON'
 
-complete -c avro -n '__fish_seen_subcommand_from help' -f -a 'judge explain confirm history schema check show copy pipe header'
+complete -c avro -n '__fish_seen_subcommand_from help' -f -a 'judge explain confirm history schema check show copy pipe header read'

@@ -14,6 +14,7 @@ _avro() {
         "copy:write a container file anew"
         "pipe:copy a container file from standard input to standard output"
         "header:print the schema in the header of a container file"
+        "read:print the datum that encoded data begin with"
         "help:print the usage"
     )
     options=(
@@ -67,6 +68,9 @@ _avro() {
                 '--counts[print the numbers of data and blocks]' '--progress[tell how far it is]' '--help[print the usage]' ;;
         header)
             _arguments '--metadata[print all metadata as JSON]' '--help[print the usage]' ':FILE:_files' ;;
+        read)
+            _arguments '--reader[resolve the datum to a schema]:SCHEMA:_files' '--skip[skip a number of bytes first]:N: ' \
+                '--json[print a line of JSON]' '--help[print the usage]' ':WRITER:_files' ':DATA:_files' ;;
         help)
             _describe command commands ;;
     esac

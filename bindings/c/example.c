@@ -8,7 +8,7 @@
 #include <stdio.h>
 #include <stdlib.h>
 
-#include "avro.h"
+#include "avrojudge.h"
 
 /* One byte more than a schema's text may have, so that a longer file is refused as such. */
 #define LONGEST 1048577
@@ -36,14 +36,14 @@ static struct text read_file(const char *name) {
 
 /* Prints the verdict. The text of most verdicts fits the first room; a longer one is asked for once more. */
 static uint32_t judge(struct text writer, struct text reader) {
-    avro_limits limits = {0};
+    avrojudge_limits limits = {0};
     size_t room = 4096, wanted = 0;
     uint8_t *out = malloc(room);
-    uint32_t status = AVRO_OUT_OF_MEMORY;
+    uint32_t status = AVROJUDGE_OUT_OF_MEMORY;
     while (out != NULL) {
-        status = avro_judge_text(writer.bytes, writer.length, reader.bytes, reader.length, &limits, out, room, &wanted);
+        status = avrojudge_judge_text(writer.bytes, writer.length, reader.bytes, reader.length, &limits, out, room, &wanted);
         if (wanted <= room) {
-            fwrite(out, 1, wanted, status == AVRO_REFUSED ? stderr : stdout);
+            fwrite(out, 1, wanted, status == AVROJUDGE_REFUSED ? stderr : stdout);
             free(out);
             return status;
         }
@@ -51,21 +51,21 @@ static uint32_t judge(struct text writer, struct text reader) {
         room = wanted;
         out = malloc(room);
     }
-    return AVRO_OUT_OF_MEMORY;
+    return AVROJUDGE_OUT_OF_MEMORY;
 }
 
 /* Prints the first faults, as far as the room takes them. */
 static void explain(struct text writer, struct text reader) {
     uint8_t out[4096];
     size_t wanted;
-    avro_explain_text(writer.bytes, writer.length, reader.bytes, reader.length, 0, out, sizeof out, &wanted);
+    avrojudge_explain_text(writer.bytes, writer.length, reader.bytes, reader.length, 0, out, sizeof out, &wanted);
     fwrite(out, 1, wanted < sizeof out ? wanted : sizeof out, stdout);
 }
 
 int main(int count, char **words) {
     if (count != 3) {
         fputs("example WRITER READER\n", stderr);
-        return AVRO_USAGE;
+        return AVROJUDGE_USAGE;
     }
     struct text writer = read_file(words[1]), reader = read_file(words[2]);
     if (writer.bytes == NULL || reader.bytes == NULL) {
@@ -73,7 +73,7 @@ int main(int count, char **words) {
         return 4;
     }
     uint32_t status = judge(writer, reader);
-    if (status == AVRO_NO) {
+    if (status == AVROJUDGE_NO) {
         explain(writer, reader);
     }
     free(writer.bytes);

@@ -11,7 +11,7 @@ from __future__ import annotations
 import pathlib
 import sys
 
-import avro_judge
+import avrojudge
 
 
 def main() -> int:
@@ -20,8 +20,8 @@ def main() -> int:
         return 64
     writer, reader = (pathlib.Path(word).read_bytes() for word in sys.argv[1:])
     try:
-        verdict = avro_judge.judge(writer, reader)
-    except avro_judge.Refused as refused:
+        verdict = avrojudge.judge(writer, reader)
+    except avrojudge.Refused as refused:
         print(refused, file=sys.stderr)
         return 3
     print(verdict.answer.name.lower())
@@ -29,7 +29,7 @@ def main() -> int:
         print(f"the limit that is passed: {verdict.cause}")
     if verdict.datum:
         print(f"a least datum that fails: {verdict.datum}")
-        for fault in avro_judge.explain(writer, reader).faults:
+        for fault in avrojudge.explain(writer, reader).faults:
             print(f"{fault.reader}: {fault.what}")
     return int(verdict.answer)
 

@@ -1,6 +1,6 @@
 #!/usr/bin/env bash
 # Tries the filters of this folder on files and schemas that it makes: each codec, broken files and bombs, floats and
-# doubles, schemas over several files, and raw data. Then it spoils each filter in several ways, and each must be found.
+# doubles, and schemas over several files. Then it spoils each filter in several ways, and each must be found.
 #
 #     try.sh [PROGRAM]
 #
@@ -283,30 +283,12 @@ try_bundle_faults() {
   expect 4 'bundle: nowhere.avsc: cannot read' filter /dev/null bundle.py order.avsc nowhere.avsc
 }
 
-try_wrap() {
-  echo '["null","string"]' > text.avsc
-  filter <(printf '\2\4hi') wrap.py text.avsc > one.avro
-  expect 0 '' "$program" show one.avro
-  compare 'a datum' '{"string":"hi"}' "$(cat out)"
-  filter <(printf '\0\0\0\1\7\2\4hi') wrap.py --skip 5 text.avsc > one.avro
-  expect 0 '' "$program" show one.avro
-  compare 'a datum behind five bytes' '{"string":"hi"}' "$(cat out)"
-  filter <(printf '\2\4h') wrap.py text.avsc > cut.avro
-  expect 3 'avro: cut.avro: C10 block 0 datum 0: B1 at 2' "$program" show cut.avro
-  filter <(printf '\2\4hi!') wrap.py text.avsc > left.avro
-  expect 3 'avro: left.avro: C7 block 0' "$program" show left.avro
-  expect 3 'wrap: -: 3 bytes, of which 5 are skipped' filter <(printf '\0\0\0') wrap.py --skip 5 text.avsc
-  expect 3 'wrap: -: it has more than 16777216 bytes' filter /dev/zero wrap.py text.avsc
-  expect 4 'wrap: nowhere.avsc: cannot read' filter /dev/null wrap.py nowhere.avsc
-}
-
 try_words() {
   local name
-  for name in recodec tame bundle wrap; do
+  for name in recodec tame bundle; do
     expect 64 "$(sed -n '2s/^"""//p' "$here/$name.py")" filter /dev/null "$name.py" --help
   done
   expect 64 "$(sed -n '2s/^"""//p' "$here/bundle.py")" filter /dev/null bundle.py
-  expect 64 "$(sed -n '2s/^"""//p' "$here/wrap.py")" filter /dev/null wrap.py --skip five text.avsc
 }
 
 # Whether all rows of a function are right for filters of another folder; in a subshell, so that nothing is counted.
@@ -350,13 +332,12 @@ try_bundle	bundle.py	s/ and outline_of(one) != outline_of(other):/ and False:/
 try_bundle	bundle.py	s/, "namespace": namespace}$/}/
 try_bundle	bundle.py	s/^        self.compare_all(name, this, scope)$//
 try_bundle	bundle.py	s/self.found.update(mine)/self.found = {**mine, **self.found}/
-try_wrap	wrap.py	s/skipped = read(source, skip)/skipped = read(source, skip + 1)/
 END
 }
 
 not_tried=()
 python3 "$here/make_files.py" made
-for each in codecs zstandard broken bombs tame verdicts pipe bundle wrap words; do "try_$each"; done
+for each in codecs zstandard broken bombs tame verdicts pipe bundle words; do "try_$each"; done
 for each in "${not_tried[@]}"; do echo "not tried: $each (Python has no module, and there is no program)"; done
 not_tried=()
 try_planted

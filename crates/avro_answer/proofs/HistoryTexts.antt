@@ -24,6 +24,14 @@ one_among : {X : Type 0} (P : X → Type 0) (before : List X) (x : X) (after : L
 one_among P [] x after h = h.0
 one_among P (y ∷ before) x after h = one_among P before x after h.1
 
+-- the next text, and what is cut after it
+pub cut_ahead : (rest lengths : List ℕ) (i : ℕ) (front back : List ℕ) → i < length lengths → front ≡ take (get_or lengths i 0) rest → back ≡ drop (get_or lengths i 0) rest
+    → cut_texts rest (drop i lengths) ≡ front ∷ cut_texts back (drop (i + 1) lengths)
+cut_ahead rest lengths i front back here front_is back_is =
+    ap (cut_texts rest) (drop_more lengths i 0 here)
+    ∙ ap (λ t. t ∷ cut_texts (drop (get_or lengths i 0) rest) (drop (i + 1) lengths)) (sym front_is)
+    ∙ ap (λ t. front ∷ cut_texts t (drop (i + 1) lengths)) (sym back_is)
+
 -- the texts that were passed declare the schemas that were read
 pub record ReadSoFar (texts lengths rest : List ℕ) (i : ℕ) (schemas : List (List Node)) : Type 0 where
   pub passed : List (List ℕ)
@@ -35,14 +43,8 @@ read_none texts lengths = record { passed = []; whole = refl; declared = tt }
 
 module _ (texts lengths rest : List ℕ) (i : ℕ) (schemas : List (List Node)) (before : ReadSoFar texts lengths rest i schemas) where
   module _ (front back : List ℕ) (here : i < length lengths) (front_is : front ≡ take (get_or lengths i 0) rest) (back_is : back ≡ drop (get_or lengths i 0) rest) where
-    ahead : cut_texts rest (drop i lengths) ≡ front ∷ cut_texts back (drop (i + 1) lengths)
-    ahead =
-        ap (cut_texts rest) (drop_more lengths i 0 here)
-        ∙ ap (λ t. t ∷ cut_texts (drop (get_or lengths i 0) rest) (drop (i + 1) lengths)) (sym front_is)
-        ∙ ap (λ t. front ∷ cut_texts t (drop (i + 1) lengths)) (sym back_is)
-
     parted : cut_texts texts lengths ≡ before.passed ++ (front ∷ cut_texts back (drop (i + 1) lengths))
-    parted = before.whole ∙ ap (λ l. before.passed ++ l) ahead
+    parted = before.whole ∙ ap (λ l. before.passed ++ l) (cut_ahead rest lengths i front back here front_is back_is)
 
     pub read_one : (nodes : List Node) → IsReadAs front nodes → ReadSoFar texts lengths back (i + 1) (schemas ++ (nodes ∷ []))
     read_one nodes declares = record {

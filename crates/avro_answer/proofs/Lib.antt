@@ -1,8 +1,13 @@
+pub mod Certified
+pub mod DataFound
+pub mod DataLines
+pub mod DataTexts
 pub mod FaultLines
 pub mod FaultsAnswers
 pub mod HistoryLines
 pub mod HistoryTexts
 pub mod PairLimits
+pub mod ReadLaws
 pub mod Refused
 pub mod TextLaws
 pub mod TypeLevels

@@ -17,7 +17,7 @@ of_some x y h = cc
 one_schema : (t u : Data) (a b : List Node) → t ≡ u → DeclaresSchema t a → DeclaresSchema u b → a ≡ b
 one_schema t u a b same g h = of_some a b (sym g ∙ (ap declared same ∙ h))
 
-one_text : (text : List ℕ) (a b : List Node) → DeclaresText text a → DeclaresText text b → a ≡ b
+pub one_text : (text : List ℕ) (a b : List Node) → DeclaresText text a → DeclaresText text b → a ≡ b
 one_text text a b g h = one_schema g.0 h.0 a b (of_some g.0 h.0 (sym g.1.1 ∙ h.1.1)) g.2 h.2
 
 are_compatible : (a b c d : List Node) → a ≡ c → b ≡ d → AreCompatible a b → AreCompatible c d

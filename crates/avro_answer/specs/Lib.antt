@@ -2,10 +2,15 @@ pub mod Texts
 pub mod ReadText
 pub mod JudgeAnswer
 pub mod HistoryAnswer
+pub mod CertifyAnswer
 pub mod ConfirmAnswer
 pub mod ExplainAnswer
 pub mod PlaceText
 pub mod FaultLine
 pub mod SchemaAnswer
 pub mod RefusalText
+pub mod ReadAnswer
+pub mod DataRead
+pub mod ReadHeadline
+pub mod ReadsAnswer
 pub mod inside

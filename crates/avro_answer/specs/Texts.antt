@@ -1,5 +1,8 @@
 -- The texts of faults, causes and limits, in bytes of ASCII. The forms are this project's own, and no part of the standard.
-use Rattle.std.specs.Prelude.{ℕ, List, [], ◌∷◌, ◌++◌, codes, flat_map}
+use Rattle.std.specs.Prelude.{ℕ, List, [], ◌∷◌, ◌++◌, codes, flat_map, Option, Some, None}
+use Rattle.avro_cursor.specs.Fault.{ReadFault, end_of_input, invalid_number, invalid_boolean, invalid_text, unknown_index, invalid_length, wrong_block_size, duplicate_key, limit_exceeded}
+use Rattle.avro_cursor.specs.Seen.{read_fault}
+use Rattle.avro_cursor.specs.declared.error.ReadError.{ReadError}
 use Rattle.avro_compare.specs.Fault.{FaultCause, no_match, no_branch, missing_field_at, no_symbol, not_utf8, ResolutionFault}
 use Rattle.avro_certificate.specs.CertificateText.{decimal}
 use Rattle.avro_judge.specs.declared.verdict.Cause.{Cause}
@@ -22,6 +25,26 @@ path_text (k ∷ ks) = flat_map step_text (k ∷ ks)
 
 abbrev pub fault_text : ResolutionFault → List ℕ
 fault_text f = kind_text f.cause ++ codes " at " ++ path_text f.path
+
+-- the first fault of bytes, with the offset of the part that fails
+abbrev pub bytes_fault_text : ReadFault → List ℕ
+bytes_fault_text (end_of_input place) = codes "B1 at " ++ decimal place
+bytes_fault_text (invalid_number place) = codes "B2 at " ++ decimal place
+bytes_fault_text (invalid_boolean place) = codes "B3 at " ++ decimal place
+bytes_fault_text (invalid_text place) = codes "B4 at " ++ decimal place
+bytes_fault_text (unknown_index place) = codes "B5 at " ++ decimal place
+bytes_fault_text (invalid_length place) = codes "B6 at " ++ decimal place
+bytes_fault_text (wrong_block_size place) = codes "B7 at " ++ decimal place
+bytes_fault_text (duplicate_key place) = codes "B8 at " ++ decimal place
+bytes_fault_text limit_exceeded = codes "B9"
+
+-- the same of an error of reading; want of memory is no fault of the bytes
+abbrev pub bytes_fault_or : Option ReadFault → List ℕ
+bytes_fault_or (Some fault) = bytes_fault_text fault
+bytes_fault_or None = codes "B10"
+
+abbrev pub reading_text : ReadError → List ℕ
+reading_text e = bytes_fault_or (read_fault e)
 
 -- why a pair of schemas is undecided
 abbrev pub cause_text : Cause → List ℕ

@@ -1,4 +1,5 @@
 -- What only proofs and private contracts need.
+pub mod AtFront
 pub mod FaultsAdded
 pub mod NamedLine
 pub mod Read

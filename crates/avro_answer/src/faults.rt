@@ -1,9 +1,11 @@
-//! The texts of faults of resolution.
+//! The texts of faults of bytes and of resolution.
 
 ghost use Rattle.std.specs.Prelude.{◌≡◌, ◌++◌, flat_map, OnOk};
 ghost use Rattle.avro_compare.specs.Seen.{cause_of, fault_of};
-ghost use Rattle.avro_answer.specs.Texts.{kind_text, step_text, path_text, fault_text};
+ghost use Rattle.avro_certificate.specs.CertificateText.{decimal};
+ghost use Rattle.avro_answer.specs.Texts.{kind_text, step_text, path_text, fault_text, reading_text};
 
+use avro_binary::ReadError;
 use avro_certificate::append_decimal;
 use avro_compare::{Fault, FaultKind};
 use std::alloc::AllocError;
@@ -63,4 +65,34 @@ fn append_step(text: &mut Vec<u8>, step: usize) -> Result<(), AllocError>
 {
     text.push(b'/')?;
     append_decimal(text, step as u64)
+}
+
+/// Appends why bytes cannot be read: the code, and the offset of the part that fails.
+///
+/// # Errors
+///
+/// Memory ran out.
+pub fn append_reading(text: &mut Vec<u8>, error: ReadError) -> Result<(), AllocError>
+    ensures { OnOk result (text.new.items ≡ text.old.items ++ reading_text error) }
+{
+    match error {
+        ReadError::EndOfInput { place } => append_at(text, b"B1 at ", place),
+        ReadError::InvalidNumber { place } => append_at(text, b"B2 at ", place),
+        ReadError::InvalidBoolean { place } => append_at(text, b"B3 at ", place),
+        ReadError::InvalidText { place } => append_at(text, b"B4 at ", place),
+        ReadError::UnknownIndex { place } => append_at(text, b"B5 at ", place),
+        ReadError::InvalidLength { place } => append_at(text, b"B6 at ", place),
+        ReadError::WrongBlockSize { place } => append_at(text, b"B7 at ", place),
+        ReadError::DuplicateKey { place } => append_at(text, b"B8 at ", place),
+        ReadError::LimitExceeded => text.extend_from_slice(b"B9"),
+        ReadError::OutOfMemory => text.extend_from_slice(b"B10"),
+    }
+}
+
+/// Appends words and an offset.
+fn append_at(text: &mut Vec<u8>, words: &[u8], place: usize) -> Result<(), AllocError>
+    ensures { OnOk result (text.new.items ≡ text.old.items ++ (words.now ++ decimal place)) }
+{
+    text.extend_from_slice(words)?;
+    append_decimal(text, place as u64)
 }

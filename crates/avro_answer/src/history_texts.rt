@@ -37,7 +37,7 @@ pub(crate) fn read_texts(
 }
 
 /// Splits off a prefix of this length, or everything if there is less.
-fn cut(texts: &[u8], length: usize) -> (&[u8], &[u8])
+pub(crate) fn cut(texts: &[u8], length: usize) -> (&[u8], &[u8])
     ensures front { result.0.now ≡ take length texts.now }
     ensures back { result.1.now ≡ drop length texts.now }
 {

@@ -7,8 +7,15 @@ ghost use Rattle.avro_certificate.specs.Compatible.{AreCompatible};
 ghost use Rattle.avro_judge.specs.JudgeRanges.{JudgeLimitValues};
 ghost use Rattle.avro_answer.specs.ConfirmAnswer.{ConfirmAnswer, IsConfirmed};
 ghost use Rattle.avro_answer.specs.JudgeAnswer.{JudgeAnswer, IsYes};
+ghost use Rattle.avro_answer.specs.ReadHeadline.{ReadsAfterYes};
 
+use crate::answer::Answer;
+use crate::data_answers::read_text;
+use crate::form::Form;
+use crate::refusal::Refusal;
+use avro_schema::Limits;
 use avro_schema_json::laws::declared_is_schema;
+use std::alloc::Global;
 
 /// Where the answer to two texts is yes, no datum of the schema that the first declares, of any size, fails under the
 /// schema that the second declares.
@@ -24,4 +31,26 @@ pub fn confirmed_is_compatible()
         → IsConfirmed text status → (written read : List Node) → DeclaresText writer written → DeclaresText reader read → AreCompatible written read }
 {
     declared_is_schema();
+}
+
+/// Reads data for two texts, as [`read_text`] does. Where the answer of `judge` to these texts is yes, and the data hold an
+/// encoding of a datum within limits of the schema that the first declares, after the bytes that are skipped and whatever
+/// follows it, the answer is what resolution gives of that datum, and that encoding's length. It is so by the clauses of
+/// `judge_text` and `read_text` alone.
+///
+/// # Errors
+///
+/// Those of [`read_text`].
+pub fn yes_is_read(
+    alloc: Global,
+    writer: &[u8],
+    reader: &[u8],
+    bytes: &[u8],
+    skip: usize,
+    limits: &Limits,
+    form: Form,
+) -> Result<Answer, Refusal>
+    ensures { ReadsAfterYes writer.now reader.now limits.now form skip bytes.now result }
+{
+    read_text(alloc, writer, Some(reader), bytes, skip, limits, form)
 }

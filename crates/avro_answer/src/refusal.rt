@@ -59,7 +59,7 @@ impl<T: Drop> From<AllocFailed<T>> for Refusal {
 pub fn schema_refusal(alloc: Global, word: &str, error: SchemaError) -> Result<Vec<u8>, AllocError>
     ensures { IfOk result (λ line. line.items ≡ refusal_text word.now (code_of_schema error)) }
 {
-    refusal_line(alloc, word, schema_code(error))
+    refusal_line(alloc, word, schema_code(error).as_bytes())
 }
 
 /// The line that reports a certificate's text as refused, by the word that names its file.
@@ -74,18 +74,18 @@ pub fn certificate_refusal(
 ) -> Result<Vec<u8>, AllocError>
     ensures { IfOk result (λ line. line.items ≡ refusal_text word.now (code_of_certificate error)) }
 {
-    refusal_line(alloc, word, certificate_code(error))
+    refusal_line(alloc, word, certificate_code(error).as_bytes())
 }
 
-/// The line of a refused text and of a code.
-fn refusal_line(alloc: Global, word: &str, code: &str) -> Result<Vec<u8>, AllocError>
-    ensures { IfOk result (λ line. line.items ≡ refusal_text word.now code.now) }
+/// The line of what is refused, and of the reason.
+pub(crate) fn refusal_line(alloc: Global, word: &str, reason: &[u8]) -> Result<Vec<u8>, AllocError>
+    ensures { IfOk result (λ line. line.items ≡ refusal_text word.now reason.now) }
 {
     let mut line = Vec::new(alloc);
     line.extend_from_slice(b"avro: ")?;
     line.extend_from_slice(word.as_bytes())?;
     line.extend_from_slice(b": ")?;
-    line.extend_from_slice(code.as_bytes())?;
+    line.extend_from_slice(reason)?;
     line.push(b'\n')?;
     Ok(line)
 }

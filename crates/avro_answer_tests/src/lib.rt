@@ -9,6 +9,8 @@ mod certificates;
 #[cfg(test)]
 mod confirming;
 #[cfg(test)]
+mod data_answers;
+#[cfg(test)]
 mod devices;
 #[cfg(test)]
 mod empty;

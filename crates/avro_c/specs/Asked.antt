@@ -1,5 +1,7 @@
 -- What a caller asks for by numbers.
-use Rattle.std.specs.Prelude.{◌≡◌, ℕ, ◌≤◌, ◌==◌, if◌then◌else◌, List, length, sum}
+use Rattle.std.specs.Prelude.{◌≡◌, ℕ, ◌≤◌, ◌==◌, if◌then◌else◌, List, length, sum, Option, Some, None}
+use Rattle.avro_schema.specs.Fits.{LimitValues}
+use Rattle.avro_schema.specs.Ranges.{AreLimits}
 use Rattle.avro_judge.specs.JudgeRanges.{JudgeLimitValues}
 use Rattle.avro_answer.specs.declared.schemas.Shown.{Shown}
 
@@ -22,3 +24,16 @@ asked_shown number = if number == 0 then Shown.Count else (if number == 1 then S
 -- lengths of at least two texts, which follow one another and are all of these bytes
 abbrev pub AreLengthsOf : List ℕ → List ℕ → Type 0
 AreLengthsOf lengths texts = (2 ≤ length lengths) × (sum lengths ≡ length texts)
+
+-- the reader's text, which there is for 1 and is not for 0
+abbrev pub asked_reader : ℕ → List ℕ → Option (List ℕ)
+asked_reader has reader = if has == 0 then None else Some reader
+
+-- limits of a datum that is read, of which each has its default
+abbrev pub asked_data_limits : ℕ → ℕ → ℕ → LimitValues
+asked_data_limits depth nodes blob =
+    record { depth = asked_or depth 128; nodes = asked_or nodes 1048576; blob = asked_or blob 16777216 }
+
+-- a reader or none, and limits in their ranges
+abbrev pub IsReading : ℕ → ℕ → ℕ → ℕ → Type 0
+IsReading has depth nodes blob = (has ≤ 1) × AreLimits (asked_data_limits depth nodes blob)

@@ -1,8 +1,9 @@
 //! What a caller asks for by numbers.
 
-ghost use Rattle.std.specs.Prelude.{◌≡◌, ◌≤◌, ◌↔◌, IsTrue, length, sum, SomeIff};
+ghost use Rattle.std.specs.Prelude.{◌≡◌, ◌≤◌, ◌↔◌, IsTrue, length, sum, SomeIff, option_copied};
+ghost use Rattle.avro_schema.specs.Ranges.{AreLimits};
 ghost use Rattle.avro_judge.specs.JudgeRanges.{AreJudgeLimits};
-ghost use Rattle.avro_c.specs.Asked.{asked_or, asked_limits, asked_shown};
+ghost use Rattle.avro_c.specs.Asked.{asked_or, asked_limits, asked_shown, asked_reader, asked_data_limits, IsReading};
 
 use avro_answer::Shown;
 use avro_judge::JudgeLimits;
@@ -18,6 +19,43 @@ pub struct AvroLimits {
     pub size: u32,
     /// Its greatest depth.
     pub depth: u32,
+}
+
+/// How a caller asks for data to be read; a limit of 0 is the default one.
+#[repr(C)]
+#[derive(Drop)]
+pub struct AvroReading {
+    /// How many bytes are skipped first.
+    pub skip: usize,
+    /// 1 where there is a reader's text, and 0 where there is none.
+    pub has_reader: u32,
+    /// The greatest depth of a datum.
+    pub depth: u32,
+    /// Its greatest number of nodes.
+    pub nodes: u32,
+    /// The greatest length of one of its strings.
+    pub blob: u32,
+}
+
+/// The limits of a datum that a caller asks for, or nothing where one is out of range, or where it is not said whether
+/// there is a reader.
+pub(crate) fn reading_of(asked: &AvroReading) -> Option<Limits>
+    ensures { SomeIff result (IsReading asked.now.has_reader asked.now.depth asked.now.nodes asked.now.blob) (asked_data_limits asked.now.depth asked.now.nodes asked.now.blob) }
+{
+    if asked.has_reader > 1 {
+        return None;
+    }
+    let depth = or_default(asked.depth, 128);
+    let nodes = or_default(asked.nodes, 1_048_576);
+    let blob = or_default(asked.blob, 16_777_216);
+    Limits::new(depth, nodes, blob)
+}
+
+/// The reader's text, where there is one.
+pub(crate) fn reader_of(has_reader: u32, reader: &[u8]) -> Option<&[u8]>
+    ensures { option_copied result ≡ asked_reader has_reader reader.now }
+{
+    if has_reader == 0 { None } else { Some(reader) }
 }
 
 /// The limits that a caller asks for, or nothing where one is out of range.

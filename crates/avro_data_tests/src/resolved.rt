@@ -90,7 +90,7 @@ struct Wanted<'a> {
 }
 
 /// Rows at the default limits. The last has a fault of resolution, whose path is shown.
-const ROWS: [Row; 24] = [
+const ROWS: [Row; 25] = [
     (TWO_EMPTY, THE_BYTE, b"\x01", "1", b"\x02\x01"),
     (TWO_EMPTY, TWO_EMPTY, b"\x01", "1", b"\x01"),
     (
@@ -136,6 +136,7 @@ const ROWS: [Row; 24] = [
         b"\x04\x04hi\x06\x00\x08\x00",
     ),
     (PAIR, ADDED, b"\x06\x04hi", "4", b"\x04hi\x0e\x06"),
+    (PAIR, ADDED, b"\x86\x00\x04hi", "5", b"\x04hi\x0e\x06"),
     (PAIR, FIRST, b"\x06\x04hi", "4", b"\x06"),
     (PAIR, MAYBE, b"\x06\x04hi", "4", b"\x02\x06\x04hi"),
     (
@@ -177,45 +178,52 @@ const ROWS: [Row; 24] = [
     ),
 ];
 
-/// What is answered of bytes for a reader: how many were read, or the refusal.
+/// What is answered of bytes for a reader: how many were read, that the output would be too long, or the refusal.
 fn answer_text(
     alloc: Global,
-    answer: Result<usize, ReadResolveError>,
+    answer: Result<(bool, usize), ReadResolveError>,
 ) -> Result<String, AllocError> {
     match answer {
-        Ok(len) => format!(in alloc; "{len}"),
+        Ok((true, len)) => format!(in alloc; "{len}"),
+        Ok((false, _)) => format!(in alloc; "over"),
         Err(error) => format!(in alloc; "{error}"),
     }
 }
 
-/// Whether this is answered of bytes once.
+/// Whether this is answered of bytes once, for an output of so many bytes at most. What is refused leaves the output as it was.
 fn is_answered(
     alloc: Global,
     plan: &PlanRef<'_>,
     row: &Wanted<'_>,
+    most: usize,
     room: &mut Appending,
     out: &mut Vec<u8>,
 ) -> Result<bool, AllocError> {
-    let answer = append_resolved(alloc, plan, row.bytes, row.limits, room, out);
-    Ok(answer_text(alloc, answer)?.as_str() == row.answer)
+    let end = out.len();
+    let answer = append_resolved(alloc, plan, row.bytes, row.limits, most, room, out);
+    let fits = end + row.plain.len() <= most;
+    let wanted = if fits { row.answer } else { "over" };
+    let appended = if fits { row.plain } else { &[] };
+    let (_, behind) = out.split_at(end);
+    Ok(answer_text(alloc, answer)?.as_str() == wanted && behind == appended)
 }
 
-/// Whether this is answered of bytes twice with one room, and these are appended each time. What is refused leaves the output
-/// as it was.
+/// Whether this is answered of bytes twice with one room, where the output has just the room for that, or so many bytes less.
 fn is_appended_in(
     alloc: Global,
     plan: &PlanRef<'_>,
     row: &Wanted<'_>,
+    less: usize,
     room: &mut Appending,
 ) -> Result<bool, AllocError> {
     let mut out = Vec::new(alloc);
-    let is_first = is_answered(alloc, plan, row, room, &mut out)?;
-    let is_second = is_answered(alloc, plan, row, room, &mut out)?;
-    let twice = out.split_at_checked(row.plain.len());
-    Ok(is_first && is_second && twice == Some((row.plain, row.plain)))
+    let most = (2 * row.plain.len()).saturating_sub(less);
+    let is_first = is_answered(alloc, plan, row, most, room, &mut out)?;
+    let is_second = is_answered(alloc, plan, row, most, room, &mut out)?;
+    Ok(is_first && is_second)
 }
 
-/// The same with a new room, for the plan of two schemas.
+/// The same with a new room, for the plan of two schemas, and each number of bytes less.
 fn is_appended(
     alloc: Global,
     writer: &Schema,
@@ -224,7 +232,12 @@ fn is_appended(
 ) -> Result<bool, Fail> {
     let plan = Plan::reached(alloc, writer, reader)?;
     let mut room = Appending::new(alloc);
-    Ok(is_appended_in(alloc, &plan.by_ref(), row, &mut room)?)
+    for less in 0..2 * row.plain.len() + 1 {
+        if !is_appended_in(alloc, &plan.by_ref(), row, less, &mut room)? {
+            return Ok(false);
+        }
+    }
+    Ok(true)
 }
 
 /// The same for the text of the reader's schema.

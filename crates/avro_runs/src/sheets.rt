@@ -3,7 +3,9 @@
 use crate::escapes::{bytes_of, halves};
 use crate::files::file_step;
 use crate::steps::{Sheet, room_step, run_step, usage_step};
-use crate::told::{any_step, json_step, pointer_step, size_step, told_step, writes_step};
+use crate::told::{
+    about_step, any_step, json_step, pointer_step, size_step, told_step, writes_step,
+};
 use anyhow::{Error, Result, anyhow};
 use std::rt::{Clock, Files};
 
@@ -42,6 +44,7 @@ fn step<R: Files + Clock + AllocGlobal>(
         "" | "#" => Ok(true),
         "run" | "room" | "usage" => next_step(rt, sheet, word, text),
         "out" | "err" | "put" => told_step(rt.alloc(), sheet, word, text),
+        "about" => Ok(about_step(sheet, text)),
         "writes" => Ok(writes_step(sheet, text)),
         "size" => Ok(size_step(sheet, text)),
         "any" => Ok(any_step(sheet)),
@@ -73,6 +76,7 @@ fn fault(line: &str, sheet: &Sheet) -> Error {
 /// | `room ROOM STATUS WORDS` | the same, where the output takes only some bytes |
 /// | `usage WORDS` | a run whose words are usage |
 /// | `out TEXT`, `err TEXT` | the next line of its output, or of its errors |
+/// | `about FRONT~BACK` | how the next line of its errors begins and ends, behind its last carriage return |
 /// | `put BYTES`, `size NUMBER` | the next bytes of its output, or only how many there are |
 /// | `any` | its output and its errors are of any bytes |
 /// | `at POINTER TEXT` | a text of its output, which is a JSON value |

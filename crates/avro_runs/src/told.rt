@@ -25,6 +25,26 @@ pub(crate) fn told_step(alloc: Global, sheet: &mut Sheet, word: &str, text: &str
     Ok(takes(&sheet.ran.out.bytes, &mut sheet.out_told, &wanted))
 }
 
+/// Whether the next line of some bytes, behind its last carriage return, begins and ends so. It is told then.
+fn takes_line(bytes: &[u8], told: &mut usize, front: &str, back: &str) -> bool {
+    let rest = str::from_utf8(bytes.get(*told..).unwrap_or(b"")).unwrap_or("");
+    let Some((line, _)) = rest.split_once('\n') else {
+        return false;
+    };
+    *told = told.saturating_add(line.len()).saturating_add(1);
+    let last = line
+        .rsplit_once('\r')
+        .map_or(line, |parts| parts.1)
+        .trim_end();
+    last.starts_with(front) && last.ends_with(back)
+}
+
+/// The next line of the error, as it stands at last: how it begins and ends, `FRONT~BACK`.
+pub(crate) fn about_step(sheet: &mut Sheet, text: &str) -> bool {
+    let (front, back) = text.split_once('~').unwrap_or((text, ""));
+    takes_line(&sheet.ran.err.bytes, &mut sheet.err_told, front, back)
+}
+
 /// How many writes went to the output and to the error, each of whole lines.
 pub(crate) fn writes_step(sheet: &Sheet, text: &str) -> bool {
     let (outs, errs) = halves(text);

@@ -1,11 +1,10 @@
 -- The line that reports a container file as refused: a code, the place in the file, and the reason.
 use Rattle.std.specs.Prelude.{ℕ, List, [], ◌++◌, codes}
 use Rattle.avro_zigzag.specs.declared.VarError.{VarError}
-use Rattle.avro_cursor.specs.declared.error.ReadError.{ReadError}
 use Rattle.avro_compare.specs.Seen.{fault_of}
 use Rattle.avro_certificate.specs.CertificateText.{decimal}
 use Rattle.avro_answer.specs.RefusalText.{schema_code}
-use Rattle.avro_answer.specs.Texts.{fault_text}
+use Rattle.avro_answer.specs.Texts.{fault_text, reading_text}
 use Rattle.avro_container.specs.declared.error.CopyError.{CopyError}
 use Rattle.avro_container.specs.declared.error.CountError.{CountError}
 use Rattle.avro_container.specs.declared.error.LimitPlace.{LimitPlace}
@@ -22,19 +21,6 @@ abbrev pub place_text : LimitPlace → List ℕ
 place_text LimitPlace.Header = []
 place_text (LimitPlace.Block block) = block_text block
 place_text (LimitPlace.Datum block datum) = datum_text block datum
-
--- why bytes cannot be read, with the offset of the part that fails
-abbrev pub reading_text : ReadError → List ℕ
-reading_text (ReadError.EndOfInput place) = codes "B1 at " ++ decimal place
-reading_text (ReadError.InvalidNumber place) = codes "B2 at " ++ decimal place
-reading_text (ReadError.InvalidBoolean place) = codes "B3 at " ++ decimal place
-reading_text (ReadError.InvalidText place) = codes "B4 at " ++ decimal place
-reading_text (ReadError.UnknownIndex place) = codes "B5 at " ++ decimal place
-reading_text (ReadError.InvalidLength place) = codes "B6 at " ++ decimal place
-reading_text (ReadError.WrongBlockSize place) = codes "B7 at " ++ decimal place
-reading_text (ReadError.DuplicateKey place) = codes "B8 at " ++ decimal place
-reading_text ReadError.LimitExceeded = codes "B9"
-reading_text ReadError.OutOfMemory = codes "B10"
 
 abbrev pub number_text : VarError → List ℕ
 number_text VarError.EndOfInput = codes "Z1"

@@ -1,5 +1,6 @@
 -- What the program says where it ends without an answer: the exit status, and the line of what is refused.
 use Rattle.std.specs.Prelude.{◌≡◌, ℕ, List}
+use Rattle.avro_answer.specs.DataRead.{error_text}
 use Rattle.avro_answer.specs.RefusalText.{schema_code, certificate_code, refusal_text}
 use Rattle.avro_tool.specs.ContainerText.{container_text}
 use Rattle.avro_tool.specs.declared.failure.Failure.{Failure}
@@ -9,6 +10,7 @@ abbrev pub exit_status : Failure → ℕ
 exit_status (Failure.Schema word e) = 3
 exit_status (Failure.Certificate word e) = 3
 exit_status (Failure.Container word e) = 3
+exit_status (Failure.Data word e) = 3
 exit_status (Failure.CannotRead word) = 4
 exit_status (Failure.CannotWrite word) = 4
 exit_status Failure.CannotPrint = 4
@@ -20,4 +22,5 @@ abbrev pub IsRefusal : Failure → List ℕ → Type 0
 IsRefusal (Failure.Schema word e) line = line ≡ refusal_text word.now (schema_code e)
 IsRefusal (Failure.Certificate word e) line = line ≡ refusal_text word.now (certificate_code e)
 IsRefusal (Failure.Container word e) line = line ≡ container_text word.now e
+IsRefusal (Failure.Data word e) line = line ≡ refusal_text word.now (error_text e)
 IsRefusal _ line = Unit {0}

@@ -2,8 +2,10 @@
 
 use crate::failure::Failure;
 use crate::grammar::{history_command, program};
-use crate::number_options::{limits_in, lines_in, pairs_in};
-use crate::request::{Copying, Evidence, Explaining, History, Judging, Mode, Piping, Request};
+use crate::number_options::{limits_in, lines_in, pairs_in, skip_in};
+use crate::request::{
+    Copying, Evidence, Explaining, History, Judging, Mode, Piping, Reading, Request,
+};
 use avro_answer::{Form, Shown};
 use avro_judge::JudgeLimits;
 use clap::error::ErrorKind;
@@ -89,6 +91,10 @@ fn request_in<'a>(matches: &ArgMatches<'a>) -> Result<Option<Request<'a>>, Failu
     if let Some(show) = matches.subcommand_matches("show") {
         let limit = lines_in(show)?;
         return Ok(showing_in(show, limit));
+    }
+    if let Some(read) = matches.subcommand_matches("read") {
+        let skip = skip_in(read)?;
+        return Ok(reading_in(read, skip));
     }
     Ok(plain_request_in(matches))
 }
@@ -180,6 +186,19 @@ fn showing_in<'a>(show: &ArgMatches<'a>, limit: Option<u64>) -> Option<Request<'
         reader: show.get_str("reader"),
         limit,
     })
+}
+
+/// The request of the words that read encoded data.
+fn reading_in<'a>(read: &ArgMatches<'a>, skip: u32) -> Option<Request<'a>> {
+    let writer = read.get_str("writer")?;
+    let data = read.get_str("data")?;
+    Some(Request::Read(Reading {
+        writer,
+        data,
+        reader: read.get_str("reader"),
+        skip,
+        form: form_in(read),
+    }))
 }
 
 /// The request of the words that check containers.

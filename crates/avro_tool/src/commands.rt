@@ -8,6 +8,7 @@ pub(crate) mod header;
 pub(crate) mod history;
 pub(crate) mod judge;
 pub(crate) mod pipe;
+pub(crate) mod read;
 pub(crate) mod schema;
 pub(crate) mod show;
 pub(crate) mod version;

@@ -2,10 +2,9 @@
 
 ghost use Rattle.std.specs.Prelude.{◌≡◌, ◌++◌, OnOk, IfOk};
 ghost use Rattle.avro_certificate.specs.CertificateText.{decimal};
-ghost use Rattle.avro_tool.specs.ContainerText.{block_text, datum_text, place_text, reading_text, number_text, reason_text, container_text};
+ghost use Rattle.avro_tool.specs.ContainerText.{block_text, datum_text, place_text, number_text, reason_text, container_text};
 
-use avro_answer::{append_fault, schema_code};
-use avro_binary::ReadError;
+use avro_answer::{append_fault, append_reading, schema_code};
 use avro_certificate::append_decimal;
 use avro_container::{CopyError, CountError, LimitPlace};
 use avro_zigzag::VarError;
@@ -82,32 +81,6 @@ fn append_reason(text: &mut Vec<u8>, error: &CopyError) -> Result<(), AllocError
         }
         _ => Ok(()),
     }
-}
-
-/// Appends why bytes cannot be read.
-fn append_reading(text: &mut Vec<u8>, error: ReadError) -> Result<(), AllocError>
-    ensures { OnOk result (text.new.items ≡ text.old.items ++ reading_text error) }
-{
-    match error {
-        ReadError::EndOfInput { place } => append_at(text, b"B1 at ", place),
-        ReadError::InvalidNumber { place } => append_at(text, b"B2 at ", place),
-        ReadError::InvalidBoolean { place } => append_at(text, b"B3 at ", place),
-        ReadError::InvalidText { place } => append_at(text, b"B4 at ", place),
-        ReadError::UnknownIndex { place } => append_at(text, b"B5 at ", place),
-        ReadError::InvalidLength { place } => append_at(text, b"B6 at ", place),
-        ReadError::WrongBlockSize { place } => append_at(text, b"B7 at ", place),
-        ReadError::DuplicateKey { place } => append_at(text, b"B8 at ", place),
-        ReadError::LimitExceeded => text.extend_from_slice(b"B9"),
-        ReadError::OutOfMemory => text.extend_from_slice(b"B10"),
-    }
-}
-
-/// Appends words and an offset.
-fn append_at(text: &mut Vec<u8>, words: &[u8], place: usize) -> Result<(), AllocError>
-    ensures { OnOk result (text.new.items ≡ text.old.items ++ (words.now ++ decimal place)) }
-{
-    text.extend_from_slice(words)?;
-    append_decimal(text, place as u64)
 }
 
 /// The code of a number that cannot be read.

@@ -3,13 +3,17 @@ ghost use Rattle.avro_certificate.specs.declared.error.CertError.{CertError};
 ghost use Rattle.avro_schema_json.specs.declared.error.SchemaError.{SchemaError};
 ghost use Rattle.avro_tool.specs.FailureText.{exit_status, IsRefusal};
 ghost use Rattle.avro_container.specs.declared.error.CopyError.{CopyError};
-ghost use Rattle.avro_tool.specs.declared.failure.Failure.TheVariants.{Schema, Certificate, Container, CannotRead, CannotWrite, OutOfMemory};
+ghost use Rattle.avro_cursor.specs.declared.error.ReadError.{ReadError};
+ghost use Rattle.avro_resolve.specs.declared.error.ReadResolveError.TheVariants.{Read};
+ghost use Rattle.avro_tool.specs.declared.failure.Failure.TheVariants.{Schema, Certificate, Container, Data, CannotRead, CannotWrite, OutOfMemory};
 
 use crate::container_line::container_line;
 use crate::number_options::NumberOption;
-use avro_answer::{certificate_refusal, schema_refusal};
+use avro_answer::{certificate_refusal, data_refusal, schema_refusal};
+use avro_binary::ReadError;
 use avro_container::CopyError;
 use avro_judge::CertError;
+use avro_resolve::ReadResolveError;
 use avro_schema::Memory;
 use avro_schema_json::SchemaError;
 use clap::error::ErrorKind;
@@ -25,6 +29,8 @@ pub(crate) enum Failure<'a> {
     Certificate(&'a str, CertError),
     /// A container was refused.
     Container(&'a str, CopyError),
+    /// Encoded data were refused.
+    Data(&'a str, ReadResolveError),
     /// A file could not be opened or read.
     CannotRead(&'a str),
     /// A file could not be created or written.
@@ -55,6 +61,8 @@ pub(crate) enum Failure<'a> {
     OutOfRange(NumberOption),
     /// The word after the option for a number of lines is not a number.
     NoLimit,
+    /// The word after the option of a number of bytes to skip is none that it takes.
+    NoSkip,
 }
 
 impl<'a> Failure<'a> {
@@ -124,18 +132,30 @@ impl<'a> Failure<'a> {
         }
     }
 
+    /// The failure of reading encoded data.
+    pub(crate) fn of_data(word: &'a str, error: ReadResolveError) -> Failure<'a>
+        ensures memory { error ≡ Read ReadError.OutOfMemory → result ≡ OutOfMemory }
+        ensures refused { error ≢ Read ReadError.OutOfMemory → result ≡ Data word.exit error }
+    {
+        match error {
+            ReadResolveError::Read(ReadError::OutOfMemory) => Failure::OutOfMemory,
+            refused => Failure::Data(word, refused),
+        }
+    }
+
     /// The exit status.
     pub(crate) fn status(&self) -> u8
         ensures { result ≡ exit_status self.now }
     {
         match self {
             Failure::Schema(..) | Failure::Certificate(..) | Failure::Container(..) => 3,
+            Failure::Data(..) => 3,
             Failure::CannotRead(_) | Failure::CannotWrite(_) | Failure::CannotPrint => 4,
             Failure::OutOfMemory => 5,
             Failure::Usage(_) | Failure::NotText | Failure::OneWord | Failure::NoMarker => 64,
             Failure::OneFile | Failure::FileIsOutput | Failure::CopyIsOutput => 64,
             Failure::IsRead(_) | Failure::IsSchema(_) => 64,
-            Failure::OutOfRange(_) | Failure::NoLimit => 64,
+            Failure::OutOfRange(_) | Failure::NoLimit | Failure::NoSkip => 64,
         }
     }
 
@@ -147,6 +167,7 @@ impl<'a> Failure<'a> {
             Failure::Schema(word, error) => schema_refusal(alloc, word, *error),
             Failure::Certificate(word, error) => certificate_refusal(alloc, word, *error),
             Failure::Container(word, error) => container_line(alloc, word, error),
+            Failure::Data(word, error) => data_refusal(alloc, word, error),
             other => Ok(other.other_line(alloc)?.into_bytes()),
         }
     }
@@ -178,6 +199,7 @@ impl<'a> Failure<'a> {
             Failure::FileIsOutput => "avro: FILE is the standard output\n",
             Failure::CopyIsOutput => "avro: OUT is the standard output\n",
             Failure::NoLimit => "avro: --limit takes 0 to 18446744073709551615\n",
+            Failure::NoSkip => "avro: --skip takes 0 to 16777216\n",
             _ => "",
         }
     }

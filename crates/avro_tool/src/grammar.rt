@@ -224,6 +224,22 @@ const HEADER: [Argument; 2] = [
     ),
 ];
 
+const READ: [Argument; 5] = [
+    WRITER,
+    (
+        "data",
+        Takes::Word("DATA"),
+        "File of the encoded data; what follows the datum is left",
+    ),
+    RESOLVED,
+    (
+        "skip",
+        Takes::Number,
+        "Passes over N bytes first, as over the 5 of a registry's messages",
+    ),
+    JSON,
+];
+
 /// The command over a history of schemas.
 const OF_HISTORY: Words = (
     "history",
@@ -232,7 +248,7 @@ const OF_HISTORY: Words = (
 );
 
 /// The commands, in the order of the help.
-const COMMANDS: [Words; 10] = [
+const COMMANDS: [Words; 11] = [
     (
         "judge",
         "Tells whether a reader's schema takes all data of a writer's",
@@ -274,6 +290,11 @@ const COMMANDS: [Words; 10] = [
         "header",
         "Shows the text of a container's schema, whatever its codec",
         &HEADER,
+    ),
+    (
+        "read",
+        "Shows the datum that encoded data begin with, and how many bytes it takes",
+        &READ,
     ),
 ];
 

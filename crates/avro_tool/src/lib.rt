@@ -14,7 +14,7 @@ mod request;
 
 use command_line::request_of;
 use commands::{
-    check, confirm, copy, explain, header, history, judge, pipe, schema, show, version,
+    check, confirm, copy, explain, header, history, judge, pipe, read, schema, show, version,
 };
 use failure::Failure;
 use request::Request;
@@ -164,6 +164,7 @@ fn answer_request<'a, R: Files + Clock + AllocGlobal, I: Read, O: Write, E: Writ
         Request::Copy(asked) => copy::copy_file(rt, asked, out, err),
         Request::Pipe(asked) => pipe::pipe_streams(rt, asked, input, out, err),
         Request::Header { file, is_metadata } => header::show_header(rt, file, *is_metadata, out),
+        Request::Read(asked) => read::read_file(rt, asked, out),
         Request::Version => version::tell_version(rt.alloc(), out),
     }
 }

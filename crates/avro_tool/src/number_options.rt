@@ -5,6 +5,9 @@ use avro_judge::JudgeLimits;
 use avro_schema::Limits;
 use clap::ArgMatches;
 
+/// The most bytes that are skipped.
+const MAX_SKIP: u32 = 16_777_216;
+
 /// An option that takes a number from 1 to a greatest one.
 #[derive(Clone, Copy)]
 pub(crate) enum NumberOption {
@@ -77,5 +80,16 @@ pub(crate) fn lines_in<'a>(matches: &ArgMatches<'a>) -> Result<Option<u64>, Fail
     match word.parse::<u64>() {
         Ok(lines) => Ok(Some(lines)),
         Err(_) => Err(Failure::NoLimit),
+    }
+}
+
+/// How many bytes the words ask to pass over.
+pub(crate) fn skip_in<'a>(matches: &ArgMatches<'a>) -> Result<u32, Failure<'a>> {
+    let Some(word) = matches.get_str("skip") else {
+        return Ok(0);
+    };
+    match word.parse::<u32>() {
+        Ok(skip) if skip <= MAX_SKIP => Ok(skip),
+        _ => Err(Failure::NoSkip),
     }
 }

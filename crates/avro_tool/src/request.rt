@@ -47,6 +47,8 @@ pub(crate) enum Request<'a> {
         file: &'a str,
         is_metadata: bool,
     },
+    /// The datum that encoded data begin with.
+    Read(Reading<'a>),
     /// The version of the program.
     Version,
 }
@@ -88,6 +90,17 @@ pub(crate) struct Explaining<'a> {
     pub(crate) writer: &'a str,
     pub(crate) reader: &'a str,
     pub(crate) max_pairs: u32,
+    pub(crate) form: Form,
+}
+
+/// Encoded data that are read, as what they are for a reader's schema if there is one, and how many bytes are passed
+/// over first.
+#[derive(Clone, Copy)]
+pub(crate) struct Reading<'a> {
+    pub(crate) writer: &'a str,
+    pub(crate) data: &'a str,
+    pub(crate) reader: Option<&'a str>,
+    pub(crate) skip: u32,
     pub(crate) form: Form,
 }
 

@@ -1,6 +1,6 @@
 use Rattle.std.proofs.Common.{rules, inl, refl, arith}
 use Rattle.avro_c.proofs.HistoryStatuses.{history_status}
-use Rattle.avro_c.proofs.avro_history_text.Goals as goal
+use Rattle.avro_c.proofs.avrojudge_history_text.Goals as goal
 
 pub returns-in-Ok-clause-refused : goal.returns-in-Ok-clause-refused
 returns-in-Ok-clause-refused c = λ refused. absurd (omega (arith, refused, c.tell.ensures.status, history_status (c.in-Ok.ensures.answered refl)))

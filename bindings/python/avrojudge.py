@@ -1,13 +1,13 @@
 """The answers of the program `avro` in Python, by its library for C.
 
-    import avro_judge
+    import avrojudge
 
-    verdict = avro_judge.judge(old, new)
-    if verdict.answer is avro_judge.Answer.NO:
+    verdict = avrojudge.judge(old, new)
+    if verdict.answer is avrojudge.Answer.NO:
         print(verdict.fault, verdict.datum)
 
-A text is `bytes`, or a `str` that is encoded in UTF-8. The library is the file that the variable AVRO_LIBRARY names, or
-else bindings/out/libavro.so, which `make library` makes. Calls may run in several threads at once, each of which needs
+A text is `bytes`, or a `str` that is encoded in UTF-8. The library is the file that the variable AVROJUDGE_LIBRARY names, or
+else bindings/out/libavrojudge.so, which `make library` makes. Calls may run in several threads at once, each of which needs
 512 KiB of stack (`threading.stack_size`). It needs Python 3.10.
 """
 
@@ -16,6 +16,7 @@ from __future__ import annotations
 import ctypes
 import enum
 import functools
+import json
 import os
 import pathlib
 import re
@@ -24,7 +25,7 @@ from dataclasses import dataclass
 
 __all__ = [
     "Answer", "AvroError", "Explanation", "Fault", "HistoryLine", "Limits", "NamedFault", "OutOfMemory", "OutOfRange", "Refused", "Verdict",
-    "canonical", "confirm", "explain", "fingerprint", "history", "judge", "nodes", "version",
+    "canonical", "certify", "confirm", "explain", "fingerprint", "history", "judge", "nodes", "read", "read_all", "version",
 ]
 
 FIRST_ROOM = 4096
@@ -37,7 +38,8 @@ class AvroError(Exception):
 
 
 class Refused(AvroError):
-    """A text is refused: `text` is 'writer', 'reader' or 'certificate', and `code` says why, as 'S2'."""
+    """A text or data are refused: `text` is 'writer', 'reader', 'certificate' or 'data', and `code` says why, as 'S2' or
+    'MissingField 2 at /3/0'."""
 
     def __init__(self, text: str, code: str) -> None:
         super().__init__(f"{text}: {code}")
@@ -117,8 +119,17 @@ class HistoryLine:
     cause: str | None = None
 
 
+class CReading(ctypes.Structure):
+    """`avrojudge_reading` of avrojudge.h."""
+
+    _fields_ = [
+        ("skip", ctypes.c_size_t), ("has_reader", ctypes.c_uint32), ("depth", ctypes.c_uint32), ("nodes", ctypes.c_uint32),
+        ("blob", ctypes.c_uint32),
+    ]
+
+
 class CLimits(ctypes.Structure):
-    """`avro_limits` of avro.h."""
+    """`avrojudge_limits` of avrojudge.h."""
 
     _fields_ = [("pairs", ctypes.c_uint32), ("size", ctypes.c_uint32), ("depth", ctypes.c_uint32)]
 
@@ -126,18 +137,22 @@ class CLimits(ctypes.Structure):
 @functools.cache
 def library() -> ctypes.CDLL:
     """The library, with the types of its functions."""
-    beside = pathlib.Path(__file__).resolve().parent.parent / "out" / "libavro.so"
-    found = ctypes.CDLL(os.environ.get("AVRO_LIBRARY") or str(beside))
+    beside = pathlib.Path(__file__).resolve().parent.parent / "out" / "libavrojudge.so"
+    found = ctypes.CDLL(os.environ.get("AVROJUDGE_LIBRARY") or str(beside))
     text = [ctypes.c_char_p, ctypes.c_size_t]
     answer = [*text, ctypes.POINTER(ctypes.c_size_t)]
     limits = ctypes.POINTER(CLimits)
     for name, types in (
-        ("avro_judge_text", [*text, *text, limits]),
-        ("avro_explain_text", [*text, *text, ctypes.c_uint32]),
-        ("avro_confirm_text", [*text, *text, *text]),
-        ("avro_history_text", [*text, ctypes.POINTER(ctypes.c_size_t), ctypes.c_size_t, limits]),
-        ("avro_schema_text", [*text, ctypes.c_uint32]),
-        ("avro_version", []),
+        ("avrojudge_judge_text", [*text, *text, limits]),
+        ("avrojudge_explain_text", [*text, *text, ctypes.c_uint32]),
+        ("avrojudge_explain_json_text", [*text, *text, ctypes.c_uint32]),
+        ("avrojudge_certify_text", [*text, *text, limits]),
+        ("avrojudge_confirm_text", [*text, *text, *text]),
+        ("avrojudge_history_text", [*text, ctypes.POINTER(ctypes.c_size_t), ctypes.c_size_t, limits]),
+        ("avrojudge_schema_text", [*text, ctypes.c_uint32]),
+        ("avrojudge_read_text", [*text, *text, *text, ctypes.POINTER(CReading)]),
+        ("avrojudge_read_texts", [*text, *text, *text, ctypes.POINTER(ctypes.c_size_t), ctypes.c_size_t, ctypes.POINTER(CReading)]),
+        ("avrojudge_version", []),
     ):
         function = getattr(found, name)
         function.restype, function.argtypes = ctypes.c_uint32, [*types, *answer]
@@ -177,7 +192,7 @@ def _lines(function: Callable[..., int], *words: object) -> tuple[Answer, list[s
     # A display may hold other characters that split lines.
     lines = text.decode().split("\n")[:-1]
     if status == 3:
-        _, name, code = lines[0].split(": ")
+        _, name, code = lines[0].split(": ", 2)
         raise Refused(name, code)
     if status == 5:
         raise OutOfMemory("out of memory")
@@ -210,7 +225,7 @@ def _line(line: str) -> HistoryLine:
 def judge(writer: bytes | str, reader: bytes | str, limits: Limits = Limits()) -> Verdict:
     """Judges whether the reader's schema reads all data of the writer's."""
     old, new = _bytes(writer), _bytes(reader)
-    answer, lines = _lines(library().avro_judge_text, old, len(old), new, len(new), c_limits(limits))
+    answer, lines = _lines(library().avrojudge_judge_text, old, len(old), new, len(new), c_limits(limits))
     if answer is Answer.NO:
         datum = lines[3].removeprefix("datum ")
         return Verdict(answer, _fault(lines[1]), int(lines[2].removeprefix("nodes ")), datum)
@@ -222,7 +237,7 @@ def judge(writer: bytes | str, reader: bytes | str, limits: Limits = Limits()) -
 def explain(writer: bytes | str, reader: bytes | str, max_pairs: int = 0) -> Explanation:
     """Finds all faults of two schemas, by names."""
     old, new = _bytes(writer), _bytes(reader)
-    answer, lines = _lines(library().avro_explain_text, old, len(old), new, len(new), _number(max_pairs))
+    answer, lines = _lines(library().avrojudge_explain_text, old, len(old), new, len(new), _number(max_pairs))
     faults = tuple(map(_named, lines[1:])) if answer is Answer.NO else ()
     return Explanation(answer, faults)
 
@@ -231,7 +246,7 @@ def confirm(writer: bytes | str, reader: bytes | str, certificate: bytes | str) 
     """Whether a certificate shows that the reader's schema reads all data of the writer's."""
     texts = [_bytes(text) for text in (writer, reader, certificate)]
     words = [word for text in texts for word in (text, len(text))]
-    return _lines(library().avro_confirm_text, *words)[0] is Answer.YES
+    return _lines(library().avrojudge_confirm_text, *words)[0] is Answer.YES
 
 
 def history(texts: Sequence[bytes | str], limits: Limits = Limits()) -> list[HistoryLine]:
@@ -241,14 +256,14 @@ def history(texts: Sequence[bytes | str], limits: Limits = Limits()) -> list[His
     parts = [_bytes(text) for text in texts]
     lengths = (ctypes.c_size_t * len(parts))(*map(len, parts))
     joined = b"".join(parts)
-    lines = _lines(library().avro_history_text, joined, len(joined), lengths, len(parts), c_limits(limits))[1]
+    lines = _lines(library().avrojudge_history_text, joined, len(joined), lengths, len(parts), c_limits(limits))[1]
     return [_line(line) for line in lines]
 
 
 def _shown(text: bytes | str, shown: int) -> str:
     """What is shown of a schema."""
     schema = _bytes(text)
-    return _lines(library().avro_schema_text, schema, len(schema), shown)[1][0]
+    return _lines(library().avrojudge_schema_text, schema, len(schema), shown)[1][0]
 
 
 def nodes(text: bytes | str) -> int:
@@ -266,6 +281,46 @@ def fingerprint(text: bytes | str) -> str:
     return _shown(text, FINGERPRINT)
 
 
+def certify(writer: bytes | str, reader: bytes | str, limits: Limits = Limits()) -> bytes | None:
+    """The certificate that the reader's schema reads all data of the writer's, or None where the verdict is no yes."""
+    old, new = _bytes(writer), _bytes(reader)
+    answer, lines = _lines(library().avrojudge_certify_text, old, len(old), new, len(new), c_limits(limits))
+    return "".join(f"{line}\n" for line in lines).encode() if answer is Answer.YES else None
+
+
+def c_reading(reader: bytes | str | None, skip: int) -> CReading:
+    """How data are to be read, as the library takes it, within the default limits."""
+    if not 0 <= skip < 2**64:
+        raise OutOfRange(f"{skip} is out of range")
+    return CReading(skip, 0 if reader is None else 1)
+
+
+def read(writer: bytes | str, data: bytes, reader: bytes | str | None = None, skip: int = 0) -> tuple[object, int]:
+    """The datum that the data begin with after `skip` bytes, as parsed JSON, and the length of its encoding. It is what the
+    datum is for the reader's schema, where there is one. Data that are refused raise `Refused`."""
+    old, new = _bytes(writer), _bytes(reader or b"")
+    words = (old, len(old), new, len(new), data, len(data), c_reading(reader, skip))
+    length, datum = _lines(library().avrojudge_read_text, *words)[1]
+    return json.loads(datum.removeprefix("datum ")), int(length.removeprefix("bytes "))
+
+
+def read_all(
+    writer: bytes | str, data: Sequence[bytes], reader: bytes | str | None = None, skip: int = 0,
+) -> list[tuple[object, int] | Refused]:
+    """The same of each of several data; of those that are refused the exception stands in the list, and is not raised."""
+    old, new = _bytes(writer), _bytes(reader or b"")
+    lengths = (ctypes.c_size_t * len(data))(*map(len, data))
+    joined = b"".join(data)
+    words = (old, len(old), new, len(new), joined, len(joined), lengths, len(data), c_reading(reader, skip))
+    return [_read_line(line) for line in _lines(library().avrojudge_read_texts, *words)[1]]
+
+
+def _read_line(line: str) -> tuple[object, int] | Refused:
+    """What a line says of data."""
+    answer = json.loads(line)
+    return Refused("data", answer["fault"]) if "fault" in answer else (answer["datum"], answer["bytes"])
+
+
 def version() -> str:
     """The version of the library, as '1.0.0'."""
-    return ask(library().avro_version)[1].decode().split()[1]
+    return ask(library().avrojudge_version)[1].decode().split()[1]

@@ -1,0 +1,10 @@
+use Rattle.std.proofs.lemmas.Result.{err_from_is_err_and}
+use Rattle.avro_schema.specs.SeenSchema.{schema_nodes}
+use Rattle.avro_answer.proofs.Refused.{reader_of_pair}
+use Rattle.avro_answer.proofs.certifying.certify_text.Goals as goal
+
+pub returns-in_err-reader-clause-refused : goal.returns-in_err-reader-clause-refused
+returns-in_err-reader-clause-refused c =
+    let p = err_from_is_err_and c.from_residual-in_err-reader.result c.from_residual-in_err-reader.ensures.1 in
+    rw (p.1, p.2) (reader_of_pair c.args.writer.now c.args.reader.now (schema_nodes c.in_ok-writer.writer) c.in_ok-writer.ensures.found
+    c.in_err-reader.field-0.0 c.in_err-reader.ensures.refused)

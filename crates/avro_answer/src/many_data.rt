@@ -1,0 +1,131 @@
+//! What is answered of several encoded data.
+
+ghost use Rattle.std.specs.Prelude.{◌≡◌, ◌<◌, ◌++◌, length, codes, IfOk, OnOk, IsErrOf, option_map, option_copied};
+ghost use Rattle.std.specs.Option.{IfSome};
+ghost use Rattle.std.specs.Result.{IfErr};
+ghost use Rattle.avro_schema.specs.SeenSchema.{schema_nodes};
+ghost use Rattle.avro_schema_json.specs.Declaration.{max_text};
+ghost use Rattle.avro_schema_json.specs.declared.error.SchemaError.{SchemaError};
+ghost use Rattle.avro_answer.specs.DataRead.{error_text};
+ghost use Rattle.avro_answer.specs.HistoryAnswer.{cut_texts};
+ghost use Rattle.avro_answer.specs.ReadAnswer.{AreSchemas, RefusesTexts};
+ghost use Rattle.avro_answer.specs.ReadsAnswer.{LinesRead, ReadsAnswer};
+ghost use Rattle.avro_answer.specs.inside.AtFront.{IsFaultTold, IsLineTold};
+ghost use Rattle.avro_answer.specs.declared.form.Form.{Form};
+ghost use Rattle.avro_answer.specs.declared.refusal.Refusal.TheVariants.{Writer, OutOfMemory};
+
+use crate::answer::Answer;
+use crate::data_answers::read_reader_of;
+use crate::data_plan::DataPlan;
+use crate::datum_texts::{append_error, is_memory};
+use crate::form::Form;
+use crate::history_texts::cut;
+use crate::reading::read_writer;
+use crate::refusal::Refusal;
+use avro_resolve::ReadResolveError;
+use avro_schema::{Limits, Memory, Schema};
+use std::alloc::Global;
+
+/// Reads a datum in each of several data, after `skip` bytes, as [`read_text`](crate::read_text) does, and answers a line of
+/// JSON for each: what it says of a datum, or the fault. The data follow one another; their lengths are given, and a length
+/// past the end is that of what is left. The status is 0 where each is read, and else 1. The schemas are read once.
+///
+/// # Errors
+///
+/// The writer's text is refused, or else the reader's; memory ran out.
+pub fn read_texts(
+    alloc: Global,
+    writer: &[u8],
+    reader: Option<&[u8]>,
+    bytes: &[u8],
+    lengths: &[usize],
+    skip: usize,
+    limits: &Limits,
+) -> Result<Answer, Refusal>
+    ensures answered { IfOk result (λ a. ReadsAnswer writer.now (option_copied reader.entry) limits.now skip (cut_texts bytes.now lengths.now) a.text.items a.status) }
+    ensures too_long { max_text < length writer.now → IsErrOf result (Writer SchemaError.LimitExceeded) }
+    ensures refused { IfErr result (RefusesTexts writer.now (option_copied reader.entry)) }
+    ensures complete { AreSchemas writer.now (option_copied reader.entry) → IfErr result (λ e. e ≡ OutOfMemory) }
+{
+    let writer = read_writer(alloc, writer)?;
+    let reader = read_reader_of(alloc, reader)?;
+    Ok(answer_lines(
+        alloc,
+        &writer,
+        reader.as_ref(),
+        bytes,
+        lengths,
+        skip,
+        limits,
+    )?)
+}
+
+/// What is answered of two schemas and of several data.
+fn answer_lines(
+    alloc: Global,
+    writer: &Schema,
+    reader: Option<&Schema>,
+    bytes: &[u8],
+    lengths: &[usize],
+    skip: usize,
+    limits: &Limits,
+) -> Result<Answer, Memory>
+    ensures { IfOk result (λ a. LinesRead (schema_nodes writer.now) (option_map schema_nodes (option_copied reader.entry)) limits.now skip (cut_texts bytes.now lengths.now) a.text.items a.status) }
+{
+    let plan = DataPlan::new(alloc, writer, reader)?;
+    answer_each(alloc, &plan, bytes, lengths, skip, limits)
+}
+
+/// The lines of several data.
+fn answer_each(
+    alloc: Global,
+    plan: &DataPlan<'_>,
+    bytes: &[u8],
+    lengths: &[usize],
+    skip: usize,
+    limits: &Limits,
+) -> Result<Answer, Memory>
+    ensures { IfOk result (λ a. LinesRead (schema_nodes plan.now.0) (option_map schema_nodes plan.now.1) limits.now skip (cut_texts bytes.now lengths.now) a.text.items a.status) }
+{
+    let mut text = Vec::new(alloc);
+    let mut status = 0;
+    let mut rest = bytes;
+    for index in 0..lengths.len() {
+        let (part, others) = cut(rest, lengths[index]);
+        let line = line_of(alloc, plan, part, skip, limits)?;
+        text.extend_from_slice(&line.text)?;
+        status = line.status.max(status);
+        rest = others;
+    }
+    Ok(Answer { text, status })
+}
+
+/// The line of one of them, and its status.
+fn line_of(
+    alloc: Global,
+    plan: &DataPlan<'_>,
+    bytes: &[u8],
+    skip: usize,
+    limits: &Limits,
+) -> Result<Answer, Memory>
+    ensures { IfOk result (λ a. IsLineTold (schema_nodes plan.now.0) (option_map schema_nodes plan.now.1) limits.now skip bytes.now a.text.items a.status) }
+{
+    match plan.tell(alloc, bytes, skip, limits, Form::Json) {
+        Ok(text) => Ok(Answer { text, status: 0 }),
+        Err(error) => fault_line(alloc, &error),
+    }
+}
+
+/// The line of a fault.
+fn fault_line(alloc: Global, error: &ReadResolveError) -> Result<Answer, Memory>
+    ensures { IfOk result (λ a. IsFaultTold error.now a.text.items a.status) }
+{
+    if is_memory(error) {
+        return Err(Memory);
+    }
+    let mut text = Vec::new(alloc);
+    text.extend_from_slice(b"{\"fault\":\"")?;
+    append_error(&mut text, error)?;
+    text.extend_from_slice(b"\"}\n")?;
+    Ok(Answer { text, status: 1 })
+}
