@@ -9,7 +9,7 @@
 #include <stdlib.h>
 #include <time.h>
 
-#include "avro.h"
+#include "avrojudge.h"
 
 static double seconds(void) {
     struct timespec now;
@@ -36,11 +36,11 @@ int main(int count, char **words) {
     size_t writer_length = read_file(words[1], writer, sizeof writer);
     size_t reader_length = read_file(words[2], reader, sizeof reader);
     long calls = atol(words[3]);
-    avro_limits limits = {0};
+    avrojudge_limits limits = {0};
     size_t wanted;
     double start = seconds();
     for (long call = 0; call < calls; call++) {
-        avro_judge_text(writer, writer_length, reader, reader_length, &limits, out, sizeof out, &wanted);
+        avrojudge_judge_text(writer, writer_length, reader, reader_length, &limits, out, sizeof out, &wanted);
     }
     printf("%.1f\n", (seconds() - start) * 1e6 / (double)calls);
     return 0;

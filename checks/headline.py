@@ -1,6 +1,7 @@
 #!/usr/bin/env python3
-"""Lists the definitions that the headline rests on, file by file, those that a `confirmed` alone rests on, and those
-that the answer of `avro judge` to two texts rests on besides, and compares them with the tables of docs/HEADLINE.md.
+"""Lists the definitions that the headline rests on, file by file, those that a `confirmed` alone rests on, those that
+the answer of `avro judge` to two texts rests on besides, and those that the answer of `avro read` after a yes rests on
+besides these, and compares them with the tables of docs/HEADLINE.md.
 
 usage: checks/headline.py [--print]
 
@@ -25,6 +26,7 @@ HEADLINE: Roots = (
 )
 CONFIRMED: Roots = (("Rattle.avro_certificate.specs.Compatible", "AreCompatible"),)
 ANSWERED: Roots = (("Rattle.avro_answer.specs.JudgeAnswer", "JudgeAnswer"),)
+READ: Roots = (("Rattle.avro_answer.specs.ReadHeadline", "ReadsAfterYes"),)
 # The crates and their files in the order in which each rests on those before it.
 CRATES = ("name", "schema", "zigzag", "cursor", "binary", "compare", "resolve", "certificate", "judge", "schema_json", "display", "answer")
 WORD = re.compile(r"[A-Za-z_][\w\-]*")
@@ -156,7 +158,7 @@ def table(roots: Roots, known: Roots = ()) -> str:
 
 def tables() -> list[str]:
     """The tables of the page."""
-    return [table(HEADLINE), table(CONFIRMED), table(ANSWERED, HEADLINE)]
+    return [table(HEADLINE), table(CONFIRMED), table(ANSWERED, HEADLINE), table(READ, HEADLINE + ANSWERED)]
 
 
 def main() -> int:

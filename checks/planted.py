@@ -22,7 +22,7 @@ from pathlib import Path
 ROOT = Path(__file__).resolve().parent.parent
 PLANTED = ROOT / "checks" / "planted"
 # An open goal, or an error of the text.
-TOLD = re.compile(r"(?:note: )?\S+:\d+:\d+: (?!warning)")
+TOLD = re.compile(r"(?:note: )?\S+:\d+:\d+: (?!warning|note: )")
 # A proof that names what the edit took away, which says nothing of the contract.
 NAMED = re.compile(r"(?:note: )?(?:\./)?proofs/.*(?:has no field|is not in scope|has no `|was not admitted)")
 

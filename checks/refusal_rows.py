@@ -289,7 +289,21 @@ def header_rows():
     yield Row("version", "--version", {}, "avro 1.0.0\n")
 
 
+def encoded_rows():
+    """Data without a container."""
+    files = {"w.avsc": TEST, "r.avsc": TEST_READER, "d": b"\0\0\0\0\7" + ROW_DATUM + b"\xff"}
+    shown = 'bytes 5\ndatum {"a":27,"b":"foo"}\n'
+    yield Row("read", "read w.avsc d --skip 5", files, shown)
+    yield Row("read json", "read w.avsc d --skip 5 --json", files, '{"bytes":5,"datum":{"a":27,"b":"foo"}}\n')
+    yield Row("read reader", "read w.avsc d --skip 5 --reader r.avsc", files, shown)
+    yield Row("read cut", "read w.avsc d", {**files, "d": ROW_DATUM[:-1]}, err="avro: d: B1 at 2\n", status=3)
+    unread = {"w.avsc": '"int"', "r.avsc": '"string"', "d": b"\x0a"}
+    yield Row("read unresolved", "read w.avsc d --reader r.avsc", unread, err="avro: d: NoMatch at /\n", status=3)
+    yield Row("read schema", "read w.avsc d", {**unread, "w.avsc": '"float"'}, err="avro: w.avsc: S10\n", status=3)
+    yield Row("read skip", "read w.avsc d --skip 2", unread, err="avro: d: B1 at 0\n", status=3)
+
+
 def rows():
     """All rows."""
-    for some in (schema_rows, judge_rows, option_rows, explain_rows, kept_rows, certificate_rows, reading_rows, copying_rows, piping_rows, header_rows):
+    for some in (schema_rows, judge_rows, option_rows, explain_rows, kept_rows, certificate_rows, reading_rows, copying_rows, piping_rows, header_rows, encoded_rows):
         yield from some()

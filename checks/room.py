@@ -1,11 +1,12 @@
 #!/usr/bin/env python3
 """Announces counts and lengths that do not come, and looks at the room that a program makes for them.
 
-    room.py PROGRAM [GROUP..]     all groups, or those that are named: header, block, data, schema, certificate
+    room.py PROGRAM [GROUP..]     all groups, or those that are named: header, block, data, encoded, schema, certificate
 
 Each row is a file that is cut right behind a count or a length, at each limit and far past it. The program reads it within 64 MB
 of address space. Its answer is the fault that the row says, or what a good row prints; running out of memory is
-none. The certificates and histories of `certificate` are as long as one may be, and one byte longer, and are read within 1 GB.
+none. Bytes that are skipped are held beside a datum, so rows that skip as many as a datum may have are read within 128 MB. The
+certificates and histories of `certificate` are as long as one may be, and one byte longer, and are read within 1 GB.
 The table of what was wrong comes first, then a line for each group, and 'N rows, K wrong, at most X KB of heap': the most
 bytes of allocations that stood at once in any run.
 """
@@ -188,6 +189,27 @@ def of_data():
         yield Row("check f.avro", {"f.avro": front + block(1, body)}, 3, "", err)
 
 
+def of_encoded():
+    """The same data without a container, and data that are longer than one datum may be."""
+    for schema, body, fault in data_rows():
+        named = f"s.avsc: {fault[4:]}" if fault.startswith("C4") else "d: B9" if fault.startswith("C9") else f"d: {fault.rpartition(': ')[2]}"
+        files = {"s.avsc": schema.encode(), "d": body}
+        yield Row("read s.avsc d", files, 3, "", f"avro: {named}\n")
+        if schema in READERS:
+            yield Row("read s.avsc d --reader r.avsc", {**files, "r.avsc": READERS[schema].encode()}, 3, "", f"avro: {named}\n")
+    ints, text = {"s.avsc": b'"int"'}, {"s.avsc": b'"bytes"'}
+    for length in (SIZE, SIZE + 1, 2**30):
+        yield Row("read s.avsc d", {**ints, "d": (b"\x0a", length)}, 0, "bytes 1\ndatum 5\n", "")
+        yield Row(f"read s.avsc d --skip {SIZE}", {**ints, "d": (b"", SIZE + length)}, 0, "bytes 1\ndatum 0\n", "", space=2 * SPACE)
+    # Of a datum that needs a byte more than it may have none is shown.
+    front = number(SIZE - 4)
+    yield Row("read s.avsc d", {**text, "d": (front, len(front) + SIZE - 5)}, 3, "", f"avro: d: B1 at {len(front)}\n")
+    for longer in (BLOB - 3, BLOB):
+        front = number(longer)
+        yield Row("read s.avsc d", {**text, "d": (front, len(front) + longer)}, 3, "", "avro: d: B9\n")
+        yield Row("read s.avsc d --skip 4", {**text, "d": (b"\0\0\0\0" + front, 4 + len(front) + longer)}, 3, "", "avro: d: B9\n")
+
+
 def of_schema():
     ints = b'"int"'
     for length in (TEXT - 1, TEXT):
@@ -224,7 +246,7 @@ def of_certificate():
             yield Row(words, {**schemas, "c.txt": front + digits + back}, 3, "", f"avro: c.txt: {code}\n", space=1 << 30)
 
 
-GROUPS = {"header": of_header, "block": of_block, "data": of_data, "schema": of_schema, "certificate": of_certificate}
+GROUPS = {"header": of_header, "block": of_block, "data": of_data, "encoded": of_encoded, "schema": of_schema, "certificate": of_certificate}
 
 
 def write_files(row):
