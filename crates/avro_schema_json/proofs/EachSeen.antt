@@ -1,5 +1,5 @@
 -- What is so of each element of a list before one, and of what each key of a map leads to, as one more comes.
-use Rattle.avro_schema_json.proofs.Words.{◌≡◌, ℕ, zero, suc, ◌+◌, ◌<◌, ◌≤◌, Bool, true, false, cond, List, [], ◌∷◌, ◌++◌, length, map, get_or, Option, Some, option_map, refl, sym, ap, subst, ◌∙◌, arith, nat_lt, slice_get, bytes_eq, slice_get-map, slice_get_within, bytes_eq-Decides, same_Some, slice_get-get_or}
+use Rattle.avro_schema_json.proofs.Words.{◌≡◌, ℕ, zero, suc, ◌+◌, ◌<◌, ◌≤◌, Bool, true, false, cond, List, [], ◌∷◌, ◌++◌, length, map, get_or, Option, Some, option_map, refl, sym, ap, subst, ◌∙◌, arith, nat_lt, slice_get, bytes_eq, slice_get-map, slice_get_within, bytes_eq-Decides, same_Some, slice_get-get_or, set, length-set, get_or-set_same}
 
 -- ---- lists
 
@@ -43,6 +43,17 @@ before-next xs i x P Q at kept here before k y within there = by (nat_lt k i) re
 
 pub before-all : {A : Type 0} (xs : List A) (i : ℕ) (P : ℕ → A → Type 0) → length xs ≤ i → Before xs P i → (k : ℕ) (x : A) → slice_get xs k ≡ Some x → P k x
 before-all xs i P past before k x at = before k x (omega (arith, past, slice_get_within xs k x at)) at
+
+pub set-each : {A : Type 0} (xs : List A) (j : ℕ) (y : A) (F : ℕ → Option A → Type 0) → j < length xs → ((k : ℕ) → F k (slice_get xs k)) → F j (Some y)
+    → (k : ℕ) → F k (slice_get (set xs j y) k)
+set-each [] j y F below before this k = absurd (omega (arith, below))
+set-each (x ∷ xs) zero y F below before this zero = this
+set-each (x ∷ xs) zero y F below before this (suc k) = before (suc k)
+set-each (x ∷ xs) (suc j) y F below before this zero = before zero
+set-each (x ∷ xs) (suc j) y F below before this (suc k) = set-each xs j y (λ i. F (suc i)) (omega (arith, below)) (λ i. before (suc i)) this k
+
+pub set-there : {A : Type 0} (xs : List A) (j : ℕ) (y : A) → j < length xs → slice_get (set xs j y) j ≡ Some y
+set-there xs j y below = slice_get-get_or (set xs j y) j y (omega (arith, below, length-set xs j y)) ∙ ap Some (get_or-set_same xs j y y below)
 
 -- ---- maps
 

@@ -1,5 +1,5 @@
 -- The marks of JSON as those of its parts are kept.
-use Rattle.avro_schema_json.proofs.Words.{◌≡◌, ℕ, zero, suc, ◌+◌, Bool, true, false, List, [], ◌∷◌, ◌++◌, length, length-append, nat_lt, Option, Some, None, get_or, refl, sym, ap, subst, ◌∙◌, ◌<◌, ◌⊎◌, inl, inr, arith, unwrap_or, Vec, none-some, same_Some, Node, Data, get_item, view, items_view, Tree, get_item_within, place_of, Covers, part_at, IsPartUnder, IsSetOf, IsMarked, marked, Stays, ArePartsMarked, Label, IsStep, AreParents, has_few, few_of, label_of, has_place, LeadsTo, AreSteps, Few, Mark}
+use Rattle.avro_schema_json.proofs.Words.{◌≡◌, ℕ, zero, suc, ◌+◌, Bool, true, false, List, [], ◌∷◌, ◌++◌, length, length-append, nat_lt, Option, Some, None, get_or, refl, sym, ap, subst, ◌∙◌, ◌<◌, ◌⊎◌, inl, inr, arith, unwrap_or, Vec, none-some, same_Some, Node, Data, get_item, view, items_view, Tree, get_item_within, place_of, Covers, part_at, IsPartUnder, IsSetOf, IsMarked, marked, Stays, ArePartsMarked, Label, IsStep, AreParents, has_bit, words_of, label_of, has_place, LeadsTo, AreSteps, Mark}
 use Rattle.std.specs.Prelude.{slice_get, if◌then◌else◌, Result, Ok, Err, IfOk}
 use Rattle.std.specs.BTreeMap.{BTreeMap}
 use denote.Ref.{Bor}
@@ -143,7 +143,7 @@ place-below last m below = by (nat_lt m last) refl
     by false h = below
 
 -- the parents of what a set has
-stepped : (nodes : List Node) (last : ℕ) (labels : BTreeMap (Bor (List ℕ)) ℕ) (parents : List (BTreeMap ℕ (Vec Few))) (label : Label) (k number : ℕ) (sets : Sets)
+stepped : (nodes : List Node) (last : ℕ) (labels : BTreeMap (Bor (List ℕ)) ℕ) (parents : List (BTreeMap ℕ (Vec ℕ))) (label : Label) (k number : ℕ) (sets : Sets)
     (s n : ℕ) (row : List ℕ) → AreParents nodes last labels parents → number_of labels label ≡ Some k → (k ≡ number) ⊎ (k ≡ 1) → last < 4096 → row_at sets s ≡ Some row
     → (leads : LeadsTo parents sets number s n) → IsStep nodes last label row leads.1
 stepped nodes last labels parents label k number sets s n row are is either below at leads = λ x t y part own there.
@@ -152,7 +152,7 @@ stepped nodes last labels parents label k number sets s n row are is either belo
     let number_is : parent.0 ≡ k = same_Some parent.0 k (sym parent.1 ∙ is) in
     leads.4 (place_of last y) k (place_of last x) (place-below last y below) either
     (subst (λ (r : List ℕ). has_place r (place_of last y) ≡ true) same there)
-    (subst (λ (q : ℕ). has_few (few_of parents (place_of last y) q) (place_of last x)) number_is parent.2)
+    (subst (λ (q : ℕ). has_bit (words_of parents (place_of last y) q) (place_of last x)) number_is parent.2)
 
 -- they cover what holds a part
 pub part-covered : (nodes : List Node) (tables : Tables) (d e : Data) (number s n : ℕ) (before after : Sets) → AreTables nodes tables → IsPartUnder tables.labels number d e
@@ -175,7 +175,7 @@ part-covered nodes tables (Data.object ms) e number s n before after are under s
         stepped nodes tables.last tables.labels tables.parents.items (Label.named under.0) k number after s n set.0 are.parents label (inl (sym is)) are.last_below at leads
 part-covered nodes tables _ e number s n before after are under set kept leads = absurd under
 
-pub steps-stay : (parents : List (BTreeMap ℕ (Vec Few))) (memo : Memo) (after : Sets) → KeepsRows memo.sets after → AreSteps parents memo
+pub steps-stay : (parents : List (BTreeMap ℕ (Vec ℕ))) (memo : Memo) (after : Sets) → KeepsRows memo.sets after → AreSteps parents memo
     → AreSteps parents (record { sets = after; steps = memo.steps })
 steps-stay parents memo after kept good = λ label s n found.
     let leads = good label s n found in (leads.0, leads.1, kept s leads.0 leads.2, kept n leads.1 leads.3, leads.4)

@@ -1,5 +1,5 @@
 -- Under which labels a node is a part of which nodes, its parents.
-use Rattle.std.specs.Prelude.{◌≡◌, ℕ, ◌/◌, ◌%◌, true, List, [], length, slice_get, Option, Some, None, unwrap_or, Contains}
+use Rattle.std.specs.Prelude.{◌≡◌, ℕ, ◌/◌, ◌%◌, true, List, [], length, slice_get, get_or, Option, Some, None, unwrap_or, Contains}
 use Rattle.std.specs.Global.{Vec}
 use Rattle.std.specs.Int.{bit_at}
 use Rattle.std.specs.Ordering.{nat_cmp}
@@ -9,7 +9,6 @@ use denote.Ref.{Bor}
 use Rattle.avro_schema.specs.Node.{Node, FieldNode, node_at, items_node, values_node}
 use Rattle.avro_schema_json.specs.inside.Rows.{has_place}
 use Rattle.avro_schema_json.specs.inside.Covers.{place_of, own_ids}
-use Rattle.avro_schema_json.specs.declared.defaults.parents.Few.{Few}
 
 -- how a part is in what holds it
 pub data Label : Type 0 where
@@ -38,24 +37,24 @@ IsStep nodes last label row parents =
     (x t y : ℕ) → IsPart label (node_at nodes x) t → Contains (own_ids nodes t) y → has_place row (place_of last y) ≡ true
     → has_place parents (place_of last x) ≡ true
 
--- a place is among some
-abbrev pub has_few : List Few → ℕ → Type 0
-has_few few p = (k : ℕ) × (f : Few) × (slice_get few k ≡ Some f) × (p / 64 ≡ f.word) × (bit_at f.bits (p % 64) ≡ 1)
+-- the bit of a place, in words from that of the first place on
+unfoldable pub has_bit : List ℕ → ℕ → Type 0
+has_bit words p = bit_at (get_or words (p / 64) 0) (p % 64) ≡ 1
 
-abbrev pub few_or_none : Option (Vec Few) → List Few
-few_or_none None = []
-few_or_none (Some few) = few.items
+abbrev pub words_or_none : Option (Vec ℕ) → List ℕ
+words_or_none None = []
+words_or_none (Some words) = words.items
 
 -- the parents under the number of a label, of one place and of each
-abbrev pub few_under : BTreeMap ℕ (Vec Few) → ℕ → List Few
-few_under parents number = few_or_none (get nat_cmp parents number)
+abbrev pub words_under : BTreeMap ℕ (Vec ℕ) → ℕ → List ℕ
+words_under parents number = words_or_none (get nat_cmp parents number)
 
-abbrev pub few_at : Option (BTreeMap ℕ (Vec Few)) → ℕ → List Few
-few_at None number = []
-few_at (Some parents) number = few_under parents number
+abbrev pub words_at : Option (BTreeMap ℕ (Vec ℕ)) → ℕ → List ℕ
+words_at None number = []
+words_at (Some parents) number = words_under parents number
 
-abbrev pub few_of : List (BTreeMap ℕ (Vec Few)) → ℕ → ℕ → List Few
-few_of parents place number = few_at (slice_get parents place) number
+abbrev pub words_of : List (BTreeMap ℕ (Vec ℕ)) → ℕ → ℕ → List ℕ
+words_of parents place number = words_at (slice_get parents place) number
 
 -- the number of the label of a name
 abbrev pub label_of : BTreeMap (Bor (List ℕ)) ℕ → List ℕ → Option ℕ
@@ -71,36 +70,36 @@ abbrev pub label_or_values : BTreeMap (Bor (List ℕ)) ℕ → List ℕ → ℕ
 label_or_values labels name = unwrap_or (label_of labels name) 1
 
 -- a place is a parent of another under a label
-abbrev pub HasParent : BTreeMap (Bor (List ℕ)) ℕ → List (BTreeMap ℕ (Vec Few)) → Label → ℕ → ℕ → Type 0
-HasParent labels parents label part parent = (number : ℕ) × (number_of labels label ≡ Some number) × has_few (few_of parents part number) parent
+abbrev pub HasParent : BTreeMap (Bor (List ℕ)) ℕ → List (BTreeMap ℕ (Vec ℕ)) → Label → ℕ → ℕ → Type 0
+HasParent labels parents label part parent = (number : ℕ) × (number_of labels label ≡ Some number) × has_bit (words_of parents part number) parent
 
 -- a place is a parent of some nodes
-abbrev pub HasParts : ℕ → List ℕ → List (BTreeMap ℕ (Vec Few)) → ℕ → ℕ → Type 0
-HasParts last ids parents number parent = (y : ℕ) → Contains ids y → has_few (few_of parents (place_of last y) number) parent
+abbrev pub HasParts : ℕ → List ℕ → List (BTreeMap ℕ (Vec ℕ)) → ℕ → ℕ → Type 0
+HasParts last ids parents number parent = (y : ℕ) → Contains ids y → has_bit (words_of parents (place_of last y) number) parent
 
 -- a record is a parent of the nodes of a field, and of each field
-abbrev pub IsField : List Node → ℕ → BTreeMap (Bor (List ℕ)) ℕ → List (BTreeMap ℕ (Vec Few)) → FieldNode → ℕ → Type 0
+abbrev pub IsField : List Node → ℕ → BTreeMap (Bor (List ℕ)) ℕ → List (BTreeMap ℕ (Vec ℕ)) → FieldNode → ℕ → Type 0
 IsField nodes last labels parents f parent =
     (number : ℕ) × (label_of labels f.name ≡ Some number) × HasParts last (own_ids nodes f.node) parents number parent
 
-abbrev pub AreFields : List Node → ℕ → BTreeMap (Bor (List ℕ)) ℕ → List (BTreeMap ℕ (Vec Few)) → List FieldNode → ℕ → Type 0
+abbrev pub AreFields : List Node → ℕ → BTreeMap (Bor (List ℕ)) ℕ → List (BTreeMap ℕ (Vec ℕ)) → List FieldNode → ℕ → Type 0
 AreFields nodes last labels parents fields parent = (k : ℕ) (f : FieldNode) → slice_get fields k ≡ Some f → IsField nodes last labels parents f parent
 
 -- a node is a parent of its parts, and each node of its own
-abbrev pub IsParent : List Node → ℕ → BTreeMap (Bor (List ℕ)) ℕ → List (BTreeMap ℕ (Vec Few)) → Node → ℕ → Type 0
+abbrev pub IsParent : List Node → ℕ → BTreeMap (Bor (List ℕ)) ℕ → List (BTreeMap ℕ (Vec ℕ)) → Node → ℕ → Type 0
 IsParent nodes last labels parents n parent =
     (label : Label) (t y : ℕ) → IsPart label n t → Contains (own_ids nodes t) y → HasParent labels parents label (place_of last y) parent
 
-abbrev pub AreParents : List Node → ℕ → BTreeMap (Bor (List ℕ)) ℕ → List (BTreeMap ℕ (Vec Few)) → Type 0
+abbrev pub AreParents : List Node → ℕ → BTreeMap (Bor (List ℕ)) ℕ → List (BTreeMap ℕ (Vec ℕ)) → Type 0
 AreParents nodes last labels parents = (x : ℕ) → IsParent nodes last labels parents (node_at nodes x) (place_of last x)
 
 -- what was there is there
-abbrev pub KeepsUnder : BTreeMap ℕ (Vec Few) → BTreeMap ℕ (Vec Few) → Type 0
-KeepsUnder before after = (number parent : ℕ) → has_few (few_under before number) parent → has_few (few_under after number) parent
+abbrev pub KeepsUnder : BTreeMap ℕ (Vec ℕ) → BTreeMap ℕ (Vec ℕ) → Type 0
+KeepsUnder before after = (number parent : ℕ) → has_bit (words_under before number) parent → has_bit (words_under after number) parent
 
-abbrev pub KeepsParents : List (BTreeMap ℕ (Vec Few)) → List (BTreeMap ℕ (Vec Few)) → Type 0
+abbrev pub KeepsParents : List (BTreeMap ℕ (Vec ℕ)) → List (BTreeMap ℕ (Vec ℕ)) → Type 0
 KeepsParents before after =
-    (length after ≡ length before) × ((part number parent : ℕ) → has_few (few_of before part number) parent → has_few (few_of after part number) parent)
+    (length after ≡ length before) × ((part number parent : ℕ) → has_bit (words_of before part number) parent → has_bit (words_of after part number) parent)
 
 abbrev pub KeepsLabels : BTreeMap (Bor (List ℕ)) ℕ → BTreeMap (Bor (List ℕ)) ℕ → Type 0
 KeepsLabels before after = (name : List ℕ) (number : ℕ) → label_of before name ≡ Some number → label_of after name ≡ Some number

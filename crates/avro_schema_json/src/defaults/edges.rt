@@ -5,7 +5,7 @@ ghost use Rattle.avro_schema.specs.Seen.{ids_of, texts_of};
 ghost use Rattle.avro_schema_json.specs.DeclaredAttributes.{symbol_index};
 ghost use Rattle.avro_schema_json.specs.inside.Covers.{own_ids};
 ghost use Rattle.avro_schema_json.specs.inside.OwnDefaults.{all_without_defaults, fields_seen, without_defaults};
-ghost use Rattle.avro_schema_json.specs.inside.Parents.{AreFields, AreParents, HasParts, IsParent, KeepsLabels, KeepsParents, few_of, has_few, label_of as label_by, label_or_values};
+ghost use Rattle.avro_schema_json.specs.inside.Parents.{AreFields, AreParents, HasParts, IsParent, KeepsLabels, KeepsParents, has_bit, label_of as label_by, label_or_values, words_of};
 ghost use Rattle.avro_schema_json.specs.inside.Symbols.{AreSymbols, HasSymbol, HasSymbols};
 
 use crate::defaults::parents::{ITEMS, Parents, VALUES, put_under};
@@ -66,7 +66,7 @@ fn put_parent(
 ) -> Result<(), Memory>
     requires { place < length parents.old.items }
     ensures kept { OnOk result (KeepsParents parents.old.items parents.new.items) }
-    ensures added { OnOk result (has_few (few_of parents.new.items place label) parent) }
+    ensures added { OnOk result (has_bit (words_of parents.new.items place label) parent) }
 {
     put_under(alloc, &mut parents[place], label, parent)?;
     Ok(())

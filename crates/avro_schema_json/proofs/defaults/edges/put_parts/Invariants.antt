@@ -1,8 +1,8 @@
-use Rattle.avro_schema_json.proofs.Words.{◌≡◌, ℕ, ◌<◌, Some, ids_of, place_of, KeepsParents, few_of, has_few}
+use Rattle.avro_schema_json.proofs.Words.{◌≡◌, ℕ, ◌<◌, Some, ids_of, place_of, KeepsParents, words_of, has_bit}
 use Rattle.std.specs.Prelude.{slice_get}
 use Rattle.avro_schema_json.proofs.defaults.edges.put_parts.Given as goal
 
 abbrev pub invariant-loop-id : goal.invariant-loop-id
 invariant-loop-id l =
     KeepsParents l.initial.parents.items l.parents.items
-    × ((k y : ℕ) → k < l.id-index → slice_get (ids_of l.ids) k ≡ Some y → has_few (few_of l.parents.items (place_of l.last y) l.label) l.parent)
+    × ((k y : ℕ) → k < l.id-index → slice_get (ids_of l.ids) k ≡ Some y → has_bit (words_of l.parents.items (place_of l.last y) l.label) l.parent)
