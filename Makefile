@@ -73,7 +73,7 @@ quick: words ## runs all tests without any proof (thirteen minutes of processor 
 	@echo "== avro_runs"; cd crates/avro_runs && \
 	rt try --steps 1 --seconds 600 $$(sed 's/.*/--data &=data\/&/' args) -- $$(cat args) | diff - stdout
 
-test: ## the gate: each proof, test, program and must-fail edit, from scratch (three and a half processor hours)
+test: ## the gate: each proof, test, program and must-fail edit, from scratch (three processor hours)
 	rt ci
 
 check: ## checks one crate, CRATE=avro_name (1 to 3 minutes per thousand lines; after an edit 5 to 60 seconds)
