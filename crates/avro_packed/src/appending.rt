@@ -162,6 +162,15 @@ impl Appending {
         Ok(self.since(start))
     }
 
+    /// Nothing, at the end of the output.
+    #[inline(always)]
+    pub(crate) fn here(&self) -> Written
+        ensures { Holds self.now result [] }
+    {
+        let end = self.out.len();
+        Written::Range(end, end)
+    }
+
     /// No items or entries.
     #[inline(always)]
     pub(crate) fn gather(&self, branch: Option<u32>) -> Gathered
@@ -169,11 +178,10 @@ impl Appending {
         ensures count { result.count ≡ 0 }
         ensures written { Holds self.now result.written [] }
     {
-        let end = self.out.len();
         Gathered {
             branch,
             count: 0,
-            written: Written::Range(end, end),
+            written: self.here(),
         }
     }
 
@@ -454,9 +462,11 @@ impl Make for Appending {
     }
 
     #[inline(always)]
-    fn fields(&mut self, _alloc: Global, at: Option<u32>) -> Result<Written, AllocError> {
-        let start = self.begin(at)?;
-        Ok(self.since(start))
+    fn fields(&mut self, alloc: Global, at: Option<u32>) -> Result<Written, AllocError> {
+        match at {
+            None => Ok(self.here()),
+            Some(_) => self.null(alloc, at),
+        }
     }
 
     #[inline(always)]

@@ -130,9 +130,49 @@ fn join_counted(
     Ok(())
 }
 
+/// Extends a range by one that starts where it ends, and says whether it did.
+#[inline(always)]
+fn extend(first: &mut Written, second: &Written) -> bool
+    ensures joined { (out a b : List ℕ) → result ≡ true → Holds out first.old a → Holds out second.now b → Holds out first.new (a ++ b) }
+    ensures none { result ≡ false → first.new ≡ first.old }
+{
+    match first {
+        Written::Range(_, end) => match second {
+            Written::Range(from, to) => {
+                if *from == *end {
+                    *end = *to;
+                    return true;
+                }
+                false
+            }
+            Written::Apart(_) => false,
+            Written::Counted(_) => false,
+        },
+        Written::Apart(_) => false,
+        Written::Counted(_) => false,
+    }
+}
+
 /// Puts what was written after what was written before.
 #[inline(always)]
 pub(crate) fn join(
+    alloc: Global,
+    out: &[u8],
+    spares: &mut Vec<Box<Apart>>,
+    first: &mut Written,
+    second: Written,
+) -> Result<(), AllocError>
+    ensures { (a b : List ℕ) → Holds out.now first.old a → Holds out.now second b → OnOk result (Holds out.now first.new (a ++ b)) }
+{
+    if extend(first, &second) {
+        return Ok(());
+    }
+    join_apart(alloc, out, spares, first, second)
+}
+
+/// The same for what does not stand one behind the other.
+#[inline(never)]
+fn join_apart(
     alloc: Global,
     out: &[u8],
     spares: &mut Vec<Box<Apart>>,
@@ -148,10 +188,6 @@ pub(crate) fn join(
     match first {
         Written::Range(start, end) => match second {
             Written::Range(from, to) => {
-                if from == *end {
-                    *end = to;
-                    return Ok(());
-                }
                 let mut all = room(alloc, spares)?;
                 append_range(out, from, to, &mut all.more)?;
                 all.start = *start;
@@ -267,6 +303,9 @@ pub(crate) fn join_near(
     ensures kept { OnOk result (Grows out.old.items out.new.items) }
     ensures joined { (a b : List ℕ) → Holds out.old.items first.old a → Holds out.old.items second b → OnOk result (Holds out.new.items first.new (a ++ b)) }
 {
+    if extend(first, &second) {
+        return Ok(());
+    }
     let near = brought(out, first, second)?;
     join(alloc, out, spares, first, near)
 }

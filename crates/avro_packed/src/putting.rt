@@ -238,7 +238,10 @@ impl Put for Appending {
 
     #[inline(always)]
     fn fields(&mut self, alloc: Global, into: Option<u32>) -> Result<Written, AllocError> {
-        Make::null(self, alloc, into)
+        match into {
+            None => Ok(self.here()),
+            Some(_) => Make::null(self, alloc, into),
+        }
     }
 
     #[inline(always)]

@@ -40,6 +40,45 @@ pub(crate) fn settle(
     ensures unchanged { (old bytes : List ℕ) → Grows old out.old.items → end ≡ length old → Holds out.old.items written.now bytes
         → OnErr result (out.new.items ≡ old) }
 {
+    match written {
+        Written::Range(start, stop) => {
+            if *start == end {
+                return Ok(settle_in_place(out, end, *stop, most));
+            }
+            settle_moved(out, end, written, most)
+        }
+        Written::Apart(_) => settle_moved(out, end, written, most),
+        Written::Counted(_) => settle_moved(out, end, written, most),
+    }
+}
+
+/// The same for bytes that stand right behind that end already.
+#[inline(always)]
+fn settle_in_place(out: &mut Vec<u8>, end: usize, stop: usize, most: usize) -> bool
+    ensures { (old bytes : List ℕ) → Grows old out.old.items → end ≡ length old → StandsAt out.old.items end stop bytes
+        → AppendsWithin most old out.new.items bytes result }
+{
+    if stop <= most {
+        out.truncate(stop);
+        return true;
+    }
+    out.truncate(end);
+    false
+}
+
+/// The same for what was written anywhere.
+#[inline(never)]
+fn settle_moved(
+    out: &mut Vec<u8>,
+    end: usize,
+    written: &Written,
+    most: usize,
+) -> Result<bool, AllocError>
+    ensures settled { (old bytes : List ℕ) → Grows old out.old.items → end ≡ length old → Holds out.old.items written.now bytes
+        → IfOk result (λ fits. AppendsWithin most old out.new.items bytes fits) }
+    ensures unchanged { (old bytes : List ℕ) → Grows old out.old.items → end ≡ length old → Holds out.old.items written.now bytes
+        → OnErr result (out.new.items ≡ old) }
+{
     match leave_within(out, end, written, most) {
         Ok(true) => Ok(true),
         Ok(false) => {

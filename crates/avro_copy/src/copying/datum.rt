@@ -25,18 +25,18 @@ use std::alloc::Global;
 fn pack_datum(
     alloc: Global,
     block: &BlockTask<'_>,
+    limits: &Limits,
     bytes: &[u8],
     room: &mut Appending,
     packed: &mut Vec<u8>,
 ) -> Result<(bool, usize), ReadResolveError>
-    ensures { PacksNext (reading_for block.now) packed.old.items packed.new.items bytes.now result }
+    ensures { limits.now ≡ (reading_for block.now).limits.datum → PacksNext (reading_for block.now) packed.old.items packed.new.items bytes.now result }
 {
     let schema = block.header.schema();
-    let limits = block.task.limits.datum();
     let most = block.task.limits.block() as usize;
     match &block.plan {
-        Some(plan) => pack_resolved(alloc, plan, bytes, &limits, most, room, packed),
-        None => pack_read(alloc, schema, bytes, &limits, most, room, packed),
+        Some(plan) => pack_resolved(alloc, plan, bytes, limits, most, room, packed),
+        None => pack_read(alloc, schema, bytes, limits, most, room, packed),
     }
 }
 
@@ -103,13 +103,14 @@ pub(crate) fn pack_each(
     ensures memory { IfErr result (λ e. file_fault e ≡ None → e ≡ CopyError.OutOfMemory) }
 {
     let alloc = *packed.allocator();
+    let limits = block.task.limits.datum();
     let mut room = Appending::new(alloc);
     let mut start = 0;
     let mut datum = 0;
     while datum < count && empty.is_none() {
         let (_, rest) = body.split_at(start);
         let before = packed.len();
-        match pack_datum(alloc, block, rest, &mut room, packed) {
+        match pack_datum(alloc, block, &limits, rest, &mut room, packed) {
             Ok((fits, len)) => {
                 if !fits {
                     return Err(CopyError::LimitExceeded(LimitPlace::Block(block.number)));

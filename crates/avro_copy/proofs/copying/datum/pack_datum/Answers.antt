@@ -30,21 +30,21 @@ abbrev Reads : ℕ → List ℕ → List ℕ → Result (Bool × ℕ) ReadResolv
 Reads most before after result reader nodes limits bytes = ReadsDatum {O = Bool} (λ fits u. AppendsWithin most before after (plain u) fits) nodes limits (resolution reader nodes) bytes result
 
 pub returns-in-Some : goal.returns-in-Some
-returns-in-Some c =
+returns-in-Some c = λ is.
     let block = c.args.block.now in
     let most = block.task.now.limits.block in
     let plan = c.in-Some.plan in
     let planned : Some plan ≡ option_map (λ r. (block.header.now.schema, r.1)) (option_copied block.task.now.reader) = sym c.in-Some.is ∙ block.planned in
-    let reads = subst (λ reader. Reads most c.args.packed.now.items c.pack_resolved.new.packed.items c.pack_resolved.result reader (schema_nodes plan.0) c.datum-limits.result c.args.bytes.now)
+    let reads = subst (λ reader. Reads most c.args.packed.now.items c.pack_resolved.new.packed.items c.pack_resolved.result reader (schema_nodes plan.0) c.args.limits.now c.args.bytes.now)
     (reader_of _ _ _ planned) (search rules) in
     same_said (Reads most c.args.packed.now.items c.pack_resolved.new.packed.items c.pack_resolved.result (option_map (λ r. schema_nodes r.1) (option_copied block.task.now.reader)))
-    _ _ _ _ _ _ (ap schema_nodes (writer_of _ _ _ planned)) c.datum-limits.ensures refl reads
+    _ _ _ _ _ _ (ap schema_nodes (writer_of _ _ _ planned)) is refl reads
 
 pub returns-in-None : goal.returns-in-None
-returns-in-None c =
+returns-in-None c = λ is.
     let block = c.args.block.now in
     let most = block.task.now.limits.block in
-    let reads = subst (λ reader. Reads most c.args.packed.now.items c.pack_read.new.packed.items c.pack_read.result reader (schema_nodes c.schema-schema.result.now) c.datum-limits.result c.args.bytes.now)
+    let reads = subst (λ reader. Reads most c.args.packed.now.items c.pack_read.new.packed.items c.pack_read.result reader (schema_nodes c.schema-schema.result.now) c.args.limits.now c.args.bytes.now)
     (reader_of _ _ _ (sym c.in-None.is ∙ block.planned)) (search rules) in
     same_said (Reads most c.args.packed.now.items c.pack_read.new.packed.items c.pack_read.result (option_map (λ r. schema_nodes r.1) (option_copied block.task.now.reader)))
-    _ _ _ _ _ _ (ap schema_nodes c.schema-schema.ensures) c.datum-limits.ensures refl reads
+    _ _ _ _ _ _ (ap schema_nodes c.schema-schema.ensures) is refl reads

@@ -17,7 +17,7 @@ loop-datum-preserved c =
     let before = c.loop-datum.packed.items in
     let after = c.pack_datum.new.packed.items in
     let yes : c.in-Ok.fits ≡ true = search rules in
-    let takes = subst (λ (bytes : List ℕ). TakesOne r before after bytes c.in-Ok.fits c.in-Ok.len) c.split_at.ensures.back c.in-Ok.ensures.found in
+    let takes = subst (λ (bytes : List ℕ). TakesOne r before after bytes c.in-Ok.fits c.in-Ok.len) c.split_at.ensures.back (c.in-Ok.ensures c.datum-limits.ensures).found in
     let within = takes-within r before after _ c.in-Ok.fits c.in-Ok.len yes takes in
     let found = within.0 in
     let fits = within.1 in
@@ -33,7 +33,7 @@ loop-datum-preserved-in_ok-unit-in-Ok-2 c =
     let before = c.loop-datum.packed.items in
     let after = c.pack_datum.new.packed.items in
     let yes : c.in-Ok.fits ≡ true = search rules in
-    let takes = subst (λ (bytes : List ℕ). TakesOne r before after bytes c.in-Ok.fits c.in-Ok.len) c.split_at.ensures.back c.in-Ok.ensures.found in
+    let takes = subst (λ (bytes : List ℕ). TakesOne r before after bytes c.in-Ok.fits c.in-Ok.len) c.split_at.ensures.back (c.in-Ok.ensures c.datum-limits.ensures).found in
     let within = takes-within r before after _ c.in-Ok.fits c.in-Ok.len yes takes in
     let found = within.0 in
     let fits = within.1 in
@@ -53,7 +53,7 @@ returns-then-not-fits-clause-refused c = λ f is.
     let before = c.loop-datum.packed.items in
     let after = c.pack_datum.new.packed.items in
     let no : c.in-Ok.fits ≡ false = search rules in
-    let takes = subst (λ (bytes : List ℕ). TakesOne r before after bytes c.in-Ok.fits c.in-Ok.len) c.split_at.ensures.back c.in-Ok.ensures.found in
+    let takes = subst (λ (bytes : List ℕ). TakesOne r before after bytes c.in-Ok.fits c.in-Ok.len) c.split_at.ensures.back (c.in-Ok.ensures c.datum-limits.ensures).found in
     let over = takes-over r before after _ c.in-Ok.fits c.in-Ok.len no takes in
     let few : c.loop-datum.datum < c.args.count = search rules in
     pack-over r c.args.block.now.number c.args.count c.loop-datum.datum c.loop-datum.start c.in-Ok.len c.args.body.now before over.0 f
@@ -65,7 +65,7 @@ datum_error-requires c =
     let body = c.args.body.now in
     let start = c.loop-datum.start in
     let refuses = subst (λ (bytes : List ℕ). PacksNext r c.loop-datum.packed.items c.pack_datum.new.packed.items bytes (Err c.in-Err.error))
-    c.split_at.ensures.back c.in-Err.ensures in
+    c.split_at.ensures.back (c.in-Err.ensures c.datum-limits.ensures) in
     let fits : Fits w64 (length body) = search rules in
     let small : length body < 2 ^ 64 = fits.fits in
     record {
@@ -77,7 +77,7 @@ pub returns-in-Err-clause-refused : goal.returns-in-Err-clause-refused
 returns-in-Err-clause-refused c = λ f is.
     let r = reading_for c.args.block.now in
     let refuses = subst (λ (bytes : List ℕ). PacksNext r c.loop-datum.packed.items c.pack_datum.new.packed.items bytes (Err c.in-Err.error))
-    c.split_at.ensures.back c.in-Err.ensures in
+    c.split_at.ensures.back (c.in-Err.ensures c.datum-limits.ensures) in
     let few : c.loop-datum.datum < c.args.count = search rules in
     datum_fails _ r c.args.block.now.number c.args.count c.loop-datum.datum c.loop-datum.start c.args.body.now c.loop-datum.invariant.2.made c.in-Err.error f
     few c.loop-datum.invariant.0 c.loop-datum.invariant.2.whole refuses (sym c.datum_error.ensures.fault ∙ is)

@@ -1,20 +1,13 @@
 use Rattle.std.proofs.Common.{◌≡◌, ◌++◌, ◌∙◌, List, [], ℕ, ap, subst, sym, rules}
 use Rattle.avro_packed.specs.Appended.{Holds, StandsAt}
-use Rattle.avro_packed.specs.inside.Outputs.{stands_joined, holds_joined}
+use Rattle.avro_packed.specs.inside.Outputs.{holds_joined}
 use Rattle.avro_packed.specs.declared.written.Apart.{Apart}
-use Rattle.avro_packed.proofs.moving.join.Goals as goal
+use Rattle.avro_packed.proofs.moving.join_apart.Goals as goal
 
 pub returns-then-is_nothing : goal.returns-then-is_nothing
 returns-then-is_nothing c = λ a b first second.
     let none : a ≡ [] = c.is_nothing.ensures c.args.out.now a c.if-is_nothing.true first in
     subst (λ (l : List ℕ). Holds c.args.out.now c.args.second (l ++ b)) (sym none) second
-
-pub returns-then-from-end : goal.returns-then-from-end
-returns-then-from-end c = λ a b first second.
-    let out = c.args.out.now in
-    let front = subst (λ w. Holds out w a) c.in-Range.is first in
-    let back = subst (λ w. Holds out w b) c.in-Range-second.is second in
-    stands_joined out c.in-Range.start c.in-Range.end c.in-Range-second.to a b front (subst (λ n. StandsAt out n c.in-Range-second.to b) c.if-from-end.true back)
 
 pub returns-then-deref-end : goal.returns-then-deref-end
 returns-then-deref-end c = λ a b first second.

@@ -1,6 +1,6 @@
 use Rattle.std.proofs.Common.{◌≡◌, ◌∙◌, length-append, ap, length, true, false, arith, rules}
 use Rattle.avro_packed.proofs.Left.{front_left}
-use Rattle.avro_packed.proofs.settling.settle.Goals as goal
+use Rattle.avro_packed.proofs.settling.settle_moved.Goals as goal
 
 pub returns-in-Ok-true-clause-settled : goal.returns-in-Ok-true-clause-settled
 returns-in-Ok-true-clause-settled c = λ old bytes kept ends holds.
