@@ -4,7 +4,7 @@ ghost use Rattle.avro_schema.specs.Seen.{value_of, values_of, entries_of};
 ghost use Rattle.avro_schema.specs.SeenSchema.{schema_nodes};
 ghost use Rattle.avro_display.specs.DisplayTree.{branch_tree, display_tree, display_items, display_entries, display_fields, display_text, part_at, record_fields};
 ghost use Rattle.avro_display.specs.Pieces.{PutsText};
-ghost use Rattle.avro_display.specs.Table.{AreMembers};
+ghost use Rattle.avro_display.specs.Table.{AreMembers, head_text};
 ghost use Rattle.avro_display.specs.declared.put_error.PutError.{PutError};
 ghost use Rattle.serde_json.specs.Data.{array, object, no_members};
 ghost use Rattle.serde_json.specs.Written.{comma_if, compact_text};
@@ -262,7 +262,11 @@ fn put_members<O: Output>(
 }
 
 /// Appends a comma, if something is before, and then bytes.
-fn append_separated(text: &mut Vec<u8>, later: bool, bytes: &[u8]) -> Result<(), Memory>
+///
+/// # Errors
+///
+/// Memory ran out.
+pub fn append_separated(text: &mut Vec<u8>, later: bool, bytes: &[u8]) -> Result<(), Memory>
     ensures { OnOk result (text.new.items ≡ text.old.items ++ (comma_if later ++ bytes.now)) }
 {
     if later {
@@ -277,4 +281,23 @@ fn bool_text(value: bool) -> &'static [u8]
     ensures { result.now ≡ token_text (boolean value) }
 {
     if value { b"true" } else { b"false" }
+}
+
+/// Appends a comma, if something is before, and then a key with its colon.
+///
+/// # Errors
+///
+/// Memory ran out.
+pub fn append_entry_key(
+    text: &mut Vec<u8>,
+    alloc: Global,
+    later: bool,
+    key: &str,
+) -> Result<(), Memory>
+    ensures { OnOk result (text.new.items ≡ text.old.items ++ (comma_if later ++ head_text key.now)) }
+{
+    if later {
+        text.push(b',')?;
+    }
+    append_key(text, alloc, key)
 }

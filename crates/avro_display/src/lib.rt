@@ -15,7 +15,9 @@ mod pieces;
 mod put_error;
 mod table;
 
-pub use display::{put_display, show};
+pub use display::{append_entry_key, append_separated, put_display, show};
 pub use member::Member;
+pub use members::entry_order;
+pub use pieces::{put_characters, put_plain, put_quoted};
 pub use put_error::PutError;
 pub use table::DisplayTable;

@@ -35,7 +35,11 @@ fn field_order<'a>(alloc: Global, fields: &'a [Field]) -> Result<BTreeMap<&'a st
 }
 
 /// The keys of entries in order, each with its entry's index.
-pub(crate) fn entry_order<'a>(
+///
+/// # Errors
+///
+/// Memory ran out.
+pub fn entry_order<'a>(
     alloc: Global,
     entries: &'a [(String, Datum)],
 ) -> Result<BTreeMap<&'a str, usize>, Memory>

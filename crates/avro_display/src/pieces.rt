@@ -37,7 +37,11 @@ pub(crate) fn put_piece<O: Output>(out: &mut O, text: &mut Vec<u8>) -> Result<()
 }
 
 /// Appends bytes, and puts all if it is long.
-pub(crate) fn put_plain<O: Output>(
+///
+/// # Errors
+///
+/// The output failed, or took none of the bytes; memory ran out.
+pub fn put_plain<O: Output>(
     out: &mut O,
     text: &mut Vec<u8>,
     bytes: &[u8],
@@ -68,7 +72,11 @@ pub(crate) fn put_number<O: Output>(
 }
 
 /// Appends a quoted text, and puts all if it is long.
-pub(crate) fn put_quoted<O: Output>(
+///
+/// # Errors
+///
+/// The output failed, or took none of the bytes; memory ran out.
+pub fn put_quoted<O: Output>(
     out: &mut O,
     text: &mut Vec<u8>,
     alloc: Global,
@@ -84,7 +92,11 @@ pub(crate) fn put_quoted<O: Output>(
 }
 
 /// Appends bytes as a quoted text of one character per byte, and puts all if it is long.
-pub(crate) fn put_characters<O: Output>(
+///
+/// # Errors
+///
+/// The output failed, or took none of the bytes; memory ran out.
+pub fn put_characters<O: Output>(
     out: &mut O,
     text: &mut Vec<u8>,
     alloc: Global,

@@ -1,23 +1,16 @@
-ghost use Rattle.std.specs.Prelude.{◌≡◌, ◌≤◌, true, length, IfOk, option_map};
-ghost use Rattle.avro_container.specs.DataRead.{read_nodes};
-ghost use Rattle.avro_schema.specs.Fits.{fits};
-ghost use Rattle.avro_schema.specs.Node.{root_of};
-ghost use Rattle.avro_schema.specs.Seen.{value_of};
-ghost use Rattle.avro_schema.specs.SeenSchema.{schema_nodes};
-
 use crate::Finding;
 use crate::failure::Failure;
 use crate::files::container::{ROOM, open_container};
 use crate::files::kept::is_output;
 use crate::files::schema::read_reader;
 use avro_answer::datum_line;
-use avro_binary::{Nothing, Tree, decode};
+use avro_binary::{Nothing, decode};
 use avro_container::{Block, Blocks, CopyError, FileLimits, Header};
-use avro_device::Input;
-use avro_resolve::laws::resolved_fits;
-use avro_resolve::{Plan, ReadResolveError};
-use avro_schema::{Datum, Limits, Memory, Schema};
+use avro_device::{Input, WriteOutput, put_all};
+use avro_resolve::Plan;
+use avro_schema::{Datum, Limits, Schema};
 use avro_schema_json::ReaderText;
+use avro_show::{ResolvedDisplay, ShowError};
 use std::alloc::Global;
 use std::io::{BufWriter, Write};
 use std::rt::Files;
@@ -106,8 +99,36 @@ fn show_after<'a, I: Input, O: Write>(
     limit: u64,
     out: &mut O,
 ) -> Result<Finding, Failure<'a>> {
-    let plan = plan_for(alloc, header, reader)?;
-    show_blocks(alloc, input, word, header, &plan, limit, out)
+    match reader {
+        Some(reader) => show_for_reader(alloc, input, word, header, reader.schema(), limit, out),
+        None => show_blocks(alloc, input, word, header, None, limit, out),
+    }
+}
+
+/// How data are read and displayed for a reader.
+#[derive(Clone, Copy)]
+struct ForReader<'p> {
+    plan: &'p Plan<'p>,
+    display: &'p ResolvedDisplay<'p>,
+}
+
+/// Prints the data after a header for a reader's schema.
+fn show_for_reader<'a, I: Input, O: Write>(
+    alloc: Global,
+    input: &mut I,
+    word: &'a str,
+    header: &Header,
+    reader: &Schema,
+    limit: u64,
+    out: &mut O,
+) -> Result<Finding, Failure<'a>> {
+    let plan = Plan::reached(alloc, header.schema(), reader)?;
+    let display = ResolvedDisplay::new(alloc, plan.by_ref())?;
+    let reader = ForReader {
+        plan: &plan,
+        display: &display,
+    };
+    show_blocks(alloc, input, word, header, Some(reader), limit, out)
 }
 
 /// Prints the data of the blocks after a header, up to a number of lines. What follows is not read.
@@ -116,7 +137,7 @@ fn show_blocks<'a, I: Input, O: Write>(
     input: &mut I,
     word: &'a str,
     header: &Header,
-    plan: &Option<Plan<'_>>,
+    reader: Option<ForReader<'_>>,
     limit: u64,
     out: &mut O,
 ) -> Result<Finding, Failure<'a>> {
@@ -127,10 +148,10 @@ fn show_blocks<'a, I: Input, O: Write>(
         if left == 0 {
             break;
         }
-        match next_block(&mut blocks, input, plan) {
+        match next_block(&mut blocks, input, reader) {
             Ok(Some(block)) => {
                 let lines = left.min(u64::from(block.count()));
-                show_block(alloc, &block, header, plan, &limits.datum(), lines, out)?;
+                show_lines_of(alloc, &block, header, reader, &limits.datum(), lines, out)?;
                 left = left.saturating_sub(lines);
             }
             Ok(None) => break,
@@ -140,30 +161,18 @@ fn show_blocks<'a, I: Input, O: Write>(
     Ok(Finding::Good)
 }
 
-/// The plan by which the data of a container are read, where there is a reader. It is made once for all blocks.
-fn plan_for<'a>(
-    alloc: Global,
-    header: &'a Header,
-    reader: Option<&'a ReaderText>,
-) -> Result<Option<Plan<'a>>, Memory> {
-    match reader {
-        Some(reader) => Ok(Some(Plan::reached(alloc, header.schema(), reader.schema())?)),
-        None => Ok(None),
-    }
-}
-
 /// The next block, if there is one, after a walk over all of its data, so that a block with a fault is not shown in part.
 fn next_block<'a, I: Input>(
     blocks: &mut Blocks<'a>,
     input: &mut I,
-    plan: &Option<Plan<'_>>,
+    reader: Option<ForReader<'_>>,
 ) -> Result<Option<Block<'a>>, CopyError> {
     let Some(block) = blocks.next(input)? else {
         return Ok(None);
     };
-    match plan {
-        Some(plan) => {
-            block.read_by(plan, &mut Nothing)?;
+    match reader {
+        Some(reader) => {
+            block.read_by(reader.plan, &mut Nothing)?;
         }
         None => block.check()?,
     }
@@ -171,24 +180,37 @@ fn next_block<'a, I: Input>(
 }
 
 /// Prints the first data of a block that was walked over, up to a number, each as soon as it was read.
-fn show_block<'a, O: Write>(
+fn show_lines_of<'a, O: Write>(
     alloc: Global,
     block: &Block<'_>,
     header: &Header,
-    plan: &Option<Plan<'_>>,
+    reader: Option<ForReader<'_>>,
     limits: &Limits,
     lines: u64,
     out: &mut O,
 ) -> Result<(), Failure<'a>> {
-    let schema = header.schema();
-    let shown = shown_schema(schema, plan);
+    match reader {
+        Some(reader) => show_resolved(alloc, block, reader.display, limits, lines, out),
+        None => show_block(alloc, block, header.schema(), limits, lines, out),
+    }
+}
+
+/// Prints them as they are.
+fn show_block<'a, O: Write>(
+    alloc: Global,
+    block: &Block<'_>,
+    schema: &Schema,
+    limits: &Limits,
+    lines: u64,
+    out: &mut O,
+) -> Result<(), Failure<'a>> {
     let mut rest = block.body();
     for _ in 0..lines {
         // After the walk over the block only memory can run out.
-        let Ok((datum, len)) = read_datum(alloc, schema, plan, rest, limits) else {
+        let Ok((datum, len)) = decode(alloc, schema, schema.root(), rest, limits) else {
             return Err(Failure::OutOfMemory);
         };
-        let line = datum_line(alloc, shown, &datum)?;
+        let line = datum_line(alloc, schema, &datum)?;
         if out.write_all(line.as_bytes()).is_err() {
             return Err(Failure::CannotPrint);
         }
@@ -198,39 +220,46 @@ fn show_block<'a, O: Write>(
     Ok(())
 }
 
-/// The schema of what is printed: the reader's, where there is one.
-fn shown_schema<'a>(schema: &'a Schema, plan: &'a Option<Plan<'_>>) -> &'a Schema
-    ensures { schema_nodes result.now ≡ read_nodes (schema_nodes schema.now) (option_map (λ p. schema_nodes p.1) plan.now) }
-{
-    match plan {
-        Some(plan) => plan.by_ref().reader(),
-        None => schema,
+/// Prints them as what they are for a reader.
+fn show_resolved<'a, O: Write>(
+    alloc: Global,
+    block: &Block<'_>,
+    display: &ResolvedDisplay<'_>,
+    limits: &Limits,
+    lines: u64,
+    out: &mut O,
+) -> Result<(), Failure<'a>> {
+    let writer = display.writer();
+    let mut rest = block.body();
+    for _ in 0..lines {
+        // After the walk over the block only memory can run out.
+        let Ok((datum, len)) = decode(alloc, writer, writer.root(), rest, limits) else {
+            return Err(Failure::OutOfMemory);
+        };
+        put_line(alloc, display, &datum, out)?;
+        let (_, others) = rest.split_at(len);
+        rest = others;
     }
+    Ok(())
 }
 
-/// Reads a datum from the start of some bytes, resolved for the reader if there is one, and returns it
-/// with the length of its encoding.
-fn read_datum(
+/// Prints the line of what a writer's datum is for a reader, in pieces.
+fn put_line<'a, O: Write>(
     alloc: Global,
-    schema: &Schema,
-    plan: &Option<Plan<'_>>,
-    bytes: &[u8],
-    limits: &Limits,
-) -> Result<(Datum, usize), ReadResolveError>
-    ensures fitting { IfOk result (λ r. fits (read_nodes (schema_nodes schema.now) (option_map (λ p. schema_nodes p.1) plan.now))
-        (root_of (read_nodes (schema_nodes schema.now) (option_map (λ p. schema_nodes p.1) plan.now))) (value_of r.0) ≡ true) }
-    ensures inside { IfOk result (λ r. r.1 ≤ length bytes.now) }
-{
-    resolved_fits();
-    match plan {
-        Some(plan) => {
-            // Only the contract of this call matters here: the reader's schema is well formed.
-            let _ = plan.by_ref().reader().len();
-            plan.read(alloc, bytes, limits, &mut Tree)
-        }
-        None => match decode(alloc, schema, schema.root(), bytes, limits) {
-            Ok(answer) => Ok(answer),
-            Err(error) => Err(ReadResolveError::Read(error)),
-        },
+    display: &ResolvedDisplay<'_>,
+    datum: &Datum,
+    out: &mut O,
+) -> Result<(), Failure<'a>> {
+    let mut output = WriteOutput::new(out);
+    let mut text = Vec::new(alloc);
+    match display.put(&mut output, &mut text, alloc, datum) {
+        Ok(()) => {}
+        Err(ShowError::CannotWrite) => return Err(Failure::CannotPrint),
+        // Each datum was resolved in the walk over the block.
+        Err(ShowError::OutOfMemory | ShowError::Unresolved) => return Err(Failure::OutOfMemory),
     }
+    if put_all(&mut output, &text).is_err() || put_all(&mut output, b"\n").is_err() {
+        return Err(Failure::CannotPrint);
+    }
+    Ok(())
 }

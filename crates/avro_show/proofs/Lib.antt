@@ -1,0 +1,4 @@
+mod Leads
+mod Parts
+mod InOrder
+mod Taken
