@@ -47,7 +47,7 @@ module _ (writer reader : List Node) (w r : Node) where
       → resolve_items writer reader w r i (values_of (drop i items)) ≡ Ok us → NextItem items i d us
   next_item items i d us low is e =
       let all = both_ok value i (resolve writer reader w r (value_of (slice_index_or items i d))) (resolve_items writer reader w r (suc i) (values_of (drop (i + 1) items))) us
-          (ap (λ (xs : List Datum). resolve_items writer reader w r i (values_of xs)) (sym (next_in items i d low)) ∙ e) in (
+      (ap (λ (xs : List Datum). resolve_items writer reader w r i (values_of xs)) (sym (next_in items i d low)) ∙ e) in (
         all.0,
         all.1,
         ap (λ x. resolve writer reader w r (value_of x)) is ∙ all.2,
@@ -124,7 +124,7 @@ module _ (writer reader : List Node) (ws rs : List FieldNode) where
       (resolve_sources writer reader ws rs (suc i) (values_of values))) (sym (subst (λ (m : ℕ). reader_field ws rs m ≡ Some f) (sym same) is)) ∙ e))
   source_found i (x ∷ values) found (suc k) j d f low at is e =
       let more = sourced_later i j (λ g. resolve writer reader (node_at writer (unwrap_or (slice_get (map (λ h. h.node) ws) i) 0)) (node_at reader g.node) (value_of x))
-          (reader_field ws rs i) (resolve_sources writer reader ws rs (suc i) (values_of values)) found (omega (arith, at)) e in
+      (reader_field ws rs i) (resolve_sources writer reader ws rs (suc i) (values_of values)) found (omega (arith, at)) e in
       source_found (suc i) values more.0 k j d f (omega (arith, low)) (omega (arith, at)) is more.1 ∙ ap (λ v. Ok v) more.2
 
   -- the same of any field that has the source

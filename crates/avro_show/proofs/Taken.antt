@@ -26,7 +26,7 @@ module _ (writer reader : List Node) (w q : Node) (v u : Value) where
       × (compact_text (array (display_items reader (node_at reader b) us)) ≡ display_text reader q u)
   array_taken a b vs is of_writer of_reader e =
       let us = unmapped Value.array (resolve_items writer reader (node_at writer (item_id w)) (part_of reader (items_node q)) 0 vs) u
-          (subst (λ (x : Value). taken_as writer reader w x q ≡ Ok u) is e) in (
+      (subst (λ (x : Value). taken_as writer reader w x q ≡ Ok u) is e) in (
         us.0,
         ap (λ (k : ℕ). resolve_items writer reader (node_at writer k) (node_at reader b) 0 vs) of_writer
             ∙ ap (λ (o : Option ℕ). resolve_items writer reader (node_at writer (item_id w)) (part_of reader o) 0 vs) (sym of_reader) ∙ us.1,
@@ -39,7 +39,7 @@ module _ (writer reader : List Node) (w q : Node) (v u : Value) where
       × (compact_text (object (display_entries reader (node_at reader b) us no_members)) ≡ display_text reader q u)
   map_taken a b es is of_writer of_reader e =
       let us = unmapped Value.map_of (resolve_entries writer reader (node_at writer (value_id w)) (part_of reader (values_node q)) 0 es) u
-          (subst (λ (x : Value). taken_as writer reader w x q ≡ Ok u) is e) in (
+      (subst (λ (x : Value). taken_as writer reader w x q ≡ Ok u) is e) in (
         us.0,
         ap (λ (k : ℕ). resolve_entries writer reader (node_at writer k) (node_at reader b) 0 es) of_writer
             ∙ ap (λ (o : Option ℕ). resolve_entries writer reader (node_at writer (value_id w)) (part_of reader o) 0 es) (sym of_reader) ∙ us.1,
@@ -52,7 +52,7 @@ module _ (writer reader : List Node) (w q : Node) (v u : Value) where
       × (compact_text (object (display_fields reader (fields_at q) (field_values (fields_at w) found (fields_at q)) no_members)) ≡ display_text reader q u)
   record_taken vs is e =
       let found = record_ok (fields_at w) (fields_at q) (missing_field (fields_at w) (fields_at q)) (resolve_sources writer reader (fields_at w) (fields_at q) 0 vs) u
-          (subst (λ (x : Value). taken_as writer reader w x q ≡ Ok u) is e) in
+      (subst (λ (x : Value). taken_as writer reader w x q ≡ Ok u) is e) in
       (found.0, found.1, ap (display_text reader q) found.2)
 
 module _ (writer reader : List Node) (ws rs : List FieldNode) (found : Sourced) (index : ℕ) (f : FieldNode) (there : slice_get rs index ≡ Some f) where

@@ -86,14 +86,7 @@ impl<'a> ResolvedDisplay<'a> {
         ensures fails { IsErrOf result ShowError.CannotWrite → (O.failures out.new ≢ O.failures out.old) ⊎ O.stuck out.new }
         ensures memory { IsErrOf result ShowError.OutOfMemory → O.failures out.new ≡ O.failures out.old }
     {
-        put_pair(
-            out,
-            text,
-            self,
-            alloc,
-            PlanPair::roots(&self.plan),
-            datum,
-        )
+        put_pair(out, text, self, alloc, PlanPair::roots(&self.plan), datum)
     }
 
     /// Where a pair leads, if the writer's node is not a union.

@@ -283,7 +283,15 @@ fn put_record<O: Output>(
     let mut later = false;
     for member in display.members(pair) {
         append_separated(text, later, member.head())?;
-        put_field(&mut *out, &mut *text, display, alloc, pair, member.field, values)?;
+        put_field(
+            &mut *out,
+            &mut *text,
+            display,
+            alloc,
+            pair,
+            member.field,
+            values,
+        )?;
         later = true;
     }
     put_plain(out, text, b"}")?;
