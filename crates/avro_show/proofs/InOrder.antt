@@ -29,3 +29,12 @@ pub next_member : (tree : ℕ → Data) (later : Bool) (key : List ℕ) (index :
 next_member tree later key index order =
     let rest = compact_text (tree index) ++ members_text true (in_order tree order) in
     ap (λ t. comma_if later ++ t) (sym (append_assoc (quoted key) (58 ∷ []) rest)) ∙ sym (append_assoc (comma_if later) (head_text key) rest)
+
+-- the text that is left, after a comma, if something is before, and the next key are held
+pub member_held : (tree : ℕ → Data) (later : Bool) (key : List ℕ) (index : ℕ) (left rest : List (List ℕ × ℕ)) (old new : List ℕ) → left ≡ (key, index) ∷ rest
+    → new ≡ old ++ (comma_if later ++ head_text key) → old ++ members_text later (in_order tree left) ≡ new ++ (compact_text (tree index) ++ members_text true (in_order tree rest))
+member_held tree later key index left rest old new is has =
+    let tail = compact_text (tree index) ++ members_text true (in_order tree rest) in
+    ap (λ es. old ++ members_text later (in_order tree es)) is
+    ∙ ap (λ t. old ++ t) (next_member tree later key index rest)
+    ∙ sym (append_assoc old (comma_if later ++ head_text key) tail) ∙ ap (λ t. t ++ tail) (sym has)
