@@ -5,7 +5,6 @@ pub mod FaultsLed
 pub mod FieldsNoted
 pub mod FirstAlias
 pub mod FirstLacking
-pub mod LongSpaces
 pub mod Named
 pub mod NamedKeys
 pub mod NamedStarts

@@ -20,7 +20,6 @@ mod guided;
 mod lacking;
 pub mod laws;
 mod lead;
-mod long_spaces;
 mod matching;
 mod name_numbers;
 mod named_type;

@@ -7,8 +7,6 @@ pub struct NameTable<'w> {
     pub simples: BTreeMap<&'w str, u32>,
     /// The numbers of the namespaces.
     pub spaces: BTreeMap<&'w str, u32>,
-    /// The long namespaces with their numbers.
-    pub long_spaces: Vec<(&'w str, u32)>,
 }
 
 /// The names of a reader's type, by the numbers of the writer's. A name that no type of the writer has is left out.

@@ -15,14 +15,19 @@ pub struct NamedType<'s> {
     pub name: &'s FullName,
     /// Its aliases.
     pub aliases: &'s [FullName],
+    /// For each alias, whether it is known to have the namespace of the name; none is known past the end.
+    pub inherited: &'s [bool],
 }
 
 impl<'s> Model for NamedType<'s> {
+    ghost use Rattle.avro_schema.specs.Inherited.{AreInherited};
     ghost use Rattle.avro_compare.specs.inside.NameTables.{NamedType};
 
     ghost Value = { NamedType };
 
     ghost view = { λ t. record { kind = t.kind; name = t.name.now; aliases = t.aliases.now } };
+
+    ghost invariant = { λ t. AreInherited t.name.now.namespace t.aliases.now t.inherited.now };
 }
 
 /// What a node is matched by, where it is a record, an enum or a fixed.
@@ -34,16 +39,19 @@ pub(crate) fn named_type(node: &Node) -> Option<NamedType<'_>>
             kind: 0,
             name: &record.name,
             aliases: &record.aliases,
+            inherited: &record.inherited,
         }),
         Node::Enum(declared) => Some(NamedType {
             kind: 1,
             name: &declared.name,
             aliases: &declared.aliases,
+            inherited: &declared.inherited,
         }),
         Node::Fixed(fixed) => Some(NamedType {
             kind: u64::from(fixed.size) + 2,
             name: &fixed.name,
             aliases: &fixed.aliases,
+            inherited: &fixed.inherited,
         }),
         _ => None,
     }

@@ -1,7 +1,7 @@
 //! The names of the writer's types and of the reader's by number, so that the text of a name is compared with others
 //! once, and not for each pair of types.
 
-ghost use Rattle.std.specs.Prelude.{◌≡◌, ◌||◌, ℕ, List, Option, Some, IfOk, OnOk, bytes_eq, cond, slice_get};
+ghost use Rattle.std.specs.Prelude.{◌≡◌, ◌||◌, ℕ, List, Option, Some, IfOk, OnOk, slice_get};
 ghost use Rattle.std.specs.Option.{IfSome};
 ghost use Rattle.std.specs.List.{list_any};
 ghost use Rattle.avro_name.specs.Name.{Name};
@@ -9,10 +9,9 @@ ghost use Rattle.avro_schema.specs.Node.{Node as SeenNode, node_at};
 ghost use Rattle.avro_schema.specs.SeenSchema.{schema_nodes};
 ghost use Rattle.avro_compare.specs.declared.name_numbers.NameTable.{NameTable as SeenTable};
 ghost use Rattle.avro_compare.specs.inside.NameTables.{NamedType as SeenType, is_number, named_type, number as number_in};
-ghost use Rattle.avro_compare.specs.inside.NameNumbers.{AreLong, AreNumbers, AreOfWriter, HoldsNames, IsTable, NumbersBy, TellsAlike, full_number as numbers_of, full_of, is_full, HasNames, aliases_of, simple_at, simple_of, space_at};
+ghost use Rattle.avro_compare.specs.inside.NameNumbers.{AreNumbers, AreOfWriter, HoldsNames, IsTable, NumbersBy, TellsAlike, full_number as numbers_of, full_of, is_full, HasNames, aliases_of, simple_at, simple_of, space_at};
 
 use crate::first_branches::type_at;
-use crate::long_spaces::list_space;
 use crate::name_numbers::{NameNumbers, NameTable, ReaderNames};
 use crate::named_type::NamedType;
 use crate::reader_numbers::reader_names;
@@ -47,7 +46,6 @@ pub(crate) fn no_numbers<'w>(alloc: Global) -> NameNumbers<'w>
         table: NameTable {
             simples: BTreeMap::new(alloc),
             spaces: BTreeMap::new(alloc),
-            long_spaces: Vec::new(alloc),
         },
         writes: Vec::new(alloc),
         reads: Vec::new(alloc),
@@ -60,42 +58,29 @@ fn name_table<'w>(alloc: Global, writer: &'w Schema) -> Result<NameTable<'w>, Al
 {
     let mut simples = BTreeMap::new(alloc);
     let mut spaces = BTreeMap::new(alloc);
-    let mut long_spaces = Vec::new(alloc);
     let mut number = 0u32;
     for _round in 0..writer.len() {
-        add_type(
-            &mut simples,
-            &mut spaces,
-            &mut long_spaces,
-            writer,
-            NodeId(number),
-        )?;
+        add_type(&mut simples, &mut spaces, writer, NodeId(number))?;
         number = number.saturating_add(1);
     }
-    Ok(NameTable {
-        simples,
-        spaces,
-        long_spaces,
-    })
+    Ok(NameTable { simples, spaces })
 }
 
 /// Adds the names of a node, if it is a type.
 fn add_type<'w>(
     simples: &mut BTreeMap<&'w str, u32>,
     spaces: &mut BTreeMap<&'w str, u32>,
-    long_spaces: &mut Vec<(&'w str, u32)>,
     writer: &'w Schema,
     id: NodeId,
 ) -> Result<(), AllocError>
     ensures simples { OnOk result (NumbersBy (simple_at (schema_nodes writer.now)) simples.old → NumbersBy (simple_at (schema_nodes writer.now)) simples.new) }
     ensures spaces { OnOk result (NumbersBy (space_at (schema_nodes writer.now)) spaces.old → NumbersBy (space_at (schema_nodes writer.now)) spaces.new) }
-    ensures long { OnOk result (AreLong spaces.old long_spaces.old.items → AreLong spaces.new long_spaces.new.items) }
 {
     match type_at(writer, id) {
         None => Ok(()),
         Some(named) => {
             add_simple(simples, &named, id)?;
-            add_space(spaces, long_spaces, &named, id)?;
+            add_space(spaces, &named, id)?;
             Ok(())
         }
     }
@@ -113,22 +98,15 @@ fn add_simple<'w>(
     Ok(())
 }
 
-/// Gives the namespace of a type a number, if it has none, and lists it if it is long.
+/// Gives the namespace of a type a number.
 fn add_space<'w>(
     spaces: &mut BTreeMap<&'w str, u32>,
-    long_spaces: &mut Vec<(&'w str, u32)>,
     named: &NamedType<'w>,
     id: NodeId,
 ) -> Result<(), AllocError>
-    ensures numbers { OnOk result ((text_at : ℕ → List ℕ) → text_at id.0 ≡ named.now.name.namespace → NumbersBy text_at spaces.old → NumbersBy text_at spaces.new) }
-    ensures long { OnOk result (AreLong spaces.old long_spaces.old.items → AreLong spaces.new long_spaces.new.items) }
+    ensures { OnOk result ((text_at : ℕ → List ℕ) → text_at id.0 ≡ named.now.name.namespace → NumbersBy text_at spaces.old → NumbersBy text_at spaces.new) }
 {
-    let space = named.name.namespace();
-    if number(spaces, space).is_some() {
-        return Ok(());
-    }
-    add_text(spaces, space, id.0)?;
-    list_space(long_spaces, space, id.0)?;
+    add_text(spaces, named.name.namespace(), id.0)?;
     Ok(())
 }
 
@@ -138,8 +116,7 @@ fn add_text<'w>(
     text: &'w str,
     number: u32,
 ) -> Result<(), AllocError>
-    ensures numbers { OnOk result ((text_at : ℕ → List ℕ) → text_at number ≡ text.now → NumbersBy text_at numbers.old → NumbersBy text_at numbers.new) }
-    ensures put { OnOk result ((other : List ℕ) → number_in numbers.new other ≡ cond (bytes_eq text.now other) (Some number) (number_in numbers.old other)) }
+    ensures { OnOk result ((text_at : ℕ → List ℕ) → text_at number ≡ text.now → NumbersBy text_at numbers.old → NumbersBy text_at numbers.new) }
 {
     numbers.insert(text, number)?;
     Ok(())

@@ -74,17 +74,20 @@ fn node_of(alloc: Global, shape: &Shape, default: &mut Option<Datum>) -> Result<
         Shape::Record(text, named) => Node::Record(RecordNode {
             name: FullName::read(alloc, text, &null)?,
             aliases: Vec::new(alloc),
+            inherited: Vec::new(alloc),
             fields: fields_of(alloc, named, default)?,
         }),
         Shape::Enum(words, default) => Node::Enum(EnumNode {
             name: FullName::read(alloc, "E", &null)?,
             aliases: Vec::new(alloc),
+            inherited: Vec::new(alloc),
             symbols: owned(alloc, words)?,
             default: *default,
         }),
         Shape::Fixed(text, size) => Node::Fixed(FixedNode {
             name: FullName::read(alloc, text, &null)?,
             aliases: Vec::new(alloc),
+            inherited: Vec::new(alloc),
             size: *size,
         }),
     })

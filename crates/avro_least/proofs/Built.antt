@@ -6,7 +6,7 @@ use Rattle.avro_schema.specs.Value.{Value, size, depth, values_size, values_dept
 use Rattle.avro_schema.specs.Seen.{values_from, node_of}
 use Rattle.avro_schema.specs.declared.schema.Node.{Node as KeptNode}
 use Rattle.avro_schema.specs.declared.schema.NodeId.{NodeId}
-use Rattle.avro_schema.specs.declared.schema.RecordNode.{RecordNode}
+use Rattle.avro_schema.specs.declared.named.RecordNode.{RecordNode}
 use Rattle.std.specs.Global.{Vec}
 use Rattle.avro_schema.specs.Node.{Node, FieldNode, node_at, branches_of, fields_of, field_ids}
 use Rattle.avro_schema.specs.Fits.{fits, fields_fit, are_bytes}

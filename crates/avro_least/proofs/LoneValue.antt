@@ -7,7 +7,7 @@ use Rattle.avro_name.specs.Name.{Name}
 use Rattle.avro_schema.specs.Value.{Value}
 use Rattle.avro_schema.specs.Node.{Node}
 use Rattle.avro_schema.specs.Seen.{node_of, texts_of}
-use Rattle.avro_schema.specs.declared.schema.EnumNode.{EnumNode}
+use Rattle.avro_schema.specs.declared.named.EnumNode.{EnumNode}
 use Rattle.avro_schema.specs.declared.schema.NodeId.{NodeId}
 use Rattle.avro_schema.specs.declared.schema.Node.{Node as KeptNode}
 use Rattle.avro_compare.specs.Match.{is_match}

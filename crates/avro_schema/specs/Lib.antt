@@ -5,6 +5,7 @@ pub mod Distinct
 pub mod WellFormed
 pub mod Seen
 pub mod SeenSchema
+pub mod Inherited
 pub mod Ranges
 pub mod Faulty
 pub mod SeenKind

@@ -13,7 +13,8 @@ use crate::datum::{Datum, Memory};
 use crate::fault::DraftError;
 use crate::fitting::fits_at;
 use crate::naming::{are_simple_names, have_unique_names, names_of_fields, read_names, texts};
-use crate::schema::{EnumNode, Field, FixedNode, Node, NodeId, RecordNode, Schema};
+use crate::named::{EnumNode, FixedNode, RecordNode};
+use crate::schema::{Field, Node, NodeId, Schema};
 use crate::uniqueness::are_unique_texts;
 use std::alloc::Global;
 

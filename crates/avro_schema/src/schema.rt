@@ -7,8 +7,8 @@ ghost use Rattle.avro_schema.specs.WellFormed.{is_schema};
 
 use crate::datum::Datum;
 use crate::empties::{Empty, known_at};
+use crate::named::{EnumNode, FixedNode, RecordNode};
 use crate::runs::{EmptyFields, runs_at};
-use avro_name::FullName;
 
 /// The index of a node among those of its schema; 0 is the root.
 #[derive(Clone, Copy, Debug, PartialEq, Eq, PartialOrd, Ord)]
@@ -43,17 +43,6 @@ pub enum Node {
     Fixed(FixedNode),
 }
 
-/// A record: its fullname, its aliases, and its fields in order.
-#[derive(Debug, PartialEq, Drop)]
-pub struct RecordNode {
-    /// Its fullname.
-    pub name: FullName,
-    /// Alternative fullnames for a writer's type.
-    pub aliases: Vec<FullName>,
-    /// The fields, in order.
-    pub fields: Vec<Field>,
-}
-
 /// A field of a record: its name, its aliases, the node of its data, and its default.
 #[derive(Debug, PartialEq, Drop)]
 pub struct Field {
@@ -65,40 +54,6 @@ pub struct Field {
     pub node: NodeId,
     /// Its default, a datum of that node.
     pub default: Option<Datum>,
-}
-
-/// An enum: its fullname, its aliases, its symbols in order, and the index of its default.
-#[derive(Debug, PartialEq, Drop)]
-pub struct EnumNode {
-    /// Its fullname.
-    pub name: FullName,
-    /// Alternative fullnames for a writer's type.
-    pub aliases: Vec<FullName>,
-    /// The symbols in order, without duplicates.
-    pub symbols: Vec<String>,
-    /// The index of the symbol that replaces an unknown one.
-    pub default: Option<u32>,
-}
-
-/// A fixed: its fullname, its aliases, and its number of bytes.
-#[derive(Debug, PartialEq, Drop)]
-pub struct FixedNode {
-    /// Its fullname.
-    pub name: FullName,
-    /// Alternative fullnames for a writer's type.
-    pub aliases: Vec<FullName>,
-    /// The number of bytes.
-    pub size: u32,
-}
-
-impl EnumNode {
-    /// The greatest number of symbols.
-    pub const MAX_SYMBOLS: usize = 1_048_576;
-}
-
-impl FixedNode {
-    /// The greatest size in bytes.
-    pub const MAX_SIZE: u32 = 1_048_576;
 }
 
 /// A well-formed schema: 1 to 4,096 nodes that obey the rules of the standard.

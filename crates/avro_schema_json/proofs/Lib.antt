@@ -10,6 +10,7 @@ pub mod DefaultSteps
 pub mod NamesSeen
 pub mod SymbolsFound
 pub mod PartsRead
+pub mod InheritedSeen
 pub mod TypesRead
 pub mod DefinitionsRead
 pub mod ObjectsRead

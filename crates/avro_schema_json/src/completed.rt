@@ -231,6 +231,7 @@ fn complete_node(
             RawRecord {
                 name,
                 aliases,
+                inherited,
                 fields,
             },
         ) => {
@@ -238,6 +239,7 @@ fn complete_node(
             Ok(Node::Record(RecordNode {
                 name,
                 aliases,
+                inherited,
                 fields,
             }))
         }

@@ -154,7 +154,7 @@ impl<'a> Progress<'a> {
         ensures kept { OnOk result (Keeps self.old self.new) }
     {
         let Definition { id, name, space } = self.begin(alloc, enclosing, members)?;
-        let aliases = aliases(alloc, &space.namespace, members)?;
+        let (aliases, inherited) = aliases(alloc, &space.namespace, members)?;
         let fields = match members.get("fields") {
             Some(list) => self.read_fields(alloc, &space, list)?,
             None => return Err(SchemaError::InvalidDeclaration),
@@ -164,6 +164,7 @@ impl<'a> Progress<'a> {
             RawNode::Record(RawRecord {
                 name,
                 aliases,
+                inherited,
                 fields,
             }),
         );

@@ -1,3 +1,4 @@
+ghost use Rattle.avro_schema.specs.Inherited.{AreInherited};
 ghost use Rattle.avro_schema.specs.Seen.{texts_of};
 ghost use Rattle.avro_schema_json.specs.inside.SymbolIndices.{FindsSymbols};
 
@@ -48,5 +49,7 @@ pub(crate) struct RawEnum {
 pub(crate) struct RawRecord<'a> {
     pub name: FullName,
     pub aliases: Vec<FullName>,
+    pub inherited: Vec<bool>,
     pub fields: Vec<RawField<'a>>,
+    ghost inherit: { AreInherited name.namespace aliases.items inherited.items },
 }

@@ -1,9 +1,8 @@
 -- Names by number: those of the writer's types have numbers, and other names are told by them.
-use Rattle.std.specs.Prelude.{◌≡◌, ◌≤◌, ℕ, Bool, false, not, ◌&&◌, ◌||◌, bytes_eq, length, List, [], Option, Some, None, slice_get, is_some, ◌==◌}
+use Rattle.std.specs.Prelude.{◌≡◌, ℕ, Bool, true, false, ◌&&◌, ◌||◌, List, [], Option, Some, None, slice_get, is_some, ◌==◌}
 use Rattle.std.specs.Option.{IfSome}
 use Rattle.std.specs.List.{list_any}
 use Rattle.std.specs.BTreeMap.{BTreeMap, get}
-use denote.Ref.{Bor}
 use Rattle.avro_name.specs.Name.{Name}
 use Rattle.avro_schema.specs.Node.{Node, node_at}
 use Rattle.avro_schema.specs.Fits.{is_some_and}
@@ -32,15 +31,8 @@ space_at writer id = space_in (named_type (node_at writer id))
 abbrev pub NumbersBy : (ℕ → List ℕ) → NumberMap → Type 0
 NumbersBy text_at numbers = (text : List ℕ) (k : ℕ) → number numbers text ≡ Some k → text_at k ≡ text
 
--- each long text that has a number is listed with it
-abbrev pub IsListed : List (Bor (List ℕ) × ℕ) → List ℕ → ℕ → Type 0
-IsListed listed text k = (j : ℕ) × (kept : Bor (List ℕ) × ℕ) × (slice_get listed j ≡ Some kept) × (kept.0.now ≡ text) × (kept.1 ≡ k)
-
-abbrev pub AreLong : NumberMap → List (Bor (List ℕ) × ℕ) → Type 0
-AreLong numbers listed = (text : List ℕ) (k : ℕ) → 1024 ≤ length text → number numbers text ≡ Some k → IsListed listed text k
-
 abbrev pub IsTable : List Node → NameTable → Type 0
-IsTable writer table = NumbersBy (simple_at writer) table.simples × NumbersBy (space_at writer) table.spaces × AreLong table.spaces table.long_spaces.items
+IsTable writer table = NumbersBy (simple_at writer) table.simples × NumbersBy (space_at writer) table.spaces
 
 -- the numbers of a fullname, where both its parts have one
 abbrev pub both_numbers : Option ℕ → Option ℕ → Option NameKey
@@ -71,12 +63,9 @@ aliases_of (Some t) = t.aliases
 abbrev pub HoldsNames : NameTable → List Name → BTreeMap NameKey (Unit {0}) → Type 0
 HoldsNames table names set = (key : NameKey) → is_some (get key_cmp set key) ≡ list_any (λ n. is_full key (full_number table n)) names
 
--- a simple name's number with that of a namespace adds nothing to a set: another namespace is not it, or both are there
-abbrev pub adds_nothing : BTreeMap NameKey (Unit {0}) → ℕ → List ℕ → List ℕ → ℕ → Bool
-adds_nothing set simple space other k = not (bytes_eq other space) || is_some (get key_cmp set (simple, k))
-
-abbrev pub settles : BTreeMap NameKey (Unit {0}) → ℕ → List ℕ → (Bor (List ℕ) × ℕ) → Bool
-settles set simple space listed = adds_nothing set simple space listed.0.now listed.1
+-- the namespaces of the names that are marked have this number, or none
+abbrev pub AreNumbered : NumberMap → Option ℕ → List Bool → List Name → Type 0
+AreNumbered spaces own marks names = (k : ℕ) (n : Name) → slice_get marks k ≡ Some true → slice_get names k ≡ Some n → number spaces n.namespace ≡ own
 
 -- the names of a node
 abbrev pub HasNames : NameTable → Option NamedType → ReaderNames → Type 0

@@ -1,8 +1,9 @@
 //! The attributes of a declaration (Avro 1.11, "Schema Declaration", "Names", "Aliases").
 
-ghost use Rattle.std.specs.Prelude.{◌≡◌, ℕ, ◌⊎◌, ◌∷◌, [], true, false, List, is_some, filter_map, option_map, ok_or, string_bytes, codes, Some, None, Ok, IfOk, IfErr, IsErrOf};
+ghost use Rattle.std.specs.Prelude.{◌≡◌, ℕ, ◌⊎◌, ◌∷◌, [], true, false, not, List, is_some, filter_map, map, option_map, ok_or, string_bytes, codes, Some, None, Ok, IfOk, IfErr, IsErrOf};
 ghost use Rattle.std.specs.List.{list_all};
 ghost use Rattle.avro_name.specs.Name.{Name, has_dot, name_of};
+ghost use Rattle.avro_schema.specs.Inherited.{AreInherited};
 ghost use Rattle.avro_schema.specs.Seen.{texts_of};
 ghost use Rattle.avro_schema_json.specs.DeclaredAttributes.{text_in, needed, name_in, alias_texts_in, aliases_in, default_symbol_from, symbols_in, size_in, as_texts, texts_of as texts_in};
 ghost use Rattle.avro_schema_json.specs.Declares.{form_of as form_of_text};
@@ -17,7 +18,7 @@ use crate::symbol_indices::symbol_indices;
 use avro_name::{FullName, Namespace};
 use avro_schema::FixedNode;
 use serde_json::{Map, Value};
-use std::alloc::Global;
+use std::alloc::{AllocError, Global};
 
 /// The members of an object.
 pub(crate) type Members = Map<String, Value>;
@@ -134,18 +135,31 @@ pub(crate) fn alias_texts(alloc: Global, members: &Members) -> Result<Vec<String
     }
 }
 
-/// The aliases of a type in a namespace.
+/// The aliases of a type in a namespace, and for each whether it has no dot, so that it is in the same namespace.
 pub(crate) fn aliases(
     alloc: Global,
     namespace: &Namespace,
     members: &Members,
-) -> Result<Vec<FullName>, SchemaError>
-    ensures found { IfOk result (λ names. IsAttribute (aliases_in namespace.now (members_view members.now.entries)) names.items) }
+) -> Result<(Vec<FullName>, Vec<bool>), SchemaError>
+    ensures found { IfOk result (λ r. IsAttribute (aliases_in namespace.now (members_view members.now.entries)) r.0.items) }
+    ensures inherited { IfOk result (λ r. AreInherited namespace.now r.0.items r.1.items) }
     ensures refused { IfErr result (IsRefusal (aliases_in namespace.now (members_view members.now.entries)).faults) }
 {
     let texts = alias_texts(alloc, members)?;
     let names = full_names(alloc, namespace, &texts)?;
-    Ok(names)
+    let inherited = without_dots(alloc, &texts)?;
+    Ok((names, inherited))
+}
+
+/// For each text whether it has no dot.
+fn without_dots(alloc: Global, texts: &[String]) -> Result<Vec<bool>, AllocError>
+    ensures { IfOk result (λ marks. marks.items ≡ map (λ text. not (has_dot text)) (texts_of texts.now)) }
+{
+    let mut marks = Vec::new(alloc);
+    for text in texts {
+        marks.push(!has_dot(text.as_str()))?;
+    }
+    Ok(marks)
 }
 
 /// The fullnames that texts mean in a namespace.

@@ -54,12 +54,13 @@ impl Progress<'_> {
         ensures kept { OnOk result (Keeps self.old self.new) }
     {
         let Definition { id, name, space } = self.begin(alloc, enclosing, members)?;
-        let aliases = aliases(alloc, &space.namespace, members)?;
+        let (aliases, inherited) = aliases(alloc, &space.namespace, members)?;
         let (symbols, default) = symbols(alloc, members)?;
         let indices = symbol_indices(alloc, &symbols)?;
         let node = EnumNode {
             name,
             aliases,
+            inherited,
             symbols,
             default,
         };
@@ -80,13 +81,14 @@ impl Progress<'_> {
         ensures kept { OnOk result (Keeps self.old self.new) }
     {
         let Definition { id, name, space } = self.begin(alloc, enclosing, members)?;
-        let aliases = aliases(alloc, &space.namespace, members)?;
+        let (aliases, inherited) = aliases(alloc, &space.namespace, members)?;
         let size = size(members)?;
         self.put(
             id,
             RawNode::Fixed(FixedNode {
                 name,
                 aliases,
+                inherited,
                 size,
             }),
         );

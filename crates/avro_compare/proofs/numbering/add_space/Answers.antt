@@ -1,4 +1,7 @@
+use Rattle.std.proofs.Common.{sym, ap, ◌∙◌}
+use Rattle.avro_compare.specs.inside.NameTables.{NamedType}
 use Rattle.avro_compare.proofs.numbering.add_space.Goals as goal
 
-pub returns-clause-long : goal.returns-clause-long
-returns-clause-long c = λ before. c.in_ok-list_space.ensures c.args.spaces.now c.add_text.new.numbers c.in_ok-add_text.ensures.put before
+pub returns : goal.returns
+returns c = λ text_at is before.
+    c.in_ok-add_text.ensures text_at (is ∙ sym (c.namespace.ensures.part ∙ ap (λ (t : NamedType). t.name.namespace) c.named.view_is)) before

@@ -9,4 +9,4 @@ returns-in_ok-add_space-in-Some-clause-simples c = λ before.
 
 pub returns-in_ok-add_space-in-Some-clause-spaces : goal.returns-in_ok-add_space-in-Some-clause-spaces
 returns-in_ok-add_space-in-Some-clause-spaces c = λ before.
-    c.in_ok-add_space-in-Some.ensures.numbers (space_at (schema_nodes c.args.writer.now)) (ap space_in (sym c.type_at.ensures ∙ c.in-Some.is)) before
+    c.in_ok-add_space-in-Some.ensures (space_at (schema_nodes c.args.writer.now)) (ap space_in (sym c.type_at.ensures ∙ c.in-Some.is)) before

@@ -1,4 +1,5 @@
-use Rattle.std.proofs.Common.{◌≡◌, ◌+◌, ◌-◌, ◌∙◌, ap, drop, length, arith}
+use Rattle.std.proofs.Common.{◌≡◌, ◌<◌, ◌+◌, ◌-◌, ◌∙◌, ap, drop, length, refl, arith}
+use Rattle.std.proofs.lemmas.Option.{slice_get_read}
 use Rattle.std.specs.Prelude.{is_some}
 use Rattle.std.specs.List.{list_any}
 use Rattle.std.specs.BTreeMap.{get, is_at}
@@ -18,6 +19,12 @@ loop-left-init c = (
 
 pub bounds-names-left : goal.bounds-names-left
 bounds-names-left c = omega (arith, c.loop-left-test.true, c.loop-left.invariant.0)
+
+pub requires-add_alias : goal.requires-add_alias
+requires-add_alias c = λ marked.
+    let names = c.args.names.now in
+    let low : c.loop-left.left - 1 < length names = omega (arith, c.loop-left-test.true, c.loop-left.invariant.0) in
+    c.requires (c.loop-left.left - 1) c.index-names-left.result (c.is_marked.ensures marked) (slice_get_read names (length names) (c.loop-left.left - 1) c.index-names-left.result refl low c.index-names-left.is)
 
 pub loop-left-preserved : goal.loop-left-preserved
 loop-left-preserved c =
