@@ -15,6 +15,7 @@ in_space text namespace name plain is =
         let same : s ≡ name = cc in
         ap (λ (n : Name). n.namespace) (sym same)
     chosen false s e = absurd cc
+
     kept : (dotted : Bool) (s : Name) → not dotted ≡ true → (if dotted then s else record { namespace = namespace; simple = text }).namespace ≡ namespace
     kept true s e = absurd cc
     kept false s e = refl
