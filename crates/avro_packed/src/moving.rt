@@ -171,7 +171,7 @@ pub(crate) fn join(
 }
 
 /// The same for what does not stand one behind the other.
-#[inline(never)]
+#[inline(always)]
 fn join_apart(
     alloc: Global,
     out: &[u8],
