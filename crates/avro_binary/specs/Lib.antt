@@ -1,4 +1,5 @@
 pub mod Encoded
+pub mod IntoBranch
 pub mod Making
 pub mod Pieces
 pub mod Reading

@@ -8,9 +8,9 @@
 //! # How bytes are read
 //!
 //! One cycle of functions (`read_at`) goes down a schema's nodes, reads elements in place with a [`Cursor`], and passes
-//! each part to a [`Make`], which also learns what the part is for. [`Own`] makes what a [`Build`] builds: the datum
-//! ([`Tree`]) or nothing ([`Nothing`]). The cycle is proved sound: a result stands for a datum whose encoding was passed,
-//! and an error is a fault of the bytes. That there is no other result, and that the fault is the first, follows from
+//! each part to a [`Make`], which also learns what the part is for. Each [`Put`] is one: [`Nothing`], and [`Wrapping`], which
+//! makes what a [`Build`] builds, as [`Tree`] builds the datum. The cycle is proved sound: a result stands for a datum whose
+//! encoding was passed, and an error is a fault of the bytes. That there is no other result, and that the fault is the first, follows from
 //! laws about the definitions. The depth left falls at each node, so the recursion ends, after 256 levels at most. A count
 //! or a length allocates nothing before its bytes are there: items and entries are stored one by one, and contents are
 //! copied once.
@@ -29,11 +29,13 @@ pub mod laws;
 mod leaves;
 mod make;
 mod nothing;
-mod own;
+mod put;
+mod putting;
 mod read;
 mod reading;
 mod tree;
 mod walking;
+mod wrapping;
 mod write;
 
 pub use avro_cursor::{Block, Cursor, Keys, ReadError};
@@ -41,9 +43,10 @@ pub use build::Build;
 pub use encode_error::EncodeError;
 pub use make::Make;
 pub use nothing::Nothing;
-pub use own::Own;
+pub use put::Put;
 pub use read::{decode, read_made, read_own};
 pub use reading::read_at;
 pub use tree::Tree;
 pub use walking::walk;
+pub use wrapping::Wrapping;
 pub use write::{append_plain, encode};

@@ -1,4 +1,4 @@
-mod making;
+mod putting;
 
 use crate::build::Build;
 use avro_schema::Datum;

@@ -6,9 +6,9 @@ ghost use Rattle.avro_binary.specs.Reading.{BuildsExactly, ReadsExactly};
 
 use crate::build::Build;
 use crate::make::Make;
-use crate::own::Own;
 use crate::reading::read_at;
 use crate::tree::Tree;
+use crate::wrapping::Wrapping;
 use avro_cursor::{Cursor, ReadError};
 use avro_schema::{Datum, Limits, NodeId, Schema};
 use std::alloc::Global;
@@ -63,8 +63,8 @@ pub(crate) fn read_node<B: Build>(
 ) -> Result<(B::Out, usize), ReadError>
     ensures { BuildsExactly B.stands_for (schema_nodes schema.now) (node_at (schema_nodes schema.now) node.0) limits.now bytes.now result }
 {
-    let mut maker = Own::new(builder);
-    read_made(alloc, schema, node, bytes, limits, &mut maker, ())
+    let mut maker = Wrapping::new(builder);
+    read_made(alloc, schema, node, bytes, limits, &mut maker, None)
 }
 
 /// Reads a datum of a node of the schema from the front of bytes by a maker, by what the datum is

@@ -29,6 +29,6 @@ pub fn walk(
     let _count = schema.len();
     let mut cursor = Cursor::new(bytes, limits);
     let mut nothing = Nothing;
-    read_at(alloc, schema, node, &mut cursor, &mut nothing, ())?;
+    read_at(alloc, schema, node, &mut cursor, &mut nothing, None)?;
     Ok(cursor.offset())
 }

@@ -37,14 +37,9 @@ abbrev pub branch_bytes : Option ℕ → List ℕ
 branch_bytes None = []
 branch_bytes (Some k) = number_bytes (pos k)
 
--- what the value of a branch is for: within another branch its own index is written by the union itself
-abbrev pub branch_in : Option ℕ → ℕ → Option ℕ
-branch_in None branch = Some branch
-branch_in (Some outer) branch = None
+-- so many items, and so many entries
+abbrev pub AreItems : List ℕ → Gathered → List Value → Type 0
+AreItems out items vs = (items.count ≡ length vs) × Holds out items.written (plain_values (values_from vs))
 
--- so many items, and so many entries, that go into this branch
-abbrev pub AreItems : List ℕ → Option ℕ → Gathered → List Value → Type 0
-AreItems out at items vs = (items.branch ≡ at) × (items.count ≡ length vs) × Holds out items.written (plain_values (values_from vs))
-
-abbrev pub AreEntries : List ℕ → Option ℕ → Gathered → List (List ℕ × Value) → Type 0
-AreEntries out at entries es = (entries.branch ≡ at) × (entries.count ≡ length es) × Holds out entries.written (plain_entries (entries_from es))
+abbrev pub AreEntries : List ℕ → Gathered → List (List ℕ × Value) → Type 0
+AreEntries out entries es = (entries.count ≡ length es) × Holds out entries.written (plain_entries (entries_from es))

@@ -6,10 +6,9 @@ ghost use Rattle.avro_cursor.specs.Encoding.{plain_bytes, plain_blocks};
 ghost use Rattle.avro_packed.specs.Appended.{AppendsWithin, Grows, Holds, branch_bytes};
 
 use crate::gathered::Gathered;
-use crate::moving::{append_written, closed, fits_behind, give_back, is_nothing, join, join_key};
+use crate::moving::{append_written, closed, fits_behind, give_back};
 use crate::numbers::{append_byte, append_number};
 use crate::written::{Apart, Written};
-use avro_binary::Make;
 use std::alloc::{AllocError, Global};
 use std::marker::Model;
 
@@ -151,7 +150,7 @@ impl Appending {
 
     /// Writes a length, and the bytes.
     #[inline(always)]
-    fn measured(&mut self, branch: Option<u32>, content: &[u8]) -> Result<Written, AllocError>
+    pub(crate) fn measured(&mut self, branch: Option<u32>, content: &[u8]) -> Result<Written, AllocError>
         ensures kept { OnOk result (Grows self.old self.new) }
         ensures holds { IfOk result (λ out. Holds self.new out (branch_bytes branch ++ plain_bytes content.now)) }
         ensures stays { (front : List ℕ) → Grows front self.old → Grows front self.new }
@@ -173,323 +172,39 @@ impl Appending {
 
     /// No items or entries.
     #[inline(always)]
-    pub(crate) fn gather(&self, branch: Option<u32>) -> Gathered
-        ensures branch { result.branch ≡ branch }
+    pub(crate) fn gather(&self) -> Gathered
         ensures count { result.count ≡ 0 }
         ensures written { Holds self.now result.written [] }
     {
         Gathered {
-            branch,
             count: 0,
             written: self.here(),
         }
     }
 
     /// The one block of items or entries, if there are any, and the end.
-    pub(crate) fn block(&mut self, alloc: Global, gathered: Gathered) -> Result<Written, AllocError>
+    pub(crate) fn block(
+        &mut self,
+        alloc: Global,
+        branch: Option<u32>,
+        gathered: Gathered,
+    ) -> Result<Written, AllocError>
         ensures kept { OnOk result (Grows self.old self.new) }
         ensures holds { (bytes : List ℕ) → Holds self.old gathered.written bytes
-            → IfOk result (λ out. Holds self.new out (branch_bytes gathered.branch ++ plain_blocks gathered.count bytes)) }
+            → IfOk result (λ out. Holds self.new out (branch_bytes branch ++ plain_blocks gathered.count bytes)) }
         ensures stays { (front : List ℕ) → Grows front self.old → Grows front self.new }
     {
         if gathered.count == 0 {
-            let start = self.begin(gathered.branch)?;
+            let start = self.begin(branch)?;
             append_byte(0, &mut self.out)?;
             return Ok(self.since(start));
         }
         match i64::try_from(gathered.count) {
             Ok(count) => {
-                let head = self.number(gathered.branch, count)?;
+                let head = self.number(branch, count)?;
                 closed(alloc, &self.out, &mut self.spares, head, gathered.written)
             }
             Err(_) => Err(AllocError),
         }
-    }
-}
-
-impl Make for Appending {
-    ghost use Rattle.std.specs.Prelude.{◌≡◌, ◌++◌, List, ℕ, Option, None, Some, length, refl};
-    ghost use Rattle.avro_schema.specs.Node.{Node, FieldNode};
-    ghost use Rattle.avro_schema.specs.Seen.{values_from, entries_from};
-    ghost use Rattle.avro_schema.specs.Value.{Value};
-    ghost use Rattle.avro_cursor.specs.Encoding.{plain, plain_values, plain_entries};
-    ghost use Rattle.avro_packed.specs.Appended.{Grows, Holds, branch_bytes, AreItems, AreEntries, branch_in};
-    ghost use Rattle.avro_packed.specs.inside.Outputs.{grows_none, grows_on, still_holds};
-
-    type At = Option<u32>;
-
-    type Out = Written;
-
-    type Items = Gathered;
-
-    type Entries = Gathered;
-
-    type Fields = Written;
-
-    ghost keeps = { Grows };
-
-    ghost begins = { λ m front. Grows front m };
-
-    ghost stands_for = { λ m nodes n at out v. Holds m out (branch_bytes at ++ plain v) };
-
-    ghost items_stand_for = { λ m nodes id at items vs. AreItems m at items vs };
-
-    ghost entries_stand_for = { λ m nodes id at entries es. AreEntries m at entries es };
-
-    ghost fields_stand_for = { λ m nodes fs at fields vs. Holds m fields (branch_bytes at ++ plain_values (values_from vs)) };
-
-    ghost branch_at = { λ _ at branch. branch_in at branch };
-
-    ghost item_at = { λ _ items. None };
-
-    ghost entry_at = { λ _ entries. None };
-
-    ghost field_at = { λ _ fields. None };
-
-    ghost keeps_itself = { grows_none };
-
-    ghost keeps_on = { grows_on };
-
-    ghost items_kept = { λ s t nodes id at items vs kept stand. (stand.0, stand.1, still_holds s t items.written (plain_values (values_from vs)) kept stand.2) };
-
-    ghost entries_kept = { λ s t nodes id at entries es kept stand. (stand.0, stand.1, still_holds s t entries.written (plain_entries (entries_from es)) kept stand.2) };
-
-    ghost fields_kept = { λ s t nodes fs at fields vs kept stand. still_holds s t fields (branch_bytes at ++ plain_values (values_from vs)) kept stand };
-
-    ghost branch_at_kept = { λ s t at branch kept. refl };
-
-    ghost item_at_kept = { λ s t items kept. refl };
-
-    ghost entry_at_kept = { λ s t entries kept. refl };
-
-    ghost field_at_kept = { λ s t fields kept. refl };
-
-    #[inline(always)]
-    fn empty(&mut self, _alloc: Global, at: Option<u32>) -> Result<Option<Written>, AllocError> {
-        let start = self.begin(at)?;
-        Ok(Some(self.since(start)))
-    }
-
-    #[inline(always)]
-    fn ends(&mut self, _alloc: Global, _at: Option<u32>) -> Option<Vec<usize>> {
-        None
-    }
-
-    #[inline(always)]
-    fn pieces(
-        &mut self,
-        _alloc: Global,
-        _at: Option<u32>,
-        _bytes: &[u8],
-        _ends: Vec<usize>,
-    ) -> Result<Option<Written>, AllocError> {
-        Ok(None)
-    }
-
-    #[inline(always)]
-    fn null(&mut self, _alloc: Global, at: Option<u32>) -> Result<Written, AllocError> {
-        let start = self.begin(at)?;
-        Ok(self.since(start))
-    }
-
-    #[inline(always)]
-    fn boolean(
-        &mut self,
-        _alloc: Global,
-        at: Option<u32>,
-        value: bool,
-    ) -> Result<Written, AllocError> {
-        let start = self.begin(at)?;
-        append_byte(u8::from(value), &mut self.out)?;
-        Ok(self.since(start))
-    }
-
-    #[inline(always)]
-    fn int(&mut self, _alloc: Global, at: Option<u32>, value: i32) -> Result<Written, AllocError> {
-        self.number(at, i64::from(value))
-    }
-
-    #[inline(always)]
-    fn long(&mut self, _alloc: Global, at: Option<u32>, value: i64) -> Result<Written, AllocError> {
-        self.number(at, value)
-    }
-
-    #[inline(always)]
-    fn bytes(
-        &mut self,
-        _alloc: Global,
-        at: Option<u32>,
-        content: &[u8],
-    ) -> Result<Written, AllocError> {
-        self.measured(at, content)
-    }
-
-    #[inline(always)]
-    fn string(
-        &mut self,
-        _alloc: Global,
-        at: Option<u32>,
-        text: &str,
-    ) -> Result<Written, AllocError> {
-        self.measured(at, text.as_bytes())
-    }
-
-    #[inline(always)]
-    fn fixed(
-        &mut self,
-        _alloc: Global,
-        at: Option<u32>,
-        content: &[u8],
-    ) -> Result<Written, AllocError> {
-        let start = self.begin(at)?;
-        self.out.extend_from_slice(content)?;
-        Ok(self.since(start))
-    }
-
-    #[inline(always)]
-    fn symbol(
-        &mut self,
-        _alloc: Global,
-        at: Option<u32>,
-        index: u32,
-    ) -> Result<Written, AllocError> {
-        self.number(at, i64::from(index))
-    }
-
-    #[inline(always)]
-    fn branch_at(&self, at: Option<u32>, branch: u32) -> Option<u32> {
-        match at {
-            None => Some(branch),
-            Some(_) => None,
-        }
-    }
-
-    #[inline(always)]
-    fn branch(
-        &mut self,
-        alloc: Global,
-        at: Option<u32>,
-        branch: u32,
-        value: Written,
-    ) -> Result<Written, AllocError> {
-        match at {
-            None => Ok(value),
-            Some(outer) => {
-                // no schema has a union within a union
-                let mut out = self.number(Some(outer), i64::from(branch))?;
-                join(alloc, &self.out, &mut self.spares, &mut out, value)?;
-                Ok(out)
-            }
-        }
-    }
-
-    #[inline(always)]
-    fn items(&mut self, _alloc: Global, at: Option<u32>) -> Result<Gathered, AllocError> {
-        Ok(self.gather(at))
-    }
-
-    #[inline(always)]
-    fn item_at(&self, _items: &Gathered) -> Option<u32> {
-        None
-    }
-
-    #[inline(always)]
-    fn item(
-        &mut self,
-        alloc: Global,
-        items: &mut Gathered,
-        value: Written,
-    ) -> Result<(), AllocError> {
-        items.count_one()?;
-        join(
-            alloc,
-            &self.out,
-            &mut self.spares,
-            &mut items.written,
-            value,
-        )
-    }
-
-    fn repeat(&self, items: &mut Gathered, value: &Written, count: u32) -> bool {
-        if is_nothing(value) {
-            return items.count_more(count);
-        }
-        false
-    }
-
-    #[inline(always)]
-    fn array(&mut self, alloc: Global, items: Gathered) -> Result<Written, AllocError> {
-        self.block(alloc, items)
-    }
-
-    #[inline(always)]
-    fn entries(&mut self, _alloc: Global, at: Option<u32>) -> Result<Gathered, AllocError> {
-        Ok(self.gather(at))
-    }
-
-    #[inline(always)]
-    fn entry_at(&self, _entries: &Gathered) -> Option<u32> {
-        None
-    }
-
-    #[inline(always)]
-    fn entry(
-        &mut self,
-        alloc: Global,
-        entries: &mut Gathered,
-        key: &str,
-        value: Written,
-    ) -> Result<(), AllocError> {
-        entries.count_one()?;
-        join_key(
-            alloc,
-            &mut self.spares,
-            &mut entries.written,
-            key.as_bytes(),
-        )?;
-        join(
-            alloc,
-            &self.out,
-            &mut self.spares,
-            &mut entries.written,
-            value,
-        )
-    }
-
-    #[inline(always)]
-    fn map(&mut self, alloc: Global, entries: Gathered) -> Result<Written, AllocError> {
-        self.block(alloc, entries)
-    }
-
-    #[inline(always)]
-    fn fields(&mut self, alloc: Global, at: Option<u32>) -> Result<Written, AllocError> {
-        match at {
-            None => Ok(self.here()),
-            Some(_) => self.null(alloc, at),
-        }
-    }
-
-    #[inline(always)]
-    fn field_at(&self, _fields: &Written) -> Option<u32> {
-        None
-    }
-
-    #[inline(always)]
-    fn field(
-        &mut self,
-        alloc: Global,
-        fields: &mut Written,
-        value: Written,
-    ) -> Result<(), AllocError> {
-        join(alloc, &self.out, &mut self.spares, fields, value)
-    }
-
-    fn empty_fields(&self, _fields: &mut Written, _count: u32) -> bool {
-        true
-    }
-
-    #[inline(always)]
-    fn record(&mut self, _alloc: Global, fields: Written) -> Result<Written, AllocError> {
-        Ok(fields)
     }
 }

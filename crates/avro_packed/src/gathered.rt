@@ -1,10 +1,9 @@
 use crate::written::Written;
 use std::alloc::AllocError;
 
-/// Items or entries one after another, how many they are, and the branch that they go into, if there is one.
+/// Items or entries one after another, and how many they are.
 #[derive(Debug, Drop)]
 pub struct Gathered {
-    pub(crate) branch: Option<u32>,
     pub(crate) count: u64,
     pub(crate) written: Written,
 }
@@ -12,25 +11,10 @@ pub struct Gathered {
 impl Gathered {
     ghost use Rattle.std.specs.Prelude.{◌≡◌, ◌+◌, OnOk, true, false};
 
-    /// The same, that go into a branch.
-    #[inline(always)]
-    pub(crate) fn within(self, branch: Option<u32>) -> Gathered
-        ensures branch { result.branch ≡ branch }
-        ensures count { result.count ≡ self.count }
-        ensures written { result.written ≡ self.written }
-    {
-        Gathered {
-            branch,
-            count: self.count,
-            written: self.written,
-        }
-    }
-
     /// Counts one more. A count that no block can have is refused.
     #[inline(always)]
     pub(crate) fn count_one(&mut self) -> Result<(), AllocError>
         ensures count { OnOk result (self.new.count ≡ self.old.count + 1) }
-        ensures branch { self.new.branch ≡ self.old.branch }
         ensures written { self.new.written ≡ self.old.written }
     {
         match self.count.checked_add(1) {
@@ -45,7 +29,6 @@ impl Gathered {
     /// Counts so many more, or none where no block can have them.
     pub(crate) fn count_more(&mut self, more: u32) -> bool
         ensures count { result ≡ true → self.new.count ≡ self.old.count + more }
-        ensures branch { self.new.branch ≡ self.old.branch }
         ensures written { self.new.written ≡ self.old.written }
         ensures none { result ≡ false → self.new ≡ self.old }
     {

@@ -250,6 +250,7 @@ const FEW: usize = 8;
 #[inline(always)]
 fn brought(out: &mut Vec<u8>, before: &Written, written: Written) -> Result<Written, AllocError>
     ensures kept { OnOk result (Grows out.old.items out.new.items) }
+    ensures stays { (front : List ℕ) → Grows front out.old.items → Grows front out.new.items }
     ensures holds { (bytes : List ℕ) → Holds out.old.items written bytes → IfOk result (λ it. Holds out.new.items it bytes) }
 {
     let len = out.len();
@@ -284,6 +285,7 @@ fn copied(out: &mut Vec<u8>, start: usize, end: usize) -> Result<Written, AllocE
     requires order { start ≤ end }
     requires inside { end ≤ length out.old.items }
     ensures kept { OnOk result (Grows out.old.items out.new.items) }
+    ensures stays { (front : List ℕ) → Grows front out.old.items → Grows front out.new.items }
     ensures holds { (bytes : List ℕ) → StandsAt out.old.items start end bytes → IfOk result (λ it. Holds out.new.items it bytes) }
 {
     let len = out.len();
@@ -301,6 +303,7 @@ pub(crate) fn join_near(
     second: Written,
 ) -> Result<(), AllocError>
     ensures kept { OnOk result (Grows out.old.items out.new.items) }
+    ensures stays { (front : List ℕ) → Grows front out.old.items → Grows front out.new.items }
     ensures joined { (a b : List ℕ) → Holds out.old.items first.old a → Holds out.old.items second b → OnOk result (Holds out.new.items first.new (a ++ b)) }
 {
     if extend(first, &second) {

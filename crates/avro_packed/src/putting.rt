@@ -2,11 +2,11 @@
 
 use crate::appending::Appending;
 use crate::gathered::Gathered;
-use crate::moving::join_near;
+use crate::moving::{is_nothing, join, join_key, join_near};
+use crate::numbers::append_byte;
 use crate::spares::{ends, give_ends, give_slots, slots};
 use crate::written::Written;
-use avro_binary::{Make, append_plain};
-use avro_resolve::Put;
+use avro_binary::{Put, append_plain};
 use avro_schema::Datum;
 use std::alloc::{AllocError, Global};
 
@@ -75,11 +75,13 @@ impl Put for Appending {
 
     ghost keeps = { Grows };
 
+    ghost begins = { λ m front. Grows front m };
+
     ghost stands_for = { λ m out v. Holds m out (plain v) };
 
-    ghost items_stand_for = { λ m items vs. AreItems m None items vs };
+    ghost items_stand_for = { AreItems };
 
-    ghost entries_stand_for = { λ m entries es. AreEntries m None entries es };
+    ghost entries_stand_for = { AreEntries };
 
     ghost fields_stand_for = { λ m into fields vs. Holds m fields (branch_bytes into ++ plain_values (values_from vs)) };
 
@@ -89,70 +91,86 @@ impl Put for Appending {
 
     ghost still_stands = { λ s t out v kept stand. still_holds s t out (plain v) kept stand };
 
-    ghost items_kept = { λ s t items vs kept stand. (stand.0, stand.1, still_holds s t items.written (plain_values (values_from vs)) kept stand.2) };
+    ghost items_kept = { λ s t items vs kept stand. (stand.0, still_holds s t items.written (plain_values (values_from vs)) kept stand.1) };
 
-    ghost entries_kept = { λ s t entries es kept stand. (stand.0, stand.1, still_holds s t entries.written (plain_entries (entries_from es)) kept stand.2) };
+    ghost entries_kept = { λ s t entries es kept stand. (stand.0, still_holds s t entries.written (plain_entries (entries_from es)) kept stand.1) };
 
     ghost fields_kept = { λ s t into fields vs kept stand. still_holds s t fields (branch_bytes into ++ plain_values (values_from vs)) kept stand };
 
     #[inline(always)]
-    fn null(&mut self, alloc: Global, into: Option<u32>) -> Result<Written, AllocError> {
-        Make::null(self, alloc, into)
+    fn empty(&mut self, _alloc: Global, into: Option<u32>) -> Result<Option<Written>, AllocError> {
+        let start = self.begin(into)?;
+        Ok(Some(self.since(start)))
+    }
+
+    #[inline(always)]
+    fn null(&mut self, _alloc: Global, into: Option<u32>) -> Result<Written, AllocError> {
+        let start = self.begin(into)?;
+        Ok(self.since(start))
     }
 
     #[inline(always)]
     fn boolean(
         &mut self,
-        alloc: Global,
+        _alloc: Global,
         into: Option<u32>,
         value: bool,
     ) -> Result<Written, AllocError> {
-        Make::boolean(self, alloc, into, value)
+        let start = self.begin(into)?;
+        append_byte(u8::from(value), &mut self.out)?;
+        Ok(self.since(start))
     }
 
     #[inline(always)]
-    fn int(&mut self, alloc: Global, into: Option<u32>, value: i32) -> Result<Written, AllocError> {
-        Make::int(self, alloc, into, value)
+    fn int(
+        &mut self,
+        _alloc: Global,
+        into: Option<u32>,
+        value: i32,
+    ) -> Result<Written, AllocError> {
+        self.number(into, i64::from(value))
     }
 
     #[inline(always)]
     fn long(
         &mut self,
-        alloc: Global,
+        _alloc: Global,
         into: Option<u32>,
         value: i64,
     ) -> Result<Written, AllocError> {
-        Make::long(self, alloc, into, value)
+        self.number(into, value)
     }
 
     #[inline(always)]
     fn bytes(
         &mut self,
-        alloc: Global,
+        _alloc: Global,
         into: Option<u32>,
         content: &[u8],
     ) -> Result<Written, AllocError> {
-        Make::bytes(self, alloc, into, content)
+        self.measured(into, content)
     }
 
     #[inline(always)]
     fn string(
         &mut self,
-        alloc: Global,
+        _alloc: Global,
         into: Option<u32>,
         text: &str,
     ) -> Result<Written, AllocError> {
-        Make::string(self, alloc, into, text)
+        self.measured(into, text.as_bytes())
     }
 
     #[inline(always)]
     fn fixed(
         &mut self,
-        alloc: Global,
+        _alloc: Global,
         into: Option<u32>,
         content: &[u8],
     ) -> Result<Written, AllocError> {
-        Make::fixed(self, alloc, into, content)
+        let start = self.begin(into)?;
+        self.out.extend_from_slice(content)?;
+        Ok(self.since(start))
     }
 
     #[inline(always)]
@@ -166,11 +184,23 @@ impl Put for Appending {
     }
 
     #[inline(always)]
-    fn default(&mut self, alloc: Global, datum: &Datum) -> Result<Written, AllocError> {
+    fn branch(
+        &mut self,
+        alloc: Global,
+        index: u32,
+        value: Written,
+    ) -> Result<Written, AllocError> {
+        let mut out = self.number(None, i64::from(index))?;
+        join(alloc, &self.out, &mut self.spares, &mut out, value)?;
+        Ok(out)
+    }
+
+    #[inline(always)]
+    fn default(&mut self, _alloc: Global, datum: &Datum) -> Result<Written, AllocError> {
         match datum {
             Datum::Int(value) => self.int_at(value),
             Datum::Long(value) => self.long_at(value),
-            Datum::Str(text) => Make::string(self, alloc, None, text),
+            Datum::Str(text) => self.measured(None, text.as_bytes()),
             _ => self.whole(datum),
         }
     }
@@ -183,7 +213,7 @@ impl Put for Appending {
 
     #[inline(always)]
     fn items(&mut self, _alloc: Global) -> Result<Gathered, AllocError> {
-        Ok(self.gather(None))
+        Ok(self.gather())
     }
 
     #[inline(always)]
@@ -193,11 +223,21 @@ impl Put for Appending {
         items: &mut Gathered,
         value: Written,
     ) -> Result<(), AllocError> {
-        Make::item(self, alloc, items, value)
+        items.count_one()?;
+        join(
+            alloc,
+            &self.out,
+            &mut self.spares,
+            &mut items.written,
+            value,
+        )
     }
 
     fn repeat(&self, items: &mut Gathered, value: &Written, count: u32) -> bool {
-        Make::repeat(self, items, value, count)
+        if is_nothing(value) {
+            return items.count_more(count);
+        }
+        false
     }
 
     #[inline(always)]
@@ -207,12 +247,12 @@ impl Put for Appending {
         into: Option<u32>,
         items: Gathered,
     ) -> Result<Written, AllocError> {
-        self.block(alloc, items.within(into))
+        self.block(alloc, into, items)
     }
 
     #[inline(always)]
     fn entries(&mut self, _alloc: Global) -> Result<Gathered, AllocError> {
-        Ok(self.gather(None))
+        Ok(self.gather())
     }
 
     #[inline(always)]
@@ -223,7 +263,20 @@ impl Put for Appending {
         key: &str,
         value: Written,
     ) -> Result<(), AllocError> {
-        Make::entry(self, alloc, entries, key, value)
+        entries.count_one()?;
+        join_key(
+            alloc,
+            &mut self.spares,
+            &mut entries.written,
+            key.as_bytes(),
+        )?;
+        join(
+            alloc,
+            &self.out,
+            &mut self.spares,
+            &mut entries.written,
+            value,
+        )
     }
 
     #[inline(always)]
@@ -233,14 +286,14 @@ impl Put for Appending {
         into: Option<u32>,
         entries: Gathered,
     ) -> Result<Written, AllocError> {
-        self.block(alloc, entries.within(into))
+        self.block(alloc, into, entries)
     }
 
     #[inline(always)]
     fn fields(&mut self, alloc: Global, into: Option<u32>) -> Result<Written, AllocError> {
         match into {
             None => Ok(self.here()),
-            Some(_) => Make::null(self, alloc, into),
+            Some(_) => self.null(alloc, into),
         }
     }
 
@@ -252,6 +305,10 @@ impl Put for Appending {
         value: Written,
     ) -> Result<(), AllocError> {
         join_near(alloc, &mut self.out, &mut self.spares, fields, value)
+    }
+
+    fn empty_fields(&self, _fields: &mut Written, _count: u32) -> bool {
+        true
     }
 
     #[inline(always)]

@@ -11,7 +11,7 @@ use Rattle.avro_schema.proofs.public.Parts.{size-positive}
 use Rattle.avro_resolve.specs.Ends.{turned, values_before}
 use Rattle.avro_compare.specs.Fault.{ResolutionFault, fault_in}
 use Rattle.avro_resolve.specs.inside.Guided.{MadeAs, StandsAs, IsSmall, SoFar, ItemsGood, ItemsStandAs}
-use Rattle.avro_resolve.specs.IntoBranch.{in_branch}
+use Rattle.avro_binary.specs.IntoBranch.{in_branch}
 use Rattle.avro_compare.specs.Pairs.{wrapped, item_id}
 use Rattle.avro_compare.specs.Resolve.{Resolved, resolve, resolve_items, both, inside, result_map, part_at}
 use Rattle.avro_compare.specs.declared.error.Fault.{Fault}

@@ -10,7 +10,7 @@ use Rattle.avro_schema.specs.declared.schema.NodeId.{NodeId}
 use Rattle.avro_resolve.specs.Ends.{turned}
 use Rattle.avro_compare.specs.Fault.{ResolutionFault, fault_in}
 use Rattle.avro_resolve.specs.inside.Guided.{MadeAs, IsNothing, StandsAs, SoFar, IsSmall, branch_for}
-use Rattle.avro_resolve.specs.IntoBranch.{in_branch}
+use Rattle.avro_binary.specs.IntoBranch.{in_branch}
 use Rattle.avro_compare.specs.Pairs.{IsAim, wrapped, branch_id}
 use Rattle.avro_compare.specs.Resolve.{Resolved, resolve, inside, result_map, through}
 use Rattle.avro_compare.specs.declared.error.Fault.{Fault}

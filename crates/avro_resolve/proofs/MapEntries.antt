@@ -10,7 +10,7 @@ use Rattle.avro_schema.proofs.public.Parts.{size-positive}
 use Rattle.avro_resolve.specs.Ends.{turned, entries_before}
 use Rattle.avro_compare.specs.Fault.{ResolutionFault, fault_in}
 use Rattle.avro_resolve.specs.inside.Guided.{MadeAs, StandsAs, IsSmall, EntriesGood, EntriesStandAs}
-use Rattle.avro_resolve.specs.IntoBranch.{in_branch}
+use Rattle.avro_binary.specs.IntoBranch.{in_branch}
 use Rattle.avro_compare.specs.Pairs.{wrapped, value_id}
 use Rattle.avro_compare.specs.Resolve.{Resolved, resolve, resolve_entries, both, inside, result_map, part_at}
 use Rattle.avro_compare.specs.declared.error.Fault.{Fault}

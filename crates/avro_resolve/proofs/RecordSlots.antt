@@ -11,7 +11,7 @@ use Rattle.avro_schema.specs.declared.schema.NodeId.{NodeId}
 use Rattle.avro_resolve.specs.Ends.{turned, before, AllBelow, SlotsAre}
 use Rattle.avro_compare.specs.Fault.{ResolutionFault, fault_in}
 use Rattle.avro_resolve.specs.inside.Guided.{MadeAs, StandsAs, IsSmall, Leads, FieldsGood, FieldsStandAs}
-use Rattle.avro_resolve.specs.IntoBranch.{in_branch}
+use Rattle.avro_binary.specs.IntoBranch.{in_branch}
 use Rattle.avro_compare.specs.Pairs.{wrapped, part_to, field_for}
 use Rattle.avro_compare.specs.Resolve.{Resolved, Sourced, resolve, resolve_sources, with_sourced, both, inside, result_map, field_values, fields_at, record_or_missing}
 use Rattle.avro_compare.specs.Source.{missing_field, reader_field}

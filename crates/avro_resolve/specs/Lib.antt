@@ -1,7 +1,6 @@
 pub mod Seen
 pub mod Reading
 pub mod Ends
-pub mod IntoBranch
 pub mod Tables
 pub mod Copied
 pub mod inside

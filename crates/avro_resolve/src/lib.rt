@@ -25,13 +25,11 @@
 mod error;
 pub mod laws;
 mod plan;
-mod put;
 mod read;
 mod resolution;
 mod resolving;
-mod wrapping;
 
-pub use avro_binary::{Build, Nothing, Tree, read_own};
+pub use avro_binary::{Build, Nothing, Put, Tree, read_own};
 pub use avro_compare::{
     Aim, At, Comparison, Fault, FaultKind, Names, compare, first_match, matches, source,
 };
@@ -39,6 +37,5 @@ pub use error::{ReadResolveError, ResolveError};
 pub use plan::Plan;
 pub use plan::plan_ref::PlanRef;
 pub use plan::plan_table::PlanTable;
-pub use put::Put;
 pub use read::{decode_resolved, read_resolved};
 pub use resolution::resolve;

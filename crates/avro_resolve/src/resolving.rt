@@ -8,7 +8,6 @@ pub(crate) mod recording;
 pub(crate) mod running;
 
 use crate::plan::plan_ref::PlanRef;
-use crate::put::Put;
 use crate::resolving::copying::copy_record;
 use crate::resolving::failing::{fault_apart, step_apart};
 use crate::resolving::guided::{Filling, Made, Part, Run};
@@ -19,7 +18,7 @@ use crate::resolving::recording::{
 use crate::resolving::running::{
     make_array, make_map, next_part, put_entry, put_item, repeat_item, start_entries, start_items,
 };
-use avro_binary::Make;
+use avro_binary::{Make, Put};
 use avro_compare::{Aim, At};
 use std::alloc::{AllocError, Global};
 

@@ -122,19 +122,19 @@ fn pass_leaf(alloc: Global, schema: &Schema, id: NodeId, cursor: &mut Cursor<'_>
 {
     let mut nothing = Nothing;
     if !schema.has(id) {
-        return read_null(alloc, cursor, &mut nothing, ()).is_ok();
+        return read_null(alloc, cursor, &mut nothing, None).is_ok();
     }
     match schema.node(id) {
-        Node::Null => read_null(alloc, cursor, &mut nothing, ()).is_ok(),
-        Node::Boolean => read_boolean(alloc, cursor, &mut nothing, ()).is_ok(),
-        Node::Int => read_int(alloc, cursor, &mut nothing, ()).is_ok(),
-        Node::Long => read_long(alloc, cursor, &mut nothing, ()).is_ok(),
-        Node::Bytes => read_bytes(alloc, cursor, &mut nothing, ()).is_ok(),
-        Node::Str => read_text(alloc, cursor, &mut nothing, ()).is_ok(),
+        Node::Null => read_null(alloc, cursor, &mut nothing, None).is_ok(),
+        Node::Boolean => read_boolean(alloc, cursor, &mut nothing, None).is_ok(),
+        Node::Int => read_int(alloc, cursor, &mut nothing, None).is_ok(),
+        Node::Long => read_long(alloc, cursor, &mut nothing, None).is_ok(),
+        Node::Bytes => read_bytes(alloc, cursor, &mut nothing, None).is_ok(),
+        Node::Str => read_text(alloc, cursor, &mut nothing, None).is_ok(),
         Node::Enum(enumeration) => {
-            read_symbol(alloc, enumeration.symbols.len(), cursor, &mut nothing, ()).is_ok()
+            read_symbol(alloc, enumeration.symbols.len(), cursor, &mut nothing, None).is_ok()
         }
-        Node::Fixed(fixed) => read_fixed(alloc, fixed.size, cursor, &mut nothing, ()).is_ok(),
+        Node::Fixed(fixed) => read_fixed(alloc, fixed.size, cursor, &mut nothing, None).is_ok(),
         Node::Array(_) | Node::Map(_) | Node::Union(_) | Node::Record(_) => false,
     }
 }

@@ -112,7 +112,7 @@ pub(crate) fn walk_datum(
         bytes,
         limits,
         &mut Nothing,
-        (),
+        None,
     ) {
         Ok(answer) => Ok(answer),
         Err(error) => Err(ReadResolveError::Read(error)),

@@ -8,10 +8,9 @@ use crate::plan::keeping::{
 };
 use crate::plan::pair_order::PairOrder;
 use crate::plan::parts::{branch_of, items_of, values_of};
-use crate::put::Put;
 use crate::read::{put_planned, read_planned};
 use crate::resolving::guided::Part;
-use avro_binary::Build;
+use avro_binary::{Build, Put};
 use avro_compare::{Aim, At, Comparison};
 use avro_schema::{Limits, NodeId, Schema};
 use std::alloc::Global;

@@ -16,8 +16,8 @@ ghost use Rattle.avro_resolve.specs.Copied.{ArePlain, IsAsSpelled, begins_with_n
 ghost use Rattle.avro_resolve.specs.inside.Guided.{StandsAs};
 
 use crate::plan::plan_ref::PlanRef;
-use crate::put::Put;
 use crate::resolving::guided::{Made, Part};
+use avro_binary::Put;
 use avro_compare::{At, fields_of, first_entry, rest_entries};
 use avro_schema::{Field, Node, NodeId, Schema};
 use avro_zigzag::starts_shortest;

@@ -9,9 +9,7 @@ ghost use Rattle.avro_compare.specs.Planned.{AreSources, AreSourcesFrom};
 ghost use Rattle.avro_compare.specs.Source.{source_of};
 ghost use Rattle.avro_resolve.specs.Ends.{SlotsAre, SlotsFor, IsSeen, slot_out};
 
-use crate::put::Put;
-use crate::wrapping::Wrapping;
-use avro_binary::Tree;
+use avro_binary::{Put, Tree, Wrapping};
 use avro_compare::{first_entry, rest_entries, source_among};
 use avro_schema::{Datum, Field};
 use std::alloc::{AllocError, Global};

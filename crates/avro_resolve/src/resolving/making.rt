@@ -5,10 +5,10 @@ ghost use Rattle.avro_resolve.specs.inside.Guided.{MadeAs};
 ghost use Rattle.avro_compare.specs.Pairs.{IsSymbol, wrapped as in_branch};
 ghost use Rattle.avro_compare.specs.Resolve.{Resolved, bytes_as as kept_bytes, int_as as kept_int, string_as as kept_string};
 
-use crate::put::Put;
 use crate::resolving::failing::fault_apart;
 use crate::resolving::guided::Made;
 use crate::resolving::leaves::{is_bytes, is_long, is_text};
+use avro_binary::Put;
 use avro_compare::FaultKind;
 use avro_schema::{NodeId, Schema};
 use std::alloc::{AllocError, Global};

@@ -9,10 +9,10 @@ ghost use Rattle.avro_compare.specs.Planned.{AreForFrom};
 ghost use Rattle.avro_resolve.specs.inside.Guided.{FieldsStandAs, FillsAs, KnowsFields, KnowsNext, StandsAs, field_part, next_field, next_index, part_below, part_next};
 
 use crate::plan::plan_ref::{PlanRef, index_at};
-use crate::put::Put;
 use crate::resolving::failing::{fault_apart, step_apart};
 use crate::resolving::filling::fill;
 use crate::resolving::guided::{Filling, Made, Part, Slots};
+use avro_binary::Put;
 use avro_compare::{Aim, At, FaultKind, fields_of, first_entry, rest_entries};
 use std::alloc::{AllocError, Global};
 

@@ -6,9 +6,9 @@ ghost use Rattle.avro_schema.specs.Value.{Value};
 ghost use Rattle.avro_resolve.specs.inside.Guided.{EntriesStandAs, ItemsStandAs, StandsAs, next_at, part_below};
 
 use crate::plan::plan_ref::PlanRef;
-use crate::put::Put;
 use crate::resolving::failing::{fault_apart, step_apart};
 use crate::resolving::guided::{Made, Part, Run};
+use avro_binary::Put;
 use avro_compare::{Aim, At};
 use std::alloc::{AllocError, Global};
 

@@ -4,7 +4,7 @@ use Rattle.avro_schema.specs.Node.{FieldNode, node_at}
 use Rattle.avro_schema.specs.Seen.{seen_fields}
 use Rattle.avro_schema.specs.SeenSchema.{schema_nodes}
 use Rattle.avro_schema.specs.Value.{Value}
-use Rattle.avro_resolve.specs.IntoBranch.{in_branch}
+use Rattle.avro_binary.specs.IntoBranch.{in_branch}
 use Rattle.avro_compare.specs.Resolve.{field_value, field_values, fields_at}
 use Rattle.avro_resolve.proofs.RecordSlots.{good_record, faulty_record}
 use Rattle.avro_compare.specs.Planned.{AreSources}

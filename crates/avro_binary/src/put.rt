@@ -1,14 +1,15 @@
-ghost use Rattle.std.specs.Prelude.{◌≡◌, ℕ, List, [], ◌∷◌, ◌++◌, Option, IfOk, IfSome, OnOk, replicate, true, false};
+ghost use Rattle.std.specs.Prelude.{◌≡◌, ℕ, List, [], ◌∷◌, ◌++◌, Option, IfOk, IfSome, OnOk, length, replicate, true, false};
+ghost use Rattle.avro_schema.specs.Empty.{are_empty, is_empty};
 ghost use Rattle.avro_schema.specs.Seen.{values_from, entries_from, value_of};
 ghost use Rattle.avro_schema.specs.Value.{Value};
 ghost use Rattle.avro_cursor.specs.Encoding.{plain};
-ghost use Rattle.avro_resolve.specs.IntoBranch.{in_branch};
+ghost use Rattle.avro_binary.specs.IntoBranch.{in_branch};
 
 use avro_schema::Datum;
 use std::alloc::{AllocError, Global};
 
-/// A builder of data that are read for a reader, which may keep something as it goes: an output,
-/// for instance. A call is given the branch of the reader's union that its datum goes into, if any.
+/// A builder of data that may keep something as it goes: an output, for instance. A call is given the branch of a union
+/// that its datum goes into, if any: of the reader's, where data are read for a reader.
 ///
 /// A call fails only if memory runs out. What a result stands for is defined by its maker at that
 /// time; it is the same for every later maker that keeps it.
@@ -28,6 +29,9 @@ pub trait Put {
     /// Which later makers keep what one has made.
     ghost keeps: { Self → Self → Type 0 };
 
+    /// With which bytes a maker begins. It does so for good, whether a call returns something or fails.
+    ghost begins: { Self → List ℕ → Type 0 };
+
     /// Which datum a result stands for.
     ghost stands_for: { Self → Self.Out → Value → Type 0 };
 
@@ -40,9 +44,16 @@ pub trait Put {
     /// Which data some fields stand for, by the branch that their record goes into.
     ghost fields_stand_for: { Self → Option ℕ → Self.Fields → List Value → Type 0 };
 
+    /// Makes at once what a datum without bytes is made into, or `None` where its parts are needed for that.
+    fn empty(&mut self, alloc: Global, into: Option<u32>) -> Result<Option<Self::Out>, AllocError>
+        ensures kept { OnOk result (keeps self.old self.new) }
+        ensures stays { (front : List ℕ) → begins self.old front → begins self.new front }
+        ensures stands { (v : Value) → is_empty v ≡ true → IfOk result (λ o. IfSome o (λ out. stands_for self.new out (in_branch into v))) };
+
     /// Makes null.
     fn null(&mut self, alloc: Global, into: Option<u32>) -> Result<Self::Out, AllocError>
         ensures kept { OnOk result (keeps self.old self.new) }
+        ensures stays { (front : List ℕ) → begins self.old front → begins self.new front }
         ensures stands { IfOk result (λ out. stands_for self.new out (in_branch into Value.null)) };
 
     /// Makes a boolean.
@@ -53,11 +64,13 @@ pub trait Put {
         value: bool,
     ) -> Result<Self::Out, AllocError>
         ensures kept { OnOk result (keeps self.old self.new) }
+        ensures stays { (front : List ℕ) → begins self.old front → begins self.new front }
         ensures stands { IfOk result (λ out. stands_for self.new out (in_branch into (Value.boolean value))) };
 
     /// Makes an int.
     fn int(&mut self, alloc: Global, into: Option<u32>, value: i32) -> Result<Self::Out, AllocError>
         ensures kept { OnOk result (keeps self.old self.new) }
+        ensures stays { (front : List ℕ) → begins self.old front → begins self.new front }
         ensures stands { IfOk result (λ out. stands_for self.new out (in_branch into (Value.int value))) };
 
     /// Makes a long.
@@ -68,6 +81,7 @@ pub trait Put {
         value: i64,
     ) -> Result<Self::Out, AllocError>
         ensures kept { OnOk result (keeps self.old self.new) }
+        ensures stays { (front : List ℕ) → begins self.old front → begins self.new front }
         ensures stands { IfOk result (λ out. stands_for self.new out (in_branch into (Value.long value))) };
 
     /// Makes bytes.
@@ -78,6 +92,7 @@ pub trait Put {
         content: &[u8],
     ) -> Result<Self::Out, AllocError>
         ensures kept { OnOk result (keeps self.old self.new) }
+        ensures stays { (front : List ℕ) → begins self.old front → begins self.new front }
         ensures stands { IfOk result (λ out. stands_for self.new out (in_branch into (Value.bytes content.now))) };
 
     /// Makes a string.
@@ -88,6 +103,7 @@ pub trait Put {
         text: &str,
     ) -> Result<Self::Out, AllocError>
         ensures kept { OnOk result (keeps self.old self.new) }
+        ensures stays { (front : List ℕ) → begins self.old front → begins self.new front }
         ensures stands { IfOk result (λ out. stands_for self.new out (in_branch into (Value.string text.now))) };
 
     /// Makes a fixed.
@@ -98,6 +114,7 @@ pub trait Put {
         content: &[u8],
     ) -> Result<Self::Out, AllocError>
         ensures kept { OnOk result (keeps self.old self.new) }
+        ensures stays { (front : List ℕ) → begins self.old front → begins self.new front }
         ensures stands { IfOk result (λ out. stands_for self.new out (in_branch into (Value.fixed content.now))) };
 
     /// Makes an enum from the index of its symbol.
@@ -108,7 +125,14 @@ pub trait Put {
         index: u32,
     ) -> Result<Self::Out, AllocError>
         ensures kept { OnOk result (keeps self.old self.new) }
+        ensures stays { (front : List ℕ) → begins self.old front → begins self.new front }
         ensures stands { IfOk result (λ out. stands_for self.new out (in_branch into (Value.enum index))) };
+
+    /// Makes a union from the index of its branch and what was made of its value.
+    fn branch(&mut self, alloc: Global, index: u32, value: Self::Out) -> Result<Self::Out, AllocError>
+        ensures kept { OnOk result (keeps self.old self.new) }
+        ensures stays { (front : List ℕ) → begins self.old front → begins self.new front }
+        ensures stands { (v : Value) → stands_for self.old value v → IfOk result (λ out. stands_for self.new out (Value.union index v)) };
 
     /// Makes a datum at hand: the default of a field.
     fn default(&mut self, alloc: Global, datum: &Datum) -> Result<Self::Out, AllocError>
@@ -123,6 +147,7 @@ pub trait Put {
     /// No items.
     fn items(&mut self, alloc: Global) -> Result<Self::Items, AllocError>
         ensures kept { OnOk result (keeps self.old self.new) }
+        ensures stays { (front : List ℕ) → begins self.old front → begins self.new front }
         ensures stands { IfOk result (λ items. items_stand_for self.new items []) };
 
     /// Adds an item after those before.
@@ -133,6 +158,7 @@ pub trait Put {
         value: Self::Out,
     ) -> Result<(), AllocError>
         ensures kept { OnOk result (keeps self.old self.new) }
+        ensures stays { (front : List ℕ) → begins self.old front → begins self.new front }
         ensures stands { (vs : List Value) (v : Value) → items_stand_for self.old items.old vs → stands_for self.old value v
             → OnOk result (items_stand_for self.new items.new (vs ++ v ∷ [])) };
 
@@ -150,12 +176,14 @@ pub trait Put {
         items: Self::Items,
     ) -> Result<Self::Out, AllocError>
         ensures kept { OnOk result (keeps self.old self.new) }
+        ensures stays { (front : List ℕ) → begins self.old front → begins self.new front }
         ensures stands { (vs : List Value) → items_stand_for self.old items vs
             → IfOk result (λ out. stands_for self.new out (in_branch into (Value.array (values_from vs)))) };
 
     /// No entries.
     fn entries(&mut self, alloc: Global) -> Result<Self::Entries, AllocError>
         ensures kept { OnOk result (keeps self.old self.new) }
+        ensures stays { (front : List ℕ) → begins self.old front → begins self.new front }
         ensures stands { IfOk result (λ entries. entries_stand_for self.new entries []) };
 
     /// Adds an entry after those before.
@@ -167,6 +195,7 @@ pub trait Put {
         value: Self::Out,
     ) -> Result<(), AllocError>
         ensures kept { OnOk result (keeps self.old self.new) }
+        ensures stays { (front : List ℕ) → begins self.old front → begins self.new front }
         ensures stands { (es : List (List ℕ × Value)) (v : Value) → entries_stand_for self.old entries.old es → stands_for self.old value v
             → OnOk result (entries_stand_for self.new entries.new (es ++ (key.now, v) ∷ [])) };
 
@@ -178,12 +207,14 @@ pub trait Put {
         entries: Self::Entries,
     ) -> Result<Self::Out, AllocError>
         ensures kept { OnOk result (keeps self.old self.new) }
+        ensures stays { (front : List ℕ) → begins self.old front → begins self.new front }
         ensures stands { (es : List (List ℕ × Value)) → entries_stand_for self.old entries es
             → IfOk result (λ out. stands_for self.new out (in_branch into (Value.map_of (entries_from es)))) };
 
     /// No fields of a record, before any part of the record is made.
     fn fields(&mut self, alloc: Global, into: Option<u32>) -> Result<Self::Fields, AllocError>
         ensures kept { OnOk result (keeps self.old self.new) }
+        ensures stays { (front : List ℕ) → begins self.old front → begins self.new front }
         ensures stands { IfOk result (λ fields. fields_stand_for self.new into fields []) };
 
     /// Adds the value of the next field after those before.
@@ -194,12 +225,20 @@ pub trait Put {
         value: Self::Out,
     ) -> Result<(), AllocError>
         ensures kept { OnOk result (keeps self.old self.new) }
+        ensures stays { (front : List ℕ) → begins self.old front → begins self.new front }
         ensures stands { (into : Option ℕ) (vs : List Value) (v : Value) → fields_stand_for self.old into fields.old vs → stands_for self.old value v
             → OnOk result (fields_stand_for self.new into fields.new (vs ++ v ∷ [])) };
+
+    /// Adds at once the values of the next fields, each of which is a datum without bytes, and says so, or adds none.
+    fn empty_fields(&self, fields: &mut Self::Fields, count: u32) -> bool
+        ensures added { (into : Option ℕ) (vs ws : List Value) → result ≡ true → length ws ≡ count → are_empty (values_from ws) ≡ true
+            → fields_stand_for self.now into fields.old vs → fields_stand_for self.now into fields.new (vs ++ ws) }
+        ensures none { result ≡ false → fields.new ≡ fields.old };
 
     /// Makes a record from the values of its fields in order.
     fn record(&mut self, alloc: Global, fields: Self::Fields) -> Result<Self::Out, AllocError>
         ensures kept { OnOk result (keeps self.old self.new) }
+        ensures stays { (front : List ℕ) → begins self.old front → begins self.new front }
         ensures stands { (into : Option ℕ) (vs : List Value) → fields_stand_for self.old into fields vs
             → IfOk result (λ out. stands_for self.new out (in_branch into (Value.record_of (values_from vs)))) };
 

@@ -1,6 +1,6 @@
 use Rattle.std.proofs.Common.{rules}
 use Rattle.avro_binary.proofs.public.Zipped.{zipped-push}
-use Rattle.avro_resolve.proofs.wrapping.WrappingPut.field.Goals as goal
+use Rattle.avro_binary.proofs.wrapping.WrappingPut.field.Goals as goal
 
 pub returns-clause-stands : goal.returns-clause-stands
 returns-clause-stands g c = λ into vs v stand is.

@@ -1,17 +1,17 @@
+use crate::build::Build;
 use crate::put::Put;
-use avro_binary::Build;
 use avro_schema::Datum;
 use std::alloc::{AllocError, Global};
 
-/// Makes what a builder builds, in a branch of the reader's union where there is one.
+/// Makes what a builder builds, in a branch of a union where there is one.
 #[derive(Drop)]
-pub(crate) struct Wrapping<'b, B> {
+pub struct Wrapping<'b, B> {
     builder: &'b mut B,
 }
 
 impl<'b, B> Wrapping<'b, B> {
     /// A maker of what the builder builds.
-    pub(crate) fn new(builder: &'b mut B) -> Self {
+    pub fn new(builder: &'b mut B) -> Self {
         Wrapping { builder }
     }
 }
@@ -19,7 +19,7 @@ impl<'b, B> Wrapping<'b, B> {
 impl<'b, B: Build> Wrapping<'b, B> {
     ghost use Rattle.std.specs.Prelude.{IfOk};
     ghost use Rattle.avro_schema.specs.Value.{Value};
-    ghost use Rattle.avro_resolve.specs.IntoBranch.{in_branch};
+    ghost use Rattle.avro_binary.specs.IntoBranch.{in_branch};
 
     /// What was built, in a branch where there is one.
     #[inline(always)]
@@ -38,7 +38,7 @@ impl<'b, B: Build> Put for Wrapping<'b, B> {
     ghost use Rattle.std.specs.List.{AllZip};
     ghost use Rattle.avro_schema.specs.Seen.{values_from};
     ghost use Rattle.avro_schema.specs.Value.{Value};
-    ghost use Rattle.avro_resolve.specs.IntoBranch.{in_branch};
+    ghost use Rattle.avro_binary.specs.IntoBranch.{in_branch};
 
     type Out = B::Out;
 
@@ -49,6 +49,8 @@ impl<'b, B: Build> Put for Wrapping<'b, B> {
     type Fields = (Vec<B::Out>, Option<u32>);
 
     ghost keeps = { λ _ _. Unit {0} };
+
+    ghost begins = { λ _ _. Unit {0} };
 
     ghost stands_for = { λ _ out v. B.stands_for out v };
 
@@ -69,6 +71,10 @@ impl<'b, B: Build> Put for Wrapping<'b, B> {
     ghost entries_kept = { λ s t entries es kept stand. stand };
 
     ghost fields_kept = { λ s t into fields vs kept stand. stand };
+
+    fn empty(&mut self, _alloc: Global, _into: Option<u32>) -> Result<Option<B::Out>, AllocError> {
+        Ok(None)
+    }
 
     fn null(&mut self, alloc: Global, into: Option<u32>) -> Result<B::Out, AllocError> {
         let out = self.builder.null(alloc)?;
@@ -133,6 +139,10 @@ impl<'b, B: Build> Put for Wrapping<'b, B> {
     ) -> Result<B::Out, AllocError> {
         let out = self.builder.symbol(alloc, index)?;
         self.wrap(alloc, into, out)
+    }
+
+    fn branch(&mut self, alloc: Global, index: u32, value: B::Out) -> Result<B::Out, AllocError> {
+        self.builder.branch(alloc, index, value)
     }
 
     fn default(&mut self, alloc: Global, datum: &Datum) -> Result<B::Out, AllocError> {
@@ -210,6 +220,10 @@ impl<'b, B: Build> Put for Wrapping<'b, B> {
     ) -> Result<(), AllocError> {
         fields.0.push(value)?;
         Ok(())
+    }
+
+    fn empty_fields(&self, _fields: &mut (Vec<B::Out>, Option<u32>), _count: u32) -> bool {
+        false
     }
 
     fn record(
