@@ -104,12 +104,14 @@ impl Put for Appending {
     }
 
     #[inline(always)]
+    #[tactic(auto, using(crate::proofs::IntoBranches::holds_in))]
     fn null(&mut self, _alloc: Global, into: Option<u32>) -> Result<Written, AllocError> {
         let start = self.begin(into)?;
         Ok(self.since(start))
     }
 
     #[inline(always)]
+    #[tactic(auto, using(crate::proofs::IntoBranches::holds_in))]
     fn boolean(
         &mut self,
         _alloc: Global,
@@ -122,6 +124,7 @@ impl Put for Appending {
     }
 
     #[inline(always)]
+    #[tactic(auto, using(crate::proofs::IntoBranches::holds_in))]
     fn int(
         &mut self,
         _alloc: Global,
@@ -132,6 +135,7 @@ impl Put for Appending {
     }
 
     #[inline(always)]
+    #[tactic(auto, using(crate::proofs::IntoBranches::holds_in))]
     fn long(
         &mut self,
         _alloc: Global,
@@ -142,6 +146,7 @@ impl Put for Appending {
     }
 
     #[inline(always)]
+    #[tactic(auto, using(crate::proofs::IntoBranches::holds_in))]
     fn bytes(
         &mut self,
         _alloc: Global,
@@ -152,6 +157,7 @@ impl Put for Appending {
     }
 
     #[inline(always)]
+    #[tactic(auto, using(crate::proofs::IntoBranches::holds_in))]
     fn string(
         &mut self,
         _alloc: Global,
@@ -162,6 +168,7 @@ impl Put for Appending {
     }
 
     #[inline(always)]
+    #[tactic(auto, using(crate::proofs::IntoBranches::holds_in))]
     fn fixed(
         &mut self,
         _alloc: Global,
@@ -174,6 +181,7 @@ impl Put for Appending {
     }
 
     #[inline(always)]
+    #[tactic(auto, using(crate::proofs::IntoBranches::holds_in))]
     fn symbol(
         &mut self,
         _alloc: Global,

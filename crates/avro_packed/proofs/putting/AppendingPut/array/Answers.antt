@@ -1,4 +1,4 @@
-use Rattle.std.proofs.Common.{List, ℕ, subst, sym, ◌∙◌}
+use Rattle.std.proofs.Common.{List, ℕ, subst}
 use Rattle.std.specs.Prelude.{IfOk}
 use Rattle.avro_schema.specs.Seen.{values_from}
 use Rattle.avro_schema.specs.Value.{Value}
@@ -10,9 +10,6 @@ use Rattle.avro_packed.proofs.putting.AppendingPut.array.Goals as goal
 
 pub returns-clause-stands : goal.returns-clause-stands
 returns-clause-stands c = λ vs are.
-    let old = c.args.self.now in
-    let all = c.within.result in
-    let held = subst (λ w. Holds old w (plain_values (values_from vs))) (sym c.within.ensures.written) are.2 in
     holds_in c.block.result c.block.new.self c.args.into (Value.array (values_from vs))
-    (subst (λ (bytes : List ℕ). IfOk c.block.result (λ out. Holds c.block.new.self out bytes)) (block_of_items old c.args.into all vs (c.within.ensures.branch, c.within.ensures.count ∙ are.1, held))
-    (c.block.ensures.holds (plain_values (values_from vs)) held))
+    (subst (λ (bytes : List ℕ). IfOk c.block.result (λ out. Holds c.block.new.self out bytes)) (block_of_items c.args.self.now c.args.into c.args.items vs are)
+    (c.block.ensures.holds (plain_values (values_from vs)) are.1))

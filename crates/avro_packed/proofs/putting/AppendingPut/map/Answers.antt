@@ -1,4 +1,4 @@
-use Rattle.std.proofs.Common.{List, ℕ, subst, sym, ◌∙◌}
+use Rattle.std.proofs.Common.{List, ℕ, subst}
 use Rattle.std.specs.Prelude.{IfOk}
 use Rattle.avro_schema.specs.Seen.{entries_from}
 use Rattle.avro_schema.specs.Value.{Value}
@@ -10,9 +10,6 @@ use Rattle.avro_packed.proofs.putting.AppendingPut.map.Goals as goal
 
 pub returns-clause-stands : goal.returns-clause-stands
 returns-clause-stands c = λ es are.
-    let old = c.args.self.now in
-    let all = c.within.result in
-    let held = subst (λ w. Holds old w (plain_entries (entries_from es))) (sym c.within.ensures.written) are.2 in
     holds_in c.block.result c.block.new.self c.args.into (Value.map_of (entries_from es))
-    (subst (λ (bytes : List ℕ). IfOk c.block.result (λ out. Holds c.block.new.self out bytes)) (block_of_entries old c.args.into all es (c.within.ensures.branch, c.within.ensures.count ∙ are.1, held))
-    (c.block.ensures.holds (plain_entries (entries_from es)) held))
+    (subst (λ (bytes : List ℕ). IfOk c.block.result (λ out. Holds c.block.new.self out bytes)) (block_of_entries c.args.self.now c.args.into c.args.entries es are)
+    (c.block.ensures.holds (plain_entries (entries_from es)) are.1))

@@ -1,5 +1,8 @@
-use Rattle.std.proofs.Common.{[], None}
+use Rattle.avro_cursor.specs.Encoding.{plain}
+use Rattle.avro_packed.proofs.Gathering.{items_repeated}
 use Rattle.avro_packed.proofs.putting.AppendingPut.repeat.Goals as goal
 
-pub returns-clause-added : goal.returns-clause-added
-returns-clause-added c = λ vs v all are is. c.repeat.ensures.added [] 0 None vs v all are is
+pub returns-then-is_nothing-clause-added : goal.returns-then-is_nothing-clause-added
+returns-then-is_nothing-clause-added c = λ vs v all are is.
+    let counted = c.count_more.ensures in
+    items_repeated c.args.self.now c.count_more.new.self c.args.items.now c.args.count vs v are (c.is_nothing.ensures c.args.self.now (plain v) c.if-is_nothing.true is) (counted.count all) counted.written
