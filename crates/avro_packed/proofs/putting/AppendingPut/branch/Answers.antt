@@ -7,8 +7,8 @@ use Rattle.avro_packed.specs.Appended.{Holds}
 use Rattle.avro_packed.specs.inside.Outputs.{still_holds}
 use Rattle.avro_packed.proofs.putting.AppendingPut.branch.Goals as goal
 
-pub returns-in_ok-join-clause-stands : goal.returns-in_ok-join-clause-stands
-returns-in_ok-join-clause-stands c = λ v holds.
+pub returns-clause-stands : goal.returns-clause-stands
+returns-clause-stands c = λ v holds.
     let old = c.args.self.now in
     let new = c.number.new.self in
     let head = number_bytes (pos c.args.index) in
