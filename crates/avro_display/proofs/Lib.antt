@@ -1,3 +1,2 @@
 mod RowsDisplays
 pub mod NoFloats
-pub mod DisplaySeen
