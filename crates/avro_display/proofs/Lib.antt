@@ -1,2 +1,4 @@
 mod RowsDisplays
-pub mod NoFloats
+pub mod Tables
+pub mod Texts
+pub mod public

@@ -1,11 +1,11 @@
 -- In which order an object's members are displayed.
-use Rattle.std.specs.Prelude.{◌≡◌, ℕ, suc, List, [], ◌∷◌}
+use Rattle.std.specs.Prelude.{◌≡◌, ℕ, ◌+◌, List, [], ◌∷◌}
 use Rattle.serde_json.specs.Data.{Data, Members, no_members, member, put}
 
 -- the members, with each key's tree put at the key, one after another; a tree is that of the key's index
 abbrev pub put_each : (ℕ → Data) → ℕ → List (List ℕ) → Members → Members
 put_each tree index [] members = members
-put_each tree index (k ∷ ks) members = put_each tree (suc index) ks (put k (tree index) members)
+put_each tree index (k ∷ ks) members = put_each tree (index + 1) ks (put k (tree index) members)
 
 -- members in an order of keys, each with the tree of its index
 abbrev pub in_order : (ℕ → Data) → List (List ℕ × ℕ) → Members

@@ -1,7 +1,7 @@
 -- What is known of a schema before data are displayed: each record's fields in their order, and finished texts of names.
 use Rattle.std.specs.Prelude.{◌≡◌, ℕ, zero, suc, List, [], ◌∷◌, ◌++◌, map, Option, Some, None, slice_get, option_map, unwrap_or}
 use Rattle.std.specs.List.{AllByRecursion}
-use Rattle.avro_schema.specs.Value.{Value, Values, no_values, value}
+use Rattle.avro_schema.specs.Value.{Value, Values, no_values, value, Entries, no_entries, entry}
 use Rattle.avro_schema.specs.Node.{Node, FieldNode, node_at}
 use Rattle.json.specs.Print.{quoted}
 use Rattle.serde_json.specs.Data.{Data}
@@ -31,6 +31,15 @@ value_at (value v vs) (suc index) = value_at vs index
 -- the tree of the field at an index
 abbrev pub field_tree : List Node → List FieldNode → Values → ℕ → Data
 field_tree nodes fields vs index = display_tree nodes (node_at nodes (field_id fields index)) (value_at vs index)
+
+-- the value of the entry at an index, and its tree
+abbrev pub entry_at : Entries → ℕ → Value
+entry_at no_entries index = Value.null
+entry_at (entry k v es) zero = v
+entry_at (entry k v es) (suc index) = entry_at es index
+
+abbrev pub entry_tree : List Node → Node → Entries → ℕ → Data
+entry_tree nodes n es index = display_tree nodes n (entry_at es index)
 
 -- the key and the index of a member
 abbrev pub place_of : Member → List ℕ × ℕ

@@ -2,12 +2,17 @@ ghost use Rattle.std.specs.Prelude.{◌≡◌, ◌≢◌, ◌⊎◌, ◌++◌, �
 ghost use Rattle.avro_schema.specs.Node.{FieldNode, node_at};
 ghost use Rattle.avro_schema.specs.Seen.{value_of, values_of, entries_of};
 ghost use Rattle.avro_schema.specs.SeenSchema.{schema_nodes};
+ghost use Rattle.avro_schema.specs.Value.{keys_of};
+ghost use Rattle.avro_display.specs.Order.{IsOrder};
+ghost use Rattle.avro_display.specs.inside.Tables.{seen_place};
 ghost use Rattle.avro_display.specs.DisplayTree.{branch_tree, display_tree, display_items, display_entries, display_fields, display_text, part_at, record_fields};
 ghost use Rattle.avro_display.specs.Pieces.{PutsText};
-ghost use Rattle.avro_display.specs.Table.{AreMembers};
+ghost use Rattle.avro_display.specs.Table.{AreMembers, entry_tree, head_text, value_at};
 ghost use Rattle.avro_display.specs.declared.put_error.PutError.{PutError};
 ghost use Rattle.serde_json.specs.Data.{array, object, no_members};
 ghost use Rattle.serde_json.specs.Written.{comma_if, compact_text};
+ghost use Rattle.json.specs.Print.{token_text};
+ghost use Rattle.json.specs.Token.Token.{boolean};
 
 use crate::labels::{append_key, symbol_text};
 use crate::member::Member;
@@ -19,6 +24,7 @@ use crate::table::DisplayTable;
 use avro_device::{Output, WriteOutput, put_all};
 use avro_schema::{Datum, Memory, Node, NodeId, Schema};
 use std::alloc::Global;
+use std::collections::BTreeMap;
 
 /// Displays a datum of a node as compact JSON.
 ///
@@ -185,17 +191,58 @@ fn put_entries<O: Output>(
     ensures memory { IsErrOf result PutError.OutOfMemory → O.failures out.new ≡ O.failures out.old }
 {
     let order = entry_order(alloc, entries)?;
+    put_ordered(out, text, alloc, table, id, entries, &order)
+}
+
+/// Puts the display of a map's entries in the order of their keys.
+#[cycle(display)]
+fn put_ordered<O: Output>(
+    out: &mut O,
+    text: &mut Vec<u8>,
+    alloc: Global,
+    table: &DisplayTable<'_>,
+    id: Option<NodeId>,
+    entries: &[(String, Datum)],
+    order: &BTreeMap<&str, usize>,
+) -> Result<(), PutError>
+    ensures put { IsOrder (keys_of (entries_of entries.now)) (map seen_place order.now.entries) → OnOk result (PutsText O.keeps out.old text.old.items
+        (compact_text (object (display_entries (schema_nodes table.now) (part_at (schema_nodes table.now) (option_map (λ id. id.0) id)) (entries_of entries.now) no_members)))
+        out.new text.new.items) }
+    ensures works { OnOk result (O.failures out.new ≡ O.failures out.old) }
+    ensures fails { IsErrOf result PutError.CannotWrite → (O.failures out.new ≢ O.failures out.old) ⊎ O.stuck out.new }
+    ensures memory { IsErrOf result PutError.OutOfMemory → O.failures out.new ≡ O.failures out.old }
+{
     text.extend_from_slice(b"{")?;
     let mut later = false;
     for (key, index) in order.iter() {
-        if *index < entries.len() {
-            append_separated(text, later, b"")?;
-            append_key(text, alloc, key)?;
-            put_part(&mut *out, &mut *text, alloc, table, id, &entries[*index].1)?;
-            later = true;
-        }
+        append_entry_key(text, alloc, later, key)?;
+        put_entry_value(&mut *out, &mut *text, alloc, table, id, entries, *index)?;
+        later = true;
     }
     put_plain(out, text, b"}")
+}
+
+/// Puts the display of the value of the entry at an index, or null if there is none.
+#[cycle(display)]
+fn put_entry_value<O: Output>(
+    out: &mut O,
+    text: &mut Vec<u8>,
+    alloc: Global,
+    table: &DisplayTable<'_>,
+    id: Option<NodeId>,
+    entries: &[(String, Datum)],
+    index: usize,
+) -> Result<(), PutError>
+    ensures put { OnOk result (PutsText O.keeps out.old text.old.items
+        (compact_text (entry_tree (schema_nodes table.now) (part_at (schema_nodes table.now) (option_map (λ id. id.0) id)) (entries_of entries.now) index)) out.new text.new.items) }
+    ensures works { OnOk result (O.failures out.new ≡ O.failures out.old) }
+    ensures fails { IsErrOf result PutError.CannotWrite → (O.failures out.new ≢ O.failures out.old) ⊎ O.stuck out.new }
+    ensures memory { IsErrOf result PutError.OutOfMemory → O.failures out.new ≡ O.failures out.old }
+{
+    if index >= entries.len() {
+        return put_plain(out, text, b"null");
+    }
+    put_part(out, text, alloc, table, id, &entries[index].1)
 }
 
 /// Puts the display of the field values of a record.
@@ -245,20 +292,50 @@ fn put_members<O: Output>(
     text.extend_from_slice(b"{")?;
     let mut later = false;
     for member in members {
-        if member.field < values.len() {
-            append_separated(text, later, member.head())?;
-            put_part(
-                &mut *out,
-                &mut *text,
-                alloc,
-                table,
-                Some(member.node),
-                &values[member.field],
-            )?;
-            later = true;
-        }
+        append_separated(text, later, member.head())?;
+        put_field_value(&mut *out, &mut *text, alloc, table, member, values)?;
+        later = true;
     }
     put_plain(out, text, b"}")
+}
+
+/// Puts the display of the value of a record's member, or null if there is none.
+#[cycle(display)]
+fn put_field_value<O: Output>(
+    out: &mut O,
+    text: &mut Vec<u8>,
+    alloc: Global,
+    table: &DisplayTable<'_>,
+    member: &Member<'_>,
+    values: &[Datum],
+) -> Result<(), PutError>
+    ensures put { OnOk result (PutsText O.keeps out.old text.old.items
+        (display_text (schema_nodes table.now) (node_at (schema_nodes table.now) member.now.node.0) (value_at (values_of values.now) member.now.field)) out.new text.new.items) }
+    ensures works { OnOk result (O.failures out.new ≡ O.failures out.old) }
+    ensures fails { IsErrOf result PutError.CannotWrite → (O.failures out.new ≢ O.failures out.old) ⊎ O.stuck out.new }
+    ensures memory { IsErrOf result PutError.OutOfMemory → O.failures out.new ≡ O.failures out.old }
+{
+    if member.field >= values.len() {
+        return put_plain(out, text, b"null");
+    }
+    put_part(
+        out,
+        text,
+        alloc,
+        table,
+        Some(member.node),
+        &values[member.field],
+    )
+}
+
+/// Appends a comma, if something is before, and then a key with its colon.
+fn append_entry_key(text: &mut Vec<u8>, alloc: Global, later: bool, key: &str) -> Result<(), Memory>
+    ensures { OnOk result (text.new.items ≡ text.old.items ++ (comma_if later ++ head_text key.now)) }
+{
+    if later {
+        text.push(b',')?;
+    }
+    append_key(text, alloc, key)
 }
 
 /// Appends a comma, if something is before, and then bytes.

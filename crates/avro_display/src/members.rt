@@ -1,7 +1,9 @@
 //! The order in which keys are displayed.
 
-ghost use Rattle.std.specs.Prelude.{◌≡◌, IfOk, map, string_bytes};
-ghost use Rattle.avro_schema.specs.Seen.{seen_fields};
+ghost use Rattle.std.specs.Prelude.{◌≡◌, IfOk, map};
+ghost use Rattle.avro_schema.specs.Seen.{seen_fields, entries_of};
+ghost use Rattle.avro_schema.specs.Value.{keys_of};
+ghost use Rattle.avro_display.specs.inside.Tables.{seen_place};
 ghost use Rattle.avro_display.specs.Order.{IsOrder};
 ghost use Rattle.avro_display.specs.Table.{AreMembers, IsMember, field_id, place_of};
 
@@ -16,6 +18,17 @@ pub(crate) fn members_of<'a>(alloc: Global, fields: &'a [Field]) -> Result<Vec<M
     ensures { IfOk result (λ members. AreMembers (seen_fields fields.now) members.items) }
 {
     let order = field_order(alloc, fields)?;
+    members_in(alloc, fields, &order)
+}
+
+/// The fields in an order.
+fn members_in<'a>(
+    alloc: Global,
+    fields: &[Field],
+    order: &BTreeMap<&'a str, usize>,
+) -> Result<Vec<Member<'a>>, Memory>
+    ensures { IsOrder (map (λ f. f.name) (seen_fields fields.now)) (map seen_place order.now.entries) → IfOk result (λ members. AreMembers (seen_fields fields.now) members.items) }
+{
     let mut members = Vec::with_capacity(alloc, order.len())?;
     for (name, field) in order.iter() {
         members.push(member(alloc, fields, name, *field)?)?;
@@ -25,7 +38,7 @@ pub(crate) fn members_of<'a>(alloc: Global, fields: &'a [Field]) -> Result<Vec<M
 
 /// The names of fields in order, each with its field's index.
 fn field_order<'a>(alloc: Global, fields: &'a [Field]) -> Result<BTreeMap<&'a str, usize>, Memory>
-    ensures { IfOk result (λ order. IsOrder (map (λ f. string_bytes f.name) fields.now) (map (λ e. (e.0.now, e.1)) order.entries)) }
+    ensures { IfOk result (λ order. IsOrder (map (λ f. f.name) (seen_fields fields.now)) (map seen_place order.entries)) }
 {
     let mut order = BTreeMap::new(alloc);
     for i in 0..fields.len() {
@@ -39,7 +52,7 @@ pub(crate) fn entry_order<'a>(
     alloc: Global,
     entries: &'a [(String, Datum)],
 ) -> Result<BTreeMap<&'a str, usize>, Memory>
-    ensures { IfOk result (λ order. IsOrder (map (λ e. string_bytes e.0) entries.now) (map (λ e. (e.0.now, e.1)) order.entries)) }
+    ensures { IfOk result (λ order. IsOrder (keys_of (entries_of entries.now)) (map seen_place order.entries)) }
 {
     let mut order = BTreeMap::new(alloc);
     for i in 0..entries.len() {

@@ -1,8 +1,9 @@
 //! Text that goes out in pieces.
 
 ghost use Rattle.std.specs.Prelude.{◌≡◌, ◌≢◌, ◌⊎◌, ◌++◌, [], OnOk, IsErrOf, encode_utf8_all};
-ghost use Rattle.std.specs.Fmt.{signed_decimal};
 ghost use Rattle.json.specs.Print.{quoted};
+ghost use Rattle.serde_json.specs.Find.{of_integer};
+ghost use Rattle.serde_json.specs.Written.{number_text};
 ghost use Rattle.avro_display.specs.Pieces.{PutsText};
 ghost use Rattle.avro_display.specs.declared.put_error.PutError.{PutError};
 
@@ -58,7 +59,7 @@ pub(crate) fn put_number<O: Output>(
     alloc: Global,
     number: i64,
 ) -> Result<(), PutError>
-    ensures put { OnOk result (PutsText O.keeps out.old text.old.items (signed_decimal number) out.new text.new.items) }
+    ensures put { OnOk result (PutsText O.keeps out.old text.old.items (number_text (of_integer number)) out.new text.new.items) }
     ensures works { OnOk result (O.failures out.new ≡ O.failures out.old) }
     ensures fails { IsErrOf result PutError.CannotWrite → (O.failures out.new ≢ O.failures out.old) ⊎ O.stuck out.new }
     ensures memory { IsErrOf result PutError.OutOfMemory → O.failures out.new ≡ O.failures out.old }
@@ -101,7 +102,7 @@ pub(crate) fn put_characters<O: Output>(
 
 /// Appends the digits of a number.
 fn append_number(text: &mut Vec<u8>, alloc: Global, number: i64) -> Result<(), Memory>
-    ensures { OnOk result (text.new.items ≡ text.old.items ++ signed_decimal number) }
+    ensures { OnOk result (text.new.items ≡ text.old.items ++ number_text (of_integer number)) }
 {
     let mut writer = Writer::new(replace(text, Vec::new(alloc)));
     let written = writer.i64(number);

@@ -1,4 +1,4 @@
-ghost use Rattle.std.specs.Prelude.{IfOk};
+ghost use Rattle.std.specs.Prelude.{◌≡◌, IfOk, option_map};
 ghost use Rattle.avro_schema.specs.SeenSchema.{schema_nodes};
 ghost use Rattle.avro_display.specs.inside.Tables.{AreOpenings, AreAllMembers};
 
@@ -95,8 +95,8 @@ impl<'a> DisplayTable<'a> {
         ensures { option_map (λ text. text.now) result ≡ opening_of (node_at (schema_nodes self.now) id.0) }
     {
         match self.openings.get(id.0 as usize) {
-            Some(Some(opening)) => Some(opening),
-            _ => None,
+            Some(opening) => bytes_of(opening),
+            None => None,
         }
     }
 
@@ -111,15 +111,23 @@ impl<'a> DisplayTable<'a> {
     }
 }
 
+/// The bytes of a text, if there is one.
+fn bytes_of(text: &Option<Vec<u8>>) -> Option<&[u8]>
+    ensures { option_map (λ bytes. bytes.now) result ≡ option_map (λ t. t.items) text.now }
+{
+    match text {
+        Some(text) => Some(text),
+        None => None,
+    }
+}
+
 /// For each node the text that opens it as a union's branch.
 fn openings(alloc: Global, schema: &Schema) -> Result<Vec<Option<Vec<u8>>>, Memory>
     ensures { IfOk result (λ openings. AreOpenings (schema_nodes schema.now) openings.items) }
 {
-    let mut openings = Vec::with_capacity(alloc, schema.len())?;
-    let mut id = 0u32;
-    for _round in 0..schema.len() {
-        openings.push(opening(alloc, schema.get(NodeId(id)))?)?;
-        id = id.saturating_add(1);
+    let mut openings = Vec::new(alloc);
+    for index in 0..schema.len() {
+        openings.push(opening(alloc, schema.get(NodeId(index as u32)))?)?;
     }
     Ok(openings)
 }
@@ -128,11 +136,9 @@ fn openings(alloc: Global, schema: &Schema) -> Result<Vec<Option<Vec<u8>>>, Memo
 fn all_members<'a>(alloc: Global, schema: &'a Schema) -> Result<Vec<Vec<Member<'a>>>, Memory>
     ensures { IfOk result (λ lists. AreAllMembers (schema_nodes schema.now) lists.items) }
 {
-    let mut lists = Vec::with_capacity(alloc, schema.len())?;
-    let mut id = 0u32;
-    for _round in 0..schema.len() {
-        lists.push(members_of(alloc, node_fields(schema.get(NodeId(id))))?)?;
-        id = id.saturating_add(1);
+    let mut lists = Vec::new(alloc);
+    for index in 0..schema.len() {
+        lists.push(members_of(alloc, node_fields(schema.get(NodeId(index as u32))))?)?;
     }
     Ok(lists)
 }
