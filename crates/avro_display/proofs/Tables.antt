@@ -1,21 +1,20 @@
 -- A table as it is made.
-use Rattle.std.proofs.Common.{◌≡◌, ◌<◌, ◌≤◌, ◌+◌, ℕ, zero, suc, List, [], ◌∷◌, ◌++◌, length, map, drop, get_or, refl, sym, ap, ◌∙◌, subst, arith, append-nil, Ordering, Less, Equal, Greater, Some, None}
+use Rattle.std.proofs.Common.{◌≡◌, ◌<◌, ◌≤◌, ◌+◌, ℕ, zero, suc, List, [], ◌∷◌, ◌++◌, length, map, drop, get_or, refl, sym, ap, ◌∙◌, subst, append-nil, Ordering, Less, Equal, Greater}
 use Rattle.std.specs.List.{AllByRecursion}
 use Rattle.std.proofs.lemmas.List.{drop_more, drop_all, length_push}
 use Rattle.std.proofs.lemmas.Option.{slice_get_past}
 use Rattle.std.specs.BTreeMap.{insert_entry}
 use Rattle.std.specs.Cmp.Lexicographic.{slice_cmp}
 use Rattle.std.specs.Ordering.{nat_cmp, match_ordering}
-use Rattle.std.specs.Prelude.{slice_get, String, string_bytes}
+use Rattle.std.specs.Prelude.{String, string_bytes}
 use Rattle.std.specs.declared.alloc.Global.{Global}
 use denote.Ref.{Bor}
-use Rattle.avro_schema.specs.Node.{Node, FieldNode, node_at, fields_of}
-use Rattle.avro_schema.specs.Seen.{seen_fields, field_of, entries_of, pair_of}
+use Rattle.avro_schema.specs.Node.{Node, FieldNode, node_at}
+use Rattle.avro_schema.specs.Seen.{seen_fields, entries_of}
 use Rattle.avro_schema.specs.Value.{keys_of}
 use Rattle.avro_schema.specs.declared.datum.Datum.{Datum}
 use Rattle.avro_schema.specs.declared.schema.Field.{Field}
-use Rattle.serde_json.specs.Data.{Data, Members, no_members, member, put}
-use Rattle.avro_display.specs.DisplayTree.{record_fields}
+use Rattle.serde_json.specs.Data.{Data, no_members, put}
 use Rattle.avro_display.specs.Order.{put_each, in_order, IsOrder}
 use Rattle.avro_display.specs.Table.{AreMembers, IsMember, place_of}
 use Rattle.avro_display.specs.declared.member.Member.{Member}

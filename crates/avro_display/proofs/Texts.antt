@@ -1,5 +1,5 @@
 -- The text of a display, part by part.
-use Rattle.std.proofs.Common.{◌≡◌, ◌≢◌, ◌<◌, ◌≤◌, ◌+◌, ℕ, zero, suc, ℤ, pos, negsuc, List, [], ◌∷◌, ◌++◌, length, map, take, drop, get_or, Bool, true, false, Option, Some, None, refl, sym, ap, subst, ◌∙◌, arith, append_assoc, append-nil, codes}
+use Rattle.std.proofs.Common.{◌≡◌, ◌<◌, ◌≤◌, ◌+◌, ℕ, zero, suc, ℤ, pos, negsuc, List, [], ◌∷◌, ◌++◌, length, map, take, drop, get_or, Bool, true, false, Option, Some, None, refl, sym, ap, subst, ◌∙◌, arith, append_assoc, append-nil, codes}
 use Rattle.std.proofs.lemmas.List.{drop_more, drop_all, take-map}
 use Rattle.std.specs.List.{AllByRecursion}
 use Rattle.std.specs.Prelude.{String}
@@ -192,8 +192,3 @@ module _ {O : Type 0} (keeps : O → List ℕ → O → Type 0) (chain : (s t u 
   members_last tree left is all step =
       puts_last keeps chain s t u held whole (text ++ members_text later (in_order tree left)) text (125 ∷ []) then
       (ap (λ (l : List (List ℕ × ℕ)). text ++ members_text later (in_order tree l)) is) all step
-
--- what was put, and then what is held, is all
-pub collected : (start put text whole mid end : List ℕ) → start ≡ [] → mid ≡ start ++ put → whole ≡ put ++ text → end ≡ mid ++ text → end ≡ whole
-collected start put text whole mid end none first is last =
-    last ∙ ap (λ m. m ++ text) (first ∙ ap (λ (z : List ℕ). z ++ put) none) ∙ sym is

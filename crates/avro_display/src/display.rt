@@ -54,12 +54,25 @@ fn shown(
 ) -> Result<Vec<u8>, PutError>
     ensures { IfOk result (λ text. text.items ≡ display_text (schema_nodes table.now) (node_at (schema_nodes table.now) node.0) (value_of datum.now)) }
 {
-    let mut all = Vec::new(alloc);
+    let mut out = WriteOutput::new(Vec::new(alloc));
+    put_shown(&mut out, alloc, table, node, datum)?;
+    Ok(out.into_inner())
+}
+
+/// Puts the display of a datum of a node, and all of it.
+fn put_shown<O: Output>(
+    out: &mut O,
+    alloc: Global,
+    table: &DisplayTable<'_>,
+    node: NodeId,
+    datum: &Datum,
+) -> Result<(), PutError>
+    ensures { OnOk result (O.keeps out.old (display_text (schema_nodes table.now) (node_at (schema_nodes table.now) node.0) (value_of datum.now)) out.new) }
+{
     let mut text = Vec::new(alloc);
-    let mut out = WriteOutput::new(&mut all);
-    put_display(&mut out, &mut text, alloc, table, node, datum)?;
-    put_all(&mut out, &text)?;
-    Ok(all)
+    put_display(&mut *out, &mut text, alloc, table, node, datum)?;
+    put_all(out, &text)?;
+    Ok(())
 }
 
 /// Appends the display of a datum of a node to a text, and puts the text in pieces if it is long: what the text held,

@@ -1,9 +1,8 @@
 -- Members in an order of keys.
-use Rattle.std.proofs.Common.{◌≡◌, ◌≤◌, ◌+◌, ℕ, zero, suc, List, [], ◌∷◌, length, map, drop, refl, sym, ap, ◌∙◌, arith}
-use Rattle.std.specs.Prelude.{slice_get}
-use Rattle.avro_schema.specs.Value.{Value, Values, no_values, value, values_count, Entries, no_entries, entry, keys_of}
+use Rattle.std.proofs.Common.{◌≡◌, ◌≤◌, ◌+◌, ℕ, suc, List, [], ◌∷◌, length, map, refl, sym, ap, ◌∙◌, arith}
+use Rattle.avro_schema.specs.Value.{Values, no_values, value, values_count, Entries, no_entries, entry, keys_of}
 use Rattle.avro_schema.specs.Node.{Node, FieldNode, node_at}
-use Rattle.serde_json.specs.Data.{Data, Members, no_members, member, put}
+use Rattle.serde_json.specs.Data.{Data, Members, no_members, put}
 use Rattle.avro_display.specs.DisplayTree.{display_tree, display_entries, display_fields}
 use Rattle.avro_display.specs.Order.{put_each, in_order, IsOrder}
 use Rattle.avro_display.specs.Table.{entry_tree, field_tree}

@@ -1,21 +1,21 @@
-use Rattle.std.proofs.Common.{◌≡◌, ◌+◌, ◌++◌, ◌∷◌, [], List, ℕ, false, length, refl, sym, ap, subst, ◌∙◌, arith, rules, drop, map}
+use Rattle.std.proofs.Common.{◌≡◌, ◌++◌, ◌∷◌, [], List, ℕ, false, length, refl, sym, ap, subst, ◌∙◌, arith, rules, drop, map}
 use Rattle.std.proofs.lemmas.List.{drop_all}
 use Rattle.std.specs.Prelude.{OnOk, option_map}
-use Rattle.avro_schema.specs.Node.{FieldNode, node_at, values_node}
+use Rattle.avro_schema.specs.Node.{node_at, values_node}
 use Rattle.avro_schema.specs.Seen.{node_of, seen_fields, value_of, values_of, entries_of}
 use Rattle.avro_schema.specs.Value.{Value}
 use Rattle.avro_schema.specs.SeenSchema.{schema_nodes}
 use Rattle.avro_schema.proofs.public.DatumViews.{value_of-Map}
 use Rattle.avro_schema.specs.declared.schema.Field.{Field}
-use Rattle.serde_json.specs.Data.{Data, Members, array, object, no_members}
+use Rattle.serde_json.specs.Data.{Members, object, no_members}
 use Rattle.serde_json.specs.Written.{compact_text, items_text, members_text}
-use Rattle.avro_display.specs.DisplayTree.{part_at, record_fields, branch_tree, display_items, display_entries, display_fields, display_text, display_tree}
+use Rattle.avro_display.specs.DisplayTree.{part_at, record_fields, display_items, display_text, display_tree}
 use Rattle.avro_display.specs.Order.{in_order}
 use Rattle.avro_display.specs.Pieces.{PutsText}
 use Rattle.avro_display.specs.Table.{AreMembers, entry_tree, field_tree, place_of, head_text}
 use Rattle.avro_display.specs.declared.member.Member.{Member}
 use Rattle.avro_display.specs.inside.Tables.{seen_place}
-use Rattle.avro_display.proofs.Texts.{branch_null, branch_opened, items_more, count_is, entry_here, entry_past, fields_more, few_fields, first_fields, items_last, map_text, members_more, members_last, seen_length, value_here, value_past}
+use Rattle.avro_display.proofs.Texts.{branch_opened, items_more, count_is, entry_here, entry_past, fields_more, few_fields, first_fields, items_last, map_text, members_more, members_last, value_here, value_past}
 use Rattle.avro_display.proofs.public.Ordering.{ordered_entries, ordered_fields}
 use Rattle.avro_display.proofs.public.Putting.{on_ok, puts_none, puts_opened, puts_both}
 use Rattle.avro_display.proofs.display.+display.Goals as goal
