@@ -33,13 +33,14 @@ mod type_names;
 mod verdicts;
 
 pub use answer::Answer;
+pub use avro_display::PutError;
 pub use certifying::certify_text;
 pub use confirming::{answer_confirmed, confirm_schemas, confirm_text};
 pub use data_answers::{read_schemas, read_text};
 pub use datum_lines::datum_line;
 pub use datum_texts::data_refusal;
 pub use explaining::{explain_text, no_fault, over_pairs};
-pub use fault_lines::{PutError, put_faults};
+pub use fault_lines::put_faults;
 pub use faults::{append_fault, append_reading};
 pub use form::Form;
 pub use history::{history_text, judge_json_line, judge_line};
