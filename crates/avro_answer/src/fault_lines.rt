@@ -10,7 +10,8 @@ ghost use Rattle.avro_display.specs.declared.put_error.PutError.{PutError};
 
 use crate::form::Form;
 use crate::named_fault::name_fault;
-use avro_device::{Output, put_all};
+use crate::putting::put_text;
+use avro_device::Output;
 use avro_display::PutError;
 use avro_explain::{Explanation, Finding, Place};
 use avro_schema::{Memory, Schema};
@@ -41,7 +42,7 @@ pub fn put_faults<O: Output>(
     let mut text = begin_faults(alloc, found.faults.len(), form)?;
     put_lines(&mut *out, &mut text, alloc, writer, reader, found, form)?;
     text.push_str(end_of_faults(form))?;
-    put_text(out, text.as_str())
+    put_text(out, text.as_bytes())
 }
 
 /// The text that `put_faults` puts.
@@ -120,20 +121,8 @@ fn put_piece<O: Output>(out: &mut O, text: &mut String) -> Result<(), PutError>
     if text.len() <= PIECE {
         return Ok(());
     }
-    put_text(out, text.as_str())?;
+    put_text(out, text.as_bytes())?;
     text.clear();
-    Ok(())
-}
-
-/// Puts a text, in one call if the output takes all of it.
-fn put_text<O: Output>(out: &mut O, text: &str) -> Result<(), PutError>
-    ensures put { OnOk result (O.keeps out.old text.now out.new) }
-    ensures works { OnOk result (O.failures out.new ≡ O.failures out.old) }
-    ensures fails { IsErrOf result PutError.CannotWrite → (O.failures out.new ≢ O.failures out.old) ⊎ O.stuck out.new }
-    ensures memory { IsErrOf result PutError.OutOfMemory → O.failures out.new ≡ O.failures out.old }
-{
-    put_all(&mut *out, text.as_bytes())?;
-    out.flush()?;
     Ok(())
 }
 
