@@ -1,5 +1,5 @@
 -- What an output that keeps a front has kept, and the answer with it.
-use Rattle.std.proofs.Common.{◌≡◌, ◌∙◌, ℕ, zero, suc, ◌-◌, ◌+◌, min, List, [], ◌∷◌, ◌++◌, length, take, refl, sym, ap, length-append}
+use Rattle.std.proofs.Common.{◌≡◌, ◌∙◌, ℕ, zero, suc, ◌-◌, ◌+◌, min, List, [], ◌∷◌, ◌++◌, length, take, refl, sym, ap, arith, length-append}
 use Rattle.std.proofs.lemmas.List.{take_min}
 use Rattle.std.specs.Prelude.{vec_items}
 use Rattle.avro_answer.specs.CutAnswer.{IsCut}
@@ -10,8 +10,10 @@ use Rattle.avro_answer.specs.inside.FrontKept.{HasPut, Keeps}
 -- a front, and as much more as there is room for
 front_more : (room : ℕ) (before bytes : List ℕ) → take room before ++ take (room - length (take room before)) bytes ≡ take room (before ++ bytes)
 front_more zero before bytes = refl
-front_more (suc room) [] bytes = refl
-front_more (suc room) (x ∷ before) bytes = ap (λ rest. x ∷ rest) (front_more room before bytes)
+front_more (suc room) [] bytes = let all : suc room - 0 ≡ suc room = omega arith in ap (λ n. take n bytes) all
+front_more (suc room) (x ∷ before) bytes =
+    let less : suc room - length (x ∷ take room before) ≡ room - length (take room before) = omega arith in
+    ap (λ n. x ∷ (take room before ++ take n bytes)) less ∙ ap (λ rest. x ∷ rest) (front_more room before bytes)
 
 pub adds : (s t : Front) (bytes front : List ℕ) (count : ℕ) → t.room ≡ s.room → t.text.items ≡ s.text.items ++ front → front ≡ take count bytes
     → count ≡ min (s.room - length s.text.items) (length bytes) → t.length ≡ s.length + length bytes → Keeps s bytes t

@@ -37,9 +37,10 @@ impl Front {
     }
 
     /// Adds bytes.
+    #[tactic(auto, using(crate::specs::inside::FrontKept::keeps_none))]
     fn add(&mut self, bytes: &[u8]) -> Result<(), AllocError>
         ensures added { OnOk result (Keeps self.old bytes.now self.new) }
-        ensures kept { OnErr result (self.new ≡ self.old) }
+        ensures kept { OnErr result (Keeps self.old [] self.new) }
         ensures failures { self.new.failures ≡ self.old.failures }
         ensures flushed { self.new.flushed ≡ self.old.flushed }
     {

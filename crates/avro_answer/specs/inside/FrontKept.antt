@@ -12,8 +12,18 @@ pub record Keeps (s : Front) (bytes : List ℕ) (t : Front) : Type 0 where
   pub room : t.room ≡ s.room
   pub puts : (before : List ℕ) → HasPut s before → HasPut t (before ++ bytes)
 
+-- nothing was put where what is kept stays as it is
+pub keeps_same : (s t : Front) → t.room ≡ s.room → t.text.items ≡ s.text.items → t.length ≡ s.length → Keeps s [] t
+keeps_same s t same_room same_text same_length = record {
+  room = same_room;
+  puts = λ before put. subst (HasPut t) (sym (append-nil before)) (record {
+    front = same_text ∙ put.front ∙ ap (λ n. take n before) (sym same_room);
+    whole = same_length ∙ put.whole;
+  });
+}
+
 pub keeps_none : (s : Front) → Keeps s [] s
-keeps_none s = record { room = refl; puts = λ before put. subst (HasPut s) (sym (append-nil before)) put }
+keeps_none s = keeps_same s s refl refl refl
 
 pub keeps_chain : (s t u : Front) (front back : List ℕ) → Keeps s front t → Keeps t back u → Keeps s (front ++ back) u
 keeps_chain s t u front back first second = record {

@@ -13,8 +13,8 @@ returns-clause-put g c = λ is_text.
     let held : List ℕ = c.in_ok-text.text.items in
     let left : List ℕ = c.put_datum.new.text.items in
     on_ok_weaker c.put_text.result (put_whole g.O.Output.keeps g.met.O.Output.chain c.args.out.now c.put_datum.new.out c.put_text.new.out
-    held (verdict_datum writer verdict) left (codes "\n") c.deref-text.result.now (verdict_text writer verdict)
+    held (verdict_datum writer verdict) left (codes "\n") c.deref.result.now (verdict_text writer verdict)
     c.in_ok-put_datum.ensures.put
-    (c.deref-text.ensures.value ∙ (c.in_ok-extend_from_slice.ensures.items ∙ ap (λ (e : List ℕ). left ++ e) (c.end_of.ensures is_text)))
+    (c.deref.ensures.value ∙ (c.in_ok-extend_from_slice.ensures.items ∙ ap (λ (e : List ℕ). left ++ e) (c.end_of.ensures is_text)))
     (ap (λ (h : List ℕ). (h ++ verdict_datum writer verdict) ++ codes "\n") (c.in_ok-text.ensures is_text) ∙ in_parts writer verdict))
     c.put_text.ensures.put
