@@ -1,7 +1,6 @@
 //! An output that keeps the front of what is put.
 
-ghost use Rattle.std.specs.Prelude.{◌≡◌, true, [], ◌++◌, min, length, take, OnOk, OnErr};
-ghost use Rattle.avro_answer.specs.CutAnswer.{IsCut};
+ghost use Rattle.std.specs.Prelude.{◌≡◌, true, [], OnOk, OnErr};
 ghost use Rattle.avro_answer.specs.inside.FrontKept.{Keeps, HasPut, keeps_none, keeps_chain};
 
 use crate::answer::{Answer, CutAnswer};

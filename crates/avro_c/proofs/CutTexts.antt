@@ -1,5 +1,5 @@
 -- The front of a text that was cut for the room.
-use Rattle.std.proofs.Common.{◌≡◌, ◌∙◌, ℕ, zero, suc, List, [], ◌∷◌, ◌++◌, length, take, drop, refl, ap, sym}
+use Rattle.std.proofs.Common.{◌≡◌, ◌∙◌, ℕ, zero, suc, List, [], ◌∷◌, ◌++◌, length, take, drop, refl, ap}
 use Rattle.avro_c.specs.Room.{IsPut}
 
 take_twice : (n : ℕ) (text : List ℕ) → take n (take n text) ≡ take n text

@@ -1,4 +1,4 @@
-use Rattle.std.proofs.Common.{◌∙◌, [], append-nil, subst}
+use Rattle.std.proofs.Common.{[], append-nil, subst}
 use Rattle.avro_answer.proofs.putting.put_text.Goals as goal
 
 pub returns-clause-put : goal.returns-clause-put

@@ -1,6 +1,6 @@
-use Rattle.std.proofs.Common.{refl, [], Result, Ok, Err}
+use Rattle.std.proofs.Common.{refl, Result, Ok, Err}
 use Rattle.std.specs.Prelude.{OnErr}
-use Rattle.avro_answer.specs.inside.FrontKept.{Keeps, keeps_same}
+use Rattle.avro_answer.specs.inside.FrontKept.{keeps_same}
 use Rattle.avro_answer.proofs.front.Front.add.Goals as goal
 
 if_err : {T E P : Type 0} (r : Result T E) → P → OnErr r P
