@@ -22,7 +22,7 @@ use crate::pieces::{put_characters, put_number, put_plain, put_quoted};
 use crate::put_error::PutError;
 use crate::table::DisplayTable;
 use avro_device::{Output, WriteOutput, put_all};
-use avro_schema::{Datum, Memory, Node, NodeId, Schema};
+use avro_schema::{Datum, Memory, Node, NodeId};
 use std::alloc::Global;
 use std::collections::BTreeMap;
 
@@ -31,12 +31,16 @@ use std::collections::BTreeMap;
 /// # Errors
 ///
 /// Memory ran out.
-pub fn show(alloc: Global, schema: &Schema, node: NodeId, datum: &Datum) -> Result<String, Memory>
+pub fn show(
+    alloc: Global,
+    table: &DisplayTable<'_>,
+    node: NodeId,
+    datum: &Datum,
+) -> Result<String, Memory>
     ensures { IfOk result (λ text.
-        string_bytes text ≡ display_text (schema_nodes schema.now) (node_at (schema_nodes schema.now) node.0) (value_of datum.now)) }
+        string_bytes text ≡ display_text (schema_nodes table.now) (node_at (schema_nodes table.now) node.0) (value_of datum.now)) }
 {
-    let table = DisplayTable::new(alloc, schema)?;
-    match shown(alloc, &table, node, datum) {
+    match shown(alloc, table, node, datum) {
         Ok(text) => match String::from_utf8(text) {
             Ok(text) => Ok(text),
             Err(_) => Err(Memory),

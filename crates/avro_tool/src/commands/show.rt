@@ -1,9 +1,4 @@
-ghost use Rattle.std.specs.Prelude.{◌≡◌, ◌≤◌, true, length, IfOk, option_map};
-ghost use Rattle.avro_container.specs.DataRead.{read_nodes};
-ghost use Rattle.avro_schema.specs.Fits.{fits};
-ghost use Rattle.avro_schema.specs.Node.{root_of};
-ghost use Rattle.avro_schema.specs.Seen.{value_of};
-ghost use Rattle.avro_schema.specs.SeenSchema.{schema_nodes};
+ghost use Rattle.std.specs.Prelude.{◌≤◌, length, IfOk};
 
 use crate::Finding;
 use crate::failure::Failure;
@@ -14,7 +9,6 @@ use avro_binary::{Nothing, Tree, decode};
 use avro_container::{Block, Blocks, CopyError, FileLimits, Header};
 use avro_device::{DeviceFault, Input, Output, WriteOutput, put_all};
 use avro_display::{DisplayTable, PutError, put_display};
-use avro_resolve::laws::resolved_fits;
 use avro_resolve::{Plan, ReadResolveError};
 use avro_schema::{Datum, Limits, Memory, NodeId, Schema};
 use avro_schema_json::ReaderText;
@@ -249,9 +243,7 @@ fn put_line<'a, O: Write>(
 }
 
 /// The schema of what is printed: the reader's, where there is one.
-fn shown_schema<'a>(schema: &'a Schema, plan: &'a Option<Plan<'_>>) -> &'a Schema
-    ensures { schema_nodes result.now ≡ read_nodes (schema_nodes schema.now) (option_map (λ p. schema_nodes p.1) plan.now) }
-{
+fn shown_schema<'a>(schema: &'a Schema, plan: &'a Option<Plan<'_>>) -> &'a Schema {
     match plan {
         Some(plan) => plan.by_ref().reader(),
         None => schema,
@@ -267,17 +259,10 @@ fn read_datum(
     bytes: &[u8],
     limits: &Limits,
 ) -> Result<(Datum, usize), ReadResolveError>
-    ensures fitting { IfOk result (λ r. fits (read_nodes (schema_nodes schema.now) (option_map (λ p. schema_nodes p.1) plan.now))
-        (root_of (read_nodes (schema_nodes schema.now) (option_map (λ p. schema_nodes p.1) plan.now))) (value_of r.0) ≡ true) }
-    ensures inside { IfOk result (λ r. r.1 ≤ length bytes.now) }
+    ensures { IfOk result (λ r. r.1 ≤ length bytes.now) }
 {
-    resolved_fits();
     match plan {
-        Some(plan) => {
-            // Only the contract of this call matters here: the reader's schema is well formed.
-            let _ = plan.by_ref().reader().len();
-            plan.read(alloc, bytes, limits, &mut Tree)
-        }
+        Some(plan) => plan.read(alloc, bytes, limits, &mut Tree),
         None => match decode(alloc, schema, schema.root(), bytes, limits) {
             Ok(answer) => Ok(answer),
             Err(error) => Err(ReadResolveError::Read(error)),
