@@ -2,12 +2,12 @@ ghost use Rattle.std.specs.Prelude.{◌≤◌, length, IfOk};
 
 use crate::Finding;
 use crate::failure::Failure;
-use crate::files::container::open_container;
+use crate::files::container::{ROOM, open_container};
 use crate::files::kept::is_output;
 use crate::files::schema::read_reader;
 use avro_binary::{Nothing, Tree, decode};
 use avro_container::{Block, Blocks, CopyError, FileLimits, Header};
-use avro_device::{DeviceFault, Input, Output, WriteOutput, put_all};
+use avro_device::{Input, Output, WriteOutput, put_all};
 use avro_display::{DisplayTable, PutError, put_display};
 use avro_resolve::{Plan, ReadResolveError};
 use avro_schema::{Datum, Limits, Memory, NodeId, Schema};
@@ -108,16 +108,17 @@ fn finished<'a, O: Write>(
     lines: &mut Lines<'_, O>,
     shown: Result<Finding, Failure<'a>>,
 ) -> Result<Finding, Failure<'a>> {
-    match put_rest(lines) {
-        Ok(()) => shown,
-        Err(_) => Err(Failure::CannotPrint),
-    }
+    put_held(lines)?;
+    shown
 }
 
-/// Puts the text that is left.
-fn put_rest<O: Write>(lines: &mut Lines<'_, O>) -> Result<(), DeviceFault> {
-    put_all(&mut lines.out, &lines.text)?;
-    lines.out.flush()
+/// Puts the text that is held. No part of it is put again if the output fails.
+fn put_held<O: Write>(lines: &mut Lines<'_, O>) -> Result<(), PutError> {
+    let put = put_all(&mut lines.out, &lines.text);
+    lines.text.clear();
+    put?;
+    lines.out.flush()?;
+    Ok(())
 }
 
 /// Prints the data of the blocks after a header, up to a number of lines. What follows is not read.
@@ -211,35 +212,40 @@ fn show_block<'a, O: Write>(
     Ok(())
 }
 
-/// Puts the line of a datum, or holds it.
+/// Puts the line of a datum, or holds it. After an error only whole lines are held.
 fn put_line<'a, O: Write>(
     alloc: Global,
     lines: &mut Lines<'_, O>,
     datum: &Datum,
 ) -> Result<(), Failure<'a>> {
-    let start = lines.text.len();
-    let root = NodeId(0);
+    let held = lines.text.len();
     match put_display(
         &mut lines.out,
         &mut lines.text,
         alloc,
         &lines.table,
-        root,
+        NodeId(0),
         datum,
     ) {
-        Ok(()) => {
-            lines.text.extend_from_slice(b"\n")?;
-            Ok(())
-        }
+        Ok(()) => end_line(lines),
         Err(PutError::CannotWrite) => {
             lines.text.clear();
             Err(Failure::CannotPrint)
         }
         Err(PutError::OutOfMemory) => {
-            lines.text.truncate(start);
+            lines.text.truncate(held);
             Err(Failure::OutOfMemory)
         }
     }
+}
+
+/// Ends a line, and puts what is held if it is long.
+fn end_line<'a, O: Write>(lines: &mut Lines<'_, O>) -> Result<(), Failure<'a>> {
+    lines.text.extend_from_slice(b"\n")?;
+    if ROOM <= lines.text.len() {
+        put_held(lines)?;
+    }
+    Ok(())
 }
 
 /// The schema of what is printed: the reader's, where there is one.
