@@ -110,7 +110,7 @@ impl<'a> DataPlan<'a> {
         skip: usize,
         limits: &Limits,
     ) -> Result<(Datum, usize), ReadResolveError>
-        ensures found { IfSome (found_in result) (IsAllFound (schema_nodes self.now.0) (option_map schema_nodes self.now.1) limits.now skip bytes.now) }
+        ensures { IfSome (found_in result) (IsAllFound (schema_nodes self.now.0) (option_map schema_nodes self.now.1) limits.now skip bytes.now) }
     {
         if bytes.len() < skip {
             return Err(ReadResolveError::Read(ReadError::EndOfInput { place: 0 }));
@@ -126,7 +126,7 @@ impl<'a> DataPlan<'a> {
         bytes: &[u8],
         limits: &Limits,
     ) -> Result<(Datum, usize), ReadResolveError>
-        ensures found { IfSome (found_in result) (IsAllAtFront (schema_nodes self.now.0) (option_map schema_nodes self.now.1) limits.now bytes.now) }
+        ensures { IfSome (found_in result) (IsAllAtFront (schema_nodes self.now.0) (option_map schema_nodes self.now.1) limits.now bytes.now) }
     {
         match &self.plan {
             Some(plan) => read_by(alloc, plan, bytes, limits),
@@ -142,7 +142,7 @@ fn read_by(
     bytes: &[u8],
     limits: &Limits,
 ) -> Result<(Datum, usize), ReadResolveError>
-    ensures found { IfSome (found_in result) (IsAllAtFront (schema_nodes plan.now.0) (Some (schema_nodes plan.now.1)) limits.now bytes.now) }
+    ensures { IfSome (found_in result) (IsAllAtFront (schema_nodes plan.now.0) (Some (schema_nodes plan.now.1)) limits.now bytes.now) }
 {
     plan.read(alloc, bytes, limits, &mut Tree)
 }
@@ -154,7 +154,7 @@ fn read_plain(
     bytes: &[u8],
     limits: &Limits,
 ) -> Result<(Datum, usize), ReadResolveError>
-    ensures found { IfSome (found_in result) (IsAllAtFront (schema_nodes writer.now) None limits.now bytes.now) }
+    ensures { IfSome (found_in result) (IsAllAtFront (schema_nodes writer.now) None limits.now bytes.now) }
 {
     match decode(alloc, writer, writer.root(), bytes, limits) {
         Ok(found) => Ok(found),
