@@ -5,7 +5,7 @@ use Rattle.std.specs.Prelude.{option_map, IfOk}
 use Rattle.std.specs.Option.{IfSome}
 use Rattle.avro_schema.specs.Value.{Value}
 use Rattle.avro_schema.specs.Node.{Node, root_of}
-use Rattle.avro_schema.specs.Fits.{LimitValues, fits, is_within}
+use Rattle.avro_schema.specs.Fits.{LimitValues, is_within}
 use Rattle.avro_schema.specs.Seen.{value_of}
 use Rattle.avro_schema.specs.declared.datum.Datum.{Datum}
 use Rattle.avro_cursor.specs.Breaks.{Breaks}
@@ -127,14 +127,6 @@ module _ (writer : List Node) (limits : LimitValues) (bytes : List ℕ) where
       refused = h.refused;
       breaks = h.breaks;
     }
-
-    -- and is a datum of the reader's, as what resolution gives is
-    pub built_fits : ((v u : Value) → fits writer (root_of writer) v ≡ true → resolve_root writer reader v ≡ Ok u → fits reader (root_of reader) u ≡ true)
-        → (result : Result (Datum × ℕ) ReadResolveError) → BuildsResolved (λ (d : Datum) v. value_of d ≡ v) writer reader limits bytes result
-        → IfOk result (λ r. fits reader (root_of reader) (value_of r.0) ≡ true)
-    built_fits law (Ok r) h =
-        let s = h.found in subst (λ u. fits reader (root_of reader) u ≡ true) (sym s.1) (law s.2.datum s.0 s.2.encoded.fitting s.2.resolves)
-    built_fits law (Err e) h = tt
 
   -- so is what is read as it is
   pub read_whole : (r : Datum × ℕ) → ReadsExactly writer (root_of writer) limits bytes (Ok r) → Finds writer None limits bytes (Ok r)

@@ -4,6 +4,7 @@ pub mod DataLines
 pub mod DataTexts
 pub mod FaultLines
 pub mod FaultsAnswers
+pub mod Fronts
 pub mod HistoryLines
 pub mod HistoryTexts
 pub mod PairLimits
@@ -12,3 +13,4 @@ pub mod Refused
 pub mod TextLaws
 pub mod TypeLevels
 pub mod VerdictAnswers
+pub mod VerdictParts

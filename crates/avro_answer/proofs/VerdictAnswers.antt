@@ -2,8 +2,7 @@
 use Rattle.std.proofs.Common.{◌≡◌, ◌↔◌, ◌⊎◌, ℕ, ◌<◌, ◌≤◌, ◌*◌, ◌-◌, ◌^◌, Bool, true, false, List, ◌++◌, inl, inr, refl, sym, ap, subst, arith, length}
 use Rattle.std.proofs.lemmas.List.{append_cancel_left}
 use Rattle.std.specs.Prelude.{codes, slice_get, unwrap_or, nat_lt}
-use Rattle.avro_schema.specs.Fits.{fits}
-use Rattle.avro_schema.specs.Node.{Node, root_of}
+use Rattle.avro_schema.specs.Node.{Node}
 use Rattle.avro_schema.specs.Seen.{value_of}
 use Rattle.avro_schema.specs.Value.{Value, size}
 use Rattle.avro_schema.specs.SeenSchema.{schema_nodes}
@@ -131,13 +130,7 @@ module _ (writer reader : Schema) (limits : JudgeLimitValues) where
       alone c d h = same_cause c d (append_cancel_left (codes " undecided ") (cause_text c ++ codes "\n") (cause_text d ++ codes "\n")
           (append_cancel_left word (line_words.undecided c ++ codes "\n") (line_words.undecided d ++ codes "\n") h))
 
-  -- the datum of a refutation is the writer's, and its number of nodes is one of 64 bits
-  pub fits_writer : (v : Verdict) → IsRight writer reader limits v
-      → IfRefuted v (λ r. fits (schema_nodes writer) (root_of (schema_nodes writer)) (value_of r.datum) ≡ true)
-  fits_writer (Verdict.Approved a) right = tt
-  fits_writer (Verdict.Refuted r) right = right.refuted.errs.fitting
-  fits_writer (Verdict.Undecided c) right = tt
-
+  -- the number of nodes of the datum of a refutation is one of 64 bits
   pub is_small : (v : Verdict) → AreJudgeLimits limits → IsRight writer reader limits v → IfRefuted v (λ r. size (value_of r.datum) ≤ 2 ^ 64 - 1)
   is_small (Verdict.Approved a) good right = tt
   is_small (Verdict.Refuted r) good right = omega (arith, right.refuted.small, good.most_size, good.good_limits.most_nodes)

@@ -1,5 +1,6 @@
 pub mod Texts
 pub mod ReadText
+pub mod CutAnswer
 pub mod JudgeAnswer
 pub mod HistoryAnswer
 pub mod CertifyAnswer

@@ -1,10 +1,7 @@
 //! How encoded data are read.
 
-ghost use Rattle.std.specs.Prelude.{◌≡◌, true, Some, None, IfOk};
+ghost use Rattle.std.specs.Prelude.{Some, None};
 ghost use Rattle.std.specs.Option.{IfSome};
-ghost use Rattle.avro_schema.specs.Fits.{fits};
-ghost use Rattle.avro_schema.specs.Node.{root_of};
-ghost use Rattle.avro_schema.specs.Seen.{value_of};
 ghost use Rattle.avro_schema.specs.SeenSchema.{schema_nodes};
 ghost use Rattle.avro_answer.specs.DataRead.{found_in};
 ghost use Rattle.avro_answer.specs.inside.AtFront.{IsAllAtFront};
@@ -12,18 +9,19 @@ ghost use Rattle.avro_answer.specs.inside.AtFront.{IsAllAtFront};
 use crate::datum_texts::datum_text;
 use crate::form::Form;
 use avro_binary::{ReadError, Tree, decode};
-use avro_resolve::laws::resolved_fits;
+use avro_display::DisplayTable;
 use avro_resolve::{Plan, ReadResolveError};
 use avro_schema::{Datum, Limits, Memory, Schema};
 use std::alloc::Global;
 use std::marker::Model;
 
-/// A writer's schema, and the plan by which its data are read for a reader's, where there is one. Contracts see the
-/// schemas.
+/// A writer's schema, the plan by which its data are read for a reader's, where there is one, and the displays of what is
+/// read. Contracts see the schemas.
 #[derive(Drop)]
 pub(crate) struct DataPlan<'a> {
     writer: &'a Schema,
     plan: Option<Plan<'a>>,
+    table: DisplayTable<'a>,
 }
 
 impl<'a> Model for DataPlan<'a> {
@@ -32,6 +30,8 @@ impl<'a> Model for DataPlan<'a> {
     ghost use Rattle.std.specs.Coded.{codes};
     ghost use Rattle.avro_schema.specs.contracts.datum.Datum as datum;
     ghost use Rattle.avro_schema.specs.declared.schema.Schema.{Schema};
+    ghost use Rattle.avro_schema.specs.SeenSchema.{schema_nodes};
+    ghost use Rattle.avro_answer.specs.ReadAnswer.{nodes_for};
 
     ghost Value = { Schema × Option Schema };
 
@@ -39,19 +39,17 @@ impl<'a> Model for DataPlan<'a> {
 
     ghost view = { λ p. (p.writer.now, option_map (λ q. q.1) p.plan) };
 
-    ghost invariant = { λ p. IfSome p.plan (λ q. q.0 ≡ p.writer.now) };
+    ghost invariant = { λ p. IfSome p.plan (λ q. q.0 ≡ p.writer.now)
+        × (schema_nodes p.table ≡ nodes_for (schema_nodes p.writer.now) (option_map schema_nodes (option_map (λ q. q.1) p.plan))) };
 }
 
 impl<'a> DataPlan<'a> {
-    ghost use Rattle.std.specs.Prelude.{◌≡◌, true, IfOk, option_map, option_copied};
+    ghost use Rattle.std.specs.Prelude.{◌≡◌, IfOk, option_map, option_copied};
     ghost use Rattle.std.specs.Option.{IfSome};
     ghost use Rattle.std.specs.Result.{IfErr};
-    ghost use Rattle.avro_schema.specs.Fits.{fits};
-    ghost use Rattle.avro_schema.specs.Node.{root_of};
-    ghost use Rattle.avro_schema.specs.Seen.{value_of};
     ghost use Rattle.avro_schema.specs.SeenSchema.{schema_nodes};
     ghost use Rattle.avro_answer.specs.DataRead.{fault_found, found_in, IsDatumTold};
-    ghost use Rattle.avro_answer.specs.ReadAnswer.{IsAllFound, nodes_for};
+    ghost use Rattle.avro_answer.specs.ReadAnswer.{IsAllFound};
     ghost use Rattle.avro_answer.specs.inside.AtFront.{IsAllAtFront};
 
     /// The plan of a writer's schema, and of a reader's where there is one.
@@ -66,12 +64,18 @@ impl<'a> DataPlan<'a> {
     ) -> Result<DataPlan<'a>, Memory>
         ensures { IfOk result (λ p. p ≡ (writer.now, option_copied reader.entry)) }
     {
+        let table = DisplayTable::new(alloc, reader.unwrap_or(writer))?;
         let plan = match reader {
             Some(reader) => Some(Plan::reached(alloc, writer, reader)?),
             None => None,
         };
-        Ok(DataPlan { writer, plan })
+        Ok(DataPlan {
+            writer,
+            plan,
+            table,
+        })
     }
+
     /// Reads the datum after a number of bytes, as what it is for the reader where there is one, and returns its text.
     ///
     /// # Errors
@@ -92,7 +96,7 @@ impl<'a> DataPlan<'a> {
             Ok(found) => found,
             Err(error) => return Err(error),
         };
-        match datum_text(alloc, self.schema(), &datum, len, form) {
+        match datum_text(alloc, &self.table, &datum, len, form) {
             Ok(text) => Ok(text),
             Err(_) => Err(ReadResolveError::Read(ReadError::OutOfMemory)),
         }
@@ -106,9 +110,7 @@ impl<'a> DataPlan<'a> {
         skip: usize,
         limits: &Limits,
     ) -> Result<(Datum, usize), ReadResolveError>
-        ensures found { IfSome (found_in result) (IsAllFound (schema_nodes self.now.0) (option_map schema_nodes self.now.1) limits.now skip bytes.now) }
-        ensures fitting { IfOk result (λ r. fits (nodes_for (schema_nodes self.now.0) (option_map schema_nodes self.now.1))
-            (root_of (nodes_for (schema_nodes self.now.0) (option_map schema_nodes self.now.1))) (value_of r.0) ≡ true) }
+        ensures { IfSome (found_in result) (IsAllFound (schema_nodes self.now.0) (option_map schema_nodes self.now.1) limits.now skip bytes.now) }
     {
         if bytes.len() < skip {
             return Err(ReadResolveError::Read(ReadError::EndOfInput { place: 0 }));
@@ -124,23 +126,11 @@ impl<'a> DataPlan<'a> {
         bytes: &[u8],
         limits: &Limits,
     ) -> Result<(Datum, usize), ReadResolveError>
-        ensures found { IfSome (found_in result) (IsAllAtFront (schema_nodes self.now.0) (option_map schema_nodes self.now.1) limits.now bytes.now) }
-        ensures fitting { IfOk result (λ r. fits (nodes_for (schema_nodes self.now.0) (option_map schema_nodes self.now.1))
-            (root_of (nodes_for (schema_nodes self.now.0) (option_map schema_nodes self.now.1))) (value_of r.0) ≡ true) }
+        ensures { IfSome (found_in result) (IsAllAtFront (schema_nodes self.now.0) (option_map schema_nodes self.now.1) limits.now bytes.now) }
     {
         match &self.plan {
             Some(plan) => read_by(alloc, plan, bytes, limits),
             None => read_plain(alloc, self.writer, bytes, limits),
-        }
-    }
-
-    /// The schema of what is read.
-    fn schema(&self) -> &Schema
-        ensures { schema_nodes result.now ≡ nodes_for (schema_nodes self.now.0) (option_map schema_nodes self.now.1) }
-    {
-        match &self.plan {
-            Some(plan) => plan.by_ref().reader(),
-            None => self.writer,
         }
     }
 }
@@ -152,12 +142,8 @@ fn read_by(
     bytes: &[u8],
     limits: &Limits,
 ) -> Result<(Datum, usize), ReadResolveError>
-    ensures found { IfSome (found_in result) (IsAllAtFront (schema_nodes plan.now.0) (Some (schema_nodes plan.now.1)) limits.now bytes.now) }
-    ensures fitting { IfOk result (λ r. fits (schema_nodes plan.now.1) (root_of (schema_nodes plan.now.1)) (value_of r.0) ≡ true) }
+    ensures { IfSome (found_in result) (IsAllAtFront (schema_nodes plan.now.0) (Some (schema_nodes plan.now.1)) limits.now bytes.now) }
 {
-    resolved_fits();
-    // The reader's nodes are known to be a schema.
-    let _ = plan.by_ref().reader().len();
     plan.read(alloc, bytes, limits, &mut Tree)
 }
 
@@ -168,8 +154,7 @@ fn read_plain(
     bytes: &[u8],
     limits: &Limits,
 ) -> Result<(Datum, usize), ReadResolveError>
-    ensures found { IfSome (found_in result) (IsAllAtFront (schema_nodes writer.now) None limits.now bytes.now) }
-    ensures fitting { IfOk result (λ r. fits (schema_nodes writer.now) (root_of (schema_nodes writer.now)) (value_of r.0) ≡ true) }
+    ensures { IfSome (found_in result) (IsAllAtFront (schema_nodes writer.now) None limits.now bytes.now) }
 {
     match decode(alloc, writer, writer.root(), bytes, limits) {
         Ok(found) => Ok(found),

@@ -1,8 +1,6 @@
 //! What is told of a datum that was read, and of data that are refused.
 
-ghost use Rattle.std.specs.Prelude.{◌≡◌, ◌≢◌, ◌++◌, true, false, codes, IfOk, OnOk};
-ghost use Rattle.avro_schema.specs.Fits.{fits};
-ghost use Rattle.avro_schema.specs.Node.{root_of};
+ghost use Rattle.std.specs.Prelude.{◌≡◌, ◌≢◌, ◌++◌, false, codes, IfOk, OnOk};
 ghost use Rattle.avro_schema.specs.Seen.{value_of};
 ghost use Rattle.avro_schema.specs.SeenSchema.{schema_nodes};
 ghost use Rattle.avro_certificate.specs.CertificateText.{decimal};
@@ -17,23 +15,22 @@ use crate::form::Form;
 use crate::refusal::refusal_line;
 use avro_binary::ReadError;
 use avro_certificate::append_decimal;
-use avro_display::show;
+use avro_display::{DisplayTable, show};
 use avro_resolve::ReadResolveError;
-use avro_schema::{Datum, Memory, Schema};
+use avro_schema::{Datum, Memory};
 use std::alloc::{AllocError, Global};
 
 /// The text of a datum of a schema's root and of the length of its encoding.
 pub(crate) fn datum_text(
     alloc: Global,
-    schema: &Schema,
+    table: &DisplayTable<'_>,
     datum: &Datum,
     len: usize,
     form: Form,
 ) -> Result<Vec<u8>, Memory>
-    requires fitting { fits (schema_nodes schema.now) (root_of (schema_nodes schema.now)) (value_of datum.now) ≡ true }
-    ensures { IfOk result (λ text. text.items ≡ text_of_datum form (schema_nodes schema.now) (value_of datum.now) len) }
+    ensures { IfOk result (λ text. text.items ≡ text_of_datum form (schema_nodes table.now) (value_of datum.now) len) }
 {
-    let display = show(alloc, schema, schema.root(), datum)?;
+    let display = show(alloc, table, table.schema().root(), datum)?;
     let mut text = Vec::new(alloc);
     match form {
         Form::Text => append_lines(&mut text, &display, len)?,

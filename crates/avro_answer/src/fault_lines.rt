@@ -6,56 +6,19 @@ ghost use Rattle.avro_explain.specs.Places.{AreFaults};
 ghost use Rattle.avro_answer.specs.FaultLine.{AreFaultLines, IsLineAdded, no_line};
 ghost use Rattle.avro_answer.specs.inside.FaultsAdded.{HavePlaces, AreLinesAdded};
 ghost use Rattle.avro_answer.specs.declared.form.Form.{Form};
-ghost use Rattle.avro_answer.specs.declared.fault_lines.PutError.{PutError};
+ghost use Rattle.avro_display.specs.declared.put_error.PutError.{PutError};
 
 use crate::form::Form;
 use crate::named_fault::name_fault;
-use avro_device::{DeviceFault, Output, put_all};
+use crate::putting::put_text;
+use avro_device::Output;
+use avro_display::PutError;
 use avro_explain::{Explanation, Finding, Place};
 use avro_schema::{Memory, Schema};
 use std::alloc::{AllocError, Global};
 
 /// A longer text is put in several pieces.
 const PIECE: usize = 1_048_576;
-
-/// Why the faults were not put.
-#[derive(Clone, Copy, Debug, PartialEq, Eq)]
-pub enum PutError {
-    /// The output failed, or took none of the bytes.
-    CannotWrite,
-    /// Memory ran out.
-    OutOfMemory,
-}
-
-impl From<Memory> for PutError {
-    ghost use Rattle.avro_answer.specs.declared.fault_lines.PutError.TheVariants.{OutOfMemory};
-
-    ghost from_gives = { λ _ error. error ≡ OutOfMemory };
-
-    fn from(_error: Memory) -> PutError {
-        PutError::OutOfMemory
-    }
-}
-
-impl From<AllocError> for PutError {
-    ghost use Rattle.avro_answer.specs.declared.fault_lines.PutError.TheVariants.{OutOfMemory};
-
-    ghost from_gives = { λ _ error. error ≡ OutOfMemory };
-
-    fn from(_error: AllocError) -> PutError {
-        PutError::OutOfMemory
-    }
-}
-
-impl From<DeviceFault> for PutError {
-    ghost use Rattle.avro_answer.specs.declared.fault_lines.PutError.TheVariants.{CannotWrite};
-
-    ghost from_gives = { λ _ error. error ≡ CannotWrite };
-
-    fn from(_error: DeviceFault) -> PutError {
-        PutError::CannotWrite
-    }
-}
 
 /// Puts a no and all faults that were found, of which there are some, by names into an output.
 ///
@@ -79,7 +42,7 @@ pub fn put_faults<O: Output>(
     let mut text = begin_faults(alloc, found.faults.len(), form)?;
     put_lines(&mut *out, &mut text, alloc, writer, reader, found, form)?;
     text.push_str(end_of_faults(form))?;
-    put_text(out, text.as_str())
+    put_text(out, text.as_bytes())
 }
 
 /// The text that `put_faults` puts.
@@ -158,20 +121,8 @@ fn put_piece<O: Output>(out: &mut O, text: &mut String) -> Result<(), PutError>
     if text.len() <= PIECE {
         return Ok(());
     }
-    put_text(out, text.as_str())?;
+    put_text(out, text.as_bytes())?;
     text.clear();
-    Ok(())
-}
-
-/// Puts a text, in one call if the output takes all of it.
-fn put_text<O: Output>(out: &mut O, text: &str) -> Result<(), PutError>
-    ensures put { OnOk result (O.keeps out.old text.now out.new) }
-    ensures works { OnOk result (O.failures out.new ≡ O.failures out.old) }
-    ensures fails { IsErrOf result PutError.CannotWrite → (O.failures out.new ≢ O.failures out.old) ⊎ O.stuck out.new }
-    ensures memory { IsErrOf result PutError.OutOfMemory → O.failures out.new ≡ O.failures out.old }
-{
-    put_all(&mut *out, text.as_bytes())?;
-    out.flush()?;
     Ok(())
 }
 

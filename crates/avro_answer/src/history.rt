@@ -13,13 +13,21 @@ use crate::form::Form;
 use crate::history_lines::judge_history;
 use crate::history_texts::read_texts;
 use crate::json_answers::history_line;
-use crate::judging::Judged;
 use crate::refusal::Refusal;
 use crate::verdicts::{append_verdict, status_of};
 use avro_judge::laws::judge_is_right;
 use avro_judge::{JudgeLimits, Verdict};
 use avro_schema::{Memory, Schema};
 use std::alloc::Global;
+
+/// A verdict, and a line for it.
+#[derive(Drop)]
+pub struct Judged<'a> {
+    /// The verdict.
+    pub verdict: Verdict<'a>,
+    /// The line, and the status.
+    pub answer: Answer,
+}
 
 /// Judges two schemas, and returns a line that begins with a word.
 ///

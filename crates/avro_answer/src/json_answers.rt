@@ -1,39 +1,28 @@
 //! Answers as lines of JSON.
 
-ghost use Rattle.std.specs.Prelude.{◌≡◌, true};
-ghost use Rattle.avro_schema.specs.Fits.{fits};
-ghost use Rattle.avro_schema.specs.Node.{root_of};
-ghost use Rattle.avro_schema.specs.Seen.{value_of};
-ghost use Rattle.avro_schema.specs.SeenSchema.{schema_nodes};
-ghost use Rattle.avro_judge.specs.Answered.{IfRefuted};
-
 use crate::fault_place::{FaultPlace, place_of};
 use crate::json_object::JsonObject;
 use crate::verdicts::cause_word;
 use avro_compare::FaultKind;
-use avro_display::show;
 use avro_judge::{Cause, Refutation, Verdict};
 use avro_schema::{Memory, Schema, size};
 use serde_json::Value;
 use std::alloc::{AllocError, Global};
 
-/// The line of a verdict.
-pub(crate) fn judged_line(
+/// The front of the line of a verdict, up to the datum of a no, or to the end of another verdict's object.
+pub(crate) fn judged_front(
     alloc: Global,
     writer: &Schema,
     reader: &Schema,
     verdict: &Verdict<'_>,
-) -> Result<String, Memory>
-    requires fitting { IfRefuted verdict.now (λ r. fits (schema_nodes writer.now) (root_of (schema_nodes writer.now)) (value_of r.datum) ≡ true) }
-{
+) -> Result<String, Memory> {
     let mut answer = JsonObject::new(alloc);
     put_verdict(&mut answer, alloc, writer, reader, verdict)?;
     if let Verdict::Refuted(found) = verdict {
-        let display = show(alloc, writer, writer.root(), &found.datum)?;
         answer.put("nodes", &Value::from(size(&found.datum)))?;
-        answer.put_json("datum", &display)?;
+        answer.put_key("datum")?;
     }
-    Ok(answer.line()?)
+    Ok(answer.front()?)
 }
 
 /// The line of a verdict in a history: the file, the mode if there are two, and the verdict.

@@ -21,14 +21,19 @@ impl JsonObject {
         }
     }
 
-    /// Puts a member whose value is a text of JSON.
-    pub(crate) fn put_json(&mut self, key: &str, json: &str) -> Result<(), AllocError> {
+    /// Puts the key of a member whose value comes next.
+    pub(crate) fn put_key(&mut self, key: &str) -> Result<(), AllocError> {
         if !self.members.is_empty() {
             self.members.push(',')?;
         }
         let key = Value::String(String::from_str(self.alloc, key)?).to_string(self.alloc)?;
         self.members.push_str(&key)?;
-        self.members.push(':')?;
+        self.members.push(':')
+    }
+
+    /// Puts a member whose value is a text of JSON.
+    pub(crate) fn put_json(&mut self, key: &str, json: &str) -> Result<(), AllocError> {
+        self.put_key(key)?;
         self.members.push_str(json)
     }
 
@@ -42,6 +47,11 @@ impl JsonObject {
     pub(crate) fn put_text(&mut self, key: &str, text: &str) -> Result<(), AllocError> {
         let value = Value::String(String::from_str(self.alloc, text)?);
         self.put(key, &value)
+    }
+
+    /// The text of the object without its end.
+    pub(crate) fn front(&self) -> Result<String, AllocError> {
+        format!(in self.alloc; "{{{}", self.members)
     }
 
     /// The text of the object.

@@ -1,63 +1,60 @@
-ghost use Rattle.std.specs.Prelude.{◌≡◌, ◌<◌, length, IfOk, IsErrOf};
+ghost use Rattle.std.specs.Prelude.{◌≡◌, ◌≢◌, ◌<◌, ◌⊎◌, ℕ, List, length, IfOk, OnOk, IsErrOf};
 ghost use Rattle.std.specs.Result.{IfErr};
 ghost use Rattle.avro_schema.specs.SeenSchema.{schema_nodes};
 ghost use Rattle.avro_schema_json.specs.Declaration.{max_text};
 ghost use Rattle.avro_schema_json.specs.declared.error.SchemaError.{SchemaError};
 ghost use Rattle.avro_judge.specs.Headline.{IsRight};
+ghost use Rattle.avro_display.specs.declared.put_error.PutError.{PutError};
+ghost use Rattle.avro_answer.specs.CutAnswer.{IsCut};
 ghost use Rattle.avro_answer.specs.JudgeAnswer.{SchemasAnswer, StatusAnswer, JudgeAnswer, JudgeStatus};
 ghost use Rattle.avro_answer.specs.RefusalText.{RefusesPair, HaveSchemas};
 ghost use Rattle.avro_answer.specs.declared.form.Form.{Form};
 ghost use Rattle.avro_answer.specs.declared.refusal.Refusal.TheVariants.{Writer, OutOfMemory};
 
-use crate::answer::Answer;
+use crate::answer::CutAnswer;
 use crate::form::Form;
+use crate::front::Front;
 use crate::reading::{read_reader, read_writer};
 use crate::refusal::Refusal;
-use crate::verdicts::{status_of, text_of};
+use crate::verdicts::{put_verdict, status_of};
+use avro_device::Output;
+use avro_display::PutError;
 use avro_judge::laws::judge_is_right;
 use avro_judge::{JudgeLimits, Verdict};
 use avro_schema::{Memory, Schema};
 use std::alloc::Global;
 
-/// A verdict, and the answer for it.
-#[derive(Drop)]
-pub struct Judged<'a> {
-    /// The verdict.
-    pub verdict: Verdict<'a>,
-    /// The answer.
-    pub answer: Answer,
-}
-
-/// Judges two schemas.
+/// Judges two schemas, puts the answer into an output, and returns the verdict with its status.
 ///
 /// # Errors
 ///
-/// Memory ran out.
-#[tactic(auto, using(crate::proofs::VerdictAnswers::fits_writer, crate::proofs::VerdictAnswers::is_small))]
-pub fn judge_schemas<'a>(
+/// The output failed, or took none of the bytes; memory ran out. Some of the text was put, or none.
+#[tactic(auto, using(crate::proofs::VerdictAnswers::is_small))]
+pub fn judge_schemas<'a, O: Output>(
+    out: &mut O,
     alloc: Global,
     writer: &'a Schema,
     reader: &'a Schema,
     limits: &JudgeLimits,
     form: Form,
-) -> Result<Judged<'a>, Memory>
-    ensures right { IfOk result (λ j. IsRight writer.now reader.now limits.now j.verdict) }
-    ensures answered { IfOk result (λ j. form ≡ Form.Text
-        → SchemasAnswer (schema_nodes writer.now) (schema_nodes reader.now) limits.now j.answer.text.items j.answer.status) }
-    ensures status { IfOk result (λ j. StatusAnswer (schema_nodes writer.now) (schema_nodes reader.now) limits.now j.answer.status) }
+) -> Result<(Verdict<'a>, u8), PutError>
+    ensures right { IfOk result (λ j. IsRight writer.now reader.now limits.now j.0) }
+    ensures answered { IfOk result (λ j. form ≡ Form.Text → (text : List ℕ)
+        × SchemasAnswer (schema_nodes writer.now) (schema_nodes reader.now) limits.now text j.1 × O.keeps out.old text out.new) }
+    ensures status { IfOk result (λ j. StatusAnswer (schema_nodes writer.now) (schema_nodes reader.now) limits.now j.1) }
+    ensures works { OnOk result (O.failures out.new ≡ O.failures out.old) }
+    ensures fails { IsErrOf result PutError.CannotWrite → (O.failures out.new ≢ O.failures out.old) ⊎ O.stuck out.new }
+    ensures memory { IsErrOf result PutError.OutOfMemory → O.failures out.new ≡ O.failures out.old }
 {
     // Only the contract of this call matters here: the limit is in its range.
     let _ = limits.size();
     let verdict = judge_is_right(alloc, writer, reader, limits)?;
-    let text = text_of(alloc, writer, reader, &verdict, form)?;
+    put_verdict(out, alloc, writer, reader, &verdict, form)?;
     let status = status_of(&verdict);
-    Ok(Judged {
-        verdict,
-        answer: Answer { text, status },
-    })
+    Ok((verdict, status))
 }
 
-/// Judges the schemas of two texts.
+/// Judges the schemas of two texts. Of the answer's text only the front is kept that there is room for.
 ///
 /// # Errors
 ///
@@ -68,15 +65,36 @@ pub fn judge_text(
     reader: &[u8],
     limits: &JudgeLimits,
     form: Form,
-) -> Result<Answer, Refusal>
-    ensures answered { IfOk result (λ a. form ≡ Form.Text → JudgeAnswer writer.now reader.now limits.now a.text.items a.status) }
-    ensures status { IfOk result (λ a. JudgeStatus writer.now reader.now limits.now a.status) }
+    room: usize,
+) -> Result<CutAnswer, Refusal>
+    ensures answered { IfOk result (λ a. form ≡ Form.Text → (text : List ℕ)
+        × JudgeAnswer writer.now reader.now limits.now text a.answer.status × IsCut room text a) }
+    ensures status { IfOk result (λ a. JudgeStatus writer.now reader.now limits.now a.answer.status) }
     ensures too_long { max_text < length writer.now → IsErrOf result (Writer SchemaError.LimitExceeded) }
     ensures refused { IfErr result (RefusesPair writer.now reader.now) }
     ensures complete { HaveSchemas writer.now reader.now → IfErr result (λ e. e ≡ OutOfMemory) }
 {
     let writer = read_writer(alloc, writer)?;
     let reader = read_reader(alloc, reader)?;
-    let judged = judge_schemas(alloc, &writer, &reader, limits, form)?;
-    Ok(judged.answer)
+    Ok(judge_in_room(alloc, &writer, &reader, limits, form, room)?)
+}
+
+/// The same of two schemas.
+fn judge_in_room(
+    alloc: Global,
+    writer: &Schema,
+    reader: &Schema,
+    limits: &JudgeLimits,
+    form: Form,
+    room: usize,
+) -> Result<CutAnswer, Memory>
+    ensures answered { IfOk result (λ a. form ≡ Form.Text → (text : List ℕ)
+        × SchemasAnswer (schema_nodes writer.now) (schema_nodes reader.now) limits.now text a.answer.status × IsCut room text a) }
+    ensures status { IfOk result (λ a. StatusAnswer (schema_nodes writer.now) (schema_nodes reader.now) limits.now a.answer.status) }
+{
+    let mut front = Front::new(alloc, room);
+    match judge_schemas(&mut front, alloc, writer, reader, limits, form) {
+        Ok((_, status)) => Ok(front.answer(status)),
+        Err(_) => Err(Memory),
+    }
 }

@@ -1,23 +1,24 @@
 //! The texts of verdicts.
 
-ghost use Rattle.std.specs.Prelude.{◌≡◌, ◌≤◌, ◌-◌, ◌^◌, ◌++◌, true, codes, IfOk, OnOk};
-ghost use Rattle.avro_schema.specs.Fits.{fits};
-ghost use Rattle.avro_schema.specs.Node.{root_of};
+ghost use Rattle.std.specs.Prelude.{◌≡◌, ◌≢◌, ◌≤◌, ◌-◌, ◌^◌, ◌⊎◌, ◌++◌, codes, IfOk, OnOk, IsErrOf};
 ghost use Rattle.avro_schema.specs.Seen.{value_of};
 ghost use Rattle.avro_schema.specs.SeenSchema.{schema_nodes};
 ghost use Rattle.avro_schema.specs.Value.{size as value_size};
 ghost use Rattle.avro_compare.specs.Seen.{fault_of};
 ghost use Rattle.avro_judge.specs.Answered.{IfRefuted};
 ghost use Rattle.avro_answer.specs.Texts.{cause_text};
-ghost use Rattle.avro_answer.specs.JudgeAnswer.{no_text};
-ghost use Rattle.avro_answer.specs.inside.VerdictTexts.{verdict_status, verdict_text, verdict_words};
+ghost use Rattle.avro_display.specs.Pieces.{PutsText};
+ghost use Rattle.avro_display.specs.declared.put_error.PutError.{PutError};
+ghost use Rattle.avro_answer.specs.inside.VerdictTexts.{no_front, verdict_status, verdict_front, verdict_datum, verdict_text, verdict_words};
 ghost use Rattle.avro_answer.specs.declared.form.Form.{Form};
 
 use crate::faults::append_fault;
 use crate::form::Form;
-use crate::json_answers::judged_line;
+use crate::json_answers::judged_front;
+use crate::putting::put_text;
 use avro_certificate::append_decimal;
-use avro_display::show;
+use avro_device::Output;
+use avro_display::{DisplayTable, PutError, put_display};
 use avro_judge::{Cause, Refutation, Verdict};
 use avro_schema::{Memory, Schema, size};
 use std::alloc::{AllocError, Global};
@@ -44,64 +45,108 @@ pub(crate) fn status_of(verdict: &Verdict<'_>) -> u8
     }
 }
 
-/// The answer for a verdict.
-pub(crate) fn text_of(
+/// Puts the answer for a verdict.
+pub(crate) fn put_verdict<O: Output>(
+    out: &mut O,
+    alloc: Global,
+    writer: &Schema,
+    reader: &Schema,
+    verdict: &Verdict<'_>,
+    form: Form,
+) -> Result<(), PutError>
+    requires small { IfRefuted verdict.now (λ r. value_size (value_of r.datum) ≤ 2 ^ 64 - 1) }
+    ensures put { form ≡ Form.Text → OnOk result (O.keeps out.old (verdict_text (schema_nodes writer.now) verdict.now) out.new) }
+    ensures works { OnOk result (O.failures out.new ≡ O.failures out.old) }
+    ensures fails { IsErrOf result PutError.CannotWrite → (O.failures out.new ≢ O.failures out.old) ⊎ O.stuck out.new }
+    ensures memory { IsErrOf result PutError.OutOfMemory → O.failures out.new ≡ O.failures out.old }
+{
+    let mut text = front_of(alloc, writer, reader, verdict, form)?;
+    put_datum(&mut *out, &mut text, alloc, writer, verdict)?;
+    text.extend_from_slice(end_of(form))?;
+    put_text(out, &text)
+}
+
+/// The answer for a verdict, up to the datum of a no.
+fn front_of(
     alloc: Global,
     writer: &Schema,
     reader: &Schema,
     verdict: &Verdict<'_>,
     form: Form,
 ) -> Result<Vec<u8>, Memory>
-    requires fitting { IfRefuted verdict.now (λ r. fits (schema_nodes writer.now) (root_of (schema_nodes writer.now)) (value_of r.datum) ≡ true) }
     requires small { IfRefuted verdict.now (λ r. value_size (value_of r.datum) ≤ 2 ^ 64 - 1) }
-    ensures { IfOk result (λ text. form ≡ Form.Text → text.items ≡ verdict_text (schema_nodes writer.now) verdict.now) }
+    ensures { IfOk result (λ text. form ≡ Form.Text → text.items ≡ verdict_front verdict.now) }
 {
     match form {
-        Form::Json => Ok(judged_line(alloc, writer, reader, verdict)?.into_bytes()),
-        Form::Text => plain_text_of(alloc, writer, verdict),
+        Form::Json => Ok(judged_front(alloc, writer, reader, verdict)?.into_bytes()),
+        Form::Text => front_text_of(alloc, verdict),
     }
 }
 
-/// The answer for a verdict, as text.
-fn plain_text_of(alloc: Global, writer: &Schema, verdict: &Verdict<'_>) -> Result<Vec<u8>, Memory>
-    requires fitting { IfRefuted verdict.now (λ r. fits (schema_nodes writer.now) (root_of (schema_nodes writer.now)) (value_of r.datum) ≡ true) }
+/// The same as text.
+fn front_text_of(alloc: Global, verdict: &Verdict<'_>) -> Result<Vec<u8>, Memory>
     requires small { IfRefuted verdict.now (λ r. value_size (value_of r.datum) ≤ 2 ^ 64 - 1) }
-    ensures { IfOk result (λ text. text.items ≡ verdict_text (schema_nodes writer.now) verdict.now) }
+    ensures { IfOk result (λ text. text.items ≡ verdict_front verdict.now) }
 {
     match verdict {
-        Verdict::Approved(_) => Ok(Vec::from_slice(alloc, b"yes\n")?),
-        Verdict::Refuted(found) => text_of_no(alloc, writer, found),
-        Verdict::Undecided(cause) => text_of_undecided(alloc, *cause),
+        Verdict::Approved(_) => Ok(Vec::from_slice(alloc, b"yes")?),
+        Verdict::Refuted(found) => front_of_no(alloc, found),
+        Verdict::Undecided(cause) => front_of_undecided(alloc, *cause),
     }
 }
 
-/// The text of a no.
-fn text_of_no(alloc: Global, writer: &Schema, found: &Refutation) -> Result<Vec<u8>, Memory>
-    requires fitting { fits (schema_nodes writer.now) (root_of (schema_nodes writer.now)) (value_of found.now.datum) ≡ true }
+/// The text of a no, up to the datum.
+fn front_of_no(alloc: Global, found: &Refutation) -> Result<Vec<u8>, Memory>
     requires small { value_size (value_of found.now.datum) ≤ 2 ^ 64 - 1 }
-    ensures { IfOk result (λ text. text.items ≡ no_text (schema_nodes writer.now) (value_of found.now.datum) (fault_of found.now.fault)) }
+    ensures { IfOk result (λ text. text.items ≡ no_front (value_of found.now.datum) (fault_of found.now.fault)) }
 {
-    let display = show(alloc, writer, writer.root(), &found.datum)?;
     let mut text = Vec::new(alloc);
     text.extend_from_slice(b"no\nfault ")?;
     append_fault(&mut text, &found.fault)?;
     text.extend_from_slice(b"\nnodes ")?;
     append_decimal(&mut text, size(&found.datum))?;
     text.extend_from_slice(b"\ndatum ")?;
-    text.extend_from_slice(display.as_bytes())?;
-    text.push(b'\n')?;
     Ok(text)
 }
 
-/// The text of an undecided.
-fn text_of_undecided(alloc: Global, cause: Cause) -> Result<Vec<u8>, Memory>
-    ensures { IfOk result (λ text. text.items ≡ codes "undecided " ++ cause_text cause ++ codes "\n") }
+/// The text of an undecided, up to its end.
+fn front_of_undecided(alloc: Global, cause: Cause) -> Result<Vec<u8>, Memory>
+    ensures { IfOk result (λ text. text.items ≡ codes "undecided " ++ cause_text cause) }
 {
     let mut text = Vec::new(alloc);
     text.extend_from_slice(b"undecided ")?;
     text.extend_from_slice(cause_word(cause).as_bytes())?;
-    text.push(b'\n')?;
     Ok(text)
+}
+
+/// Puts the datum of a no behind a text, except for what stays in the text.
+fn put_datum<O: Output>(
+    out: &mut O,
+    text: &mut Vec<u8>,
+    alloc: Global,
+    writer: &Schema,
+    verdict: &Verdict<'_>,
+) -> Result<(), PutError>
+    ensures put { OnOk result (PutsText O.keeps out.old text.old.items (verdict_datum (schema_nodes writer.now) verdict.now) out.new text.new.items) }
+    ensures works { OnOk result (O.failures out.new ≡ O.failures out.old) }
+    ensures fails { IsErrOf result PutError.CannotWrite → (O.failures out.new ≢ O.failures out.old) ⊎ O.stuck out.new }
+    ensures memory { IsErrOf result PutError.OutOfMemory → O.failures out.new ≡ O.failures out.old }
+{
+    let Verdict::Refuted(found) = verdict else {
+        return Ok(());
+    };
+    let table = DisplayTable::new(alloc, writer)?;
+    put_display(out, text, alloc, &table, writer.root(), &found.datum)
+}
+
+/// The end of the answer, after the datum.
+fn end_of(form: Form) -> &'static [u8]
+    ensures { form ≡ Form.Text → result.now ≡ codes "\n" }
+{
+    match form {
+        Form::Text => b"\n",
+        Form::Json => b"}\n",
+    }
 }
 
 /// Appends the words of a verdict.

@@ -39,13 +39,25 @@ type Row = (
     Result<(u8, &'static str), Refusal>,
 );
 
+/// The whole answer to two texts.
+fn judge_all(
+    alloc: Global,
+    writer: &[u8],
+    reader: &[u8],
+    limits: &JudgeLimits,
+    form: Form,
+) -> Result<Answer, Refusal> {
+    let cut = judge_text(alloc, writer, reader, limits, form, usize::MAX)?;
+    Ok(cut.answer)
+}
+
 /// The answer to a row.
 fn answer_to(alloc: Global, row: &Row) -> Result<Answer, Refusal> {
     let limits = JudgeLimits::default();
     let (asked, writer, reader, form, _) = *row;
     let (writer, reader) = (writer.as_bytes(), reader.as_bytes());
     match asked {
-        Asked::Judge => judge_text(alloc, writer, reader, &limits, form),
+        Asked::Judge => judge_all(alloc, writer, reader, &limits, form),
         Asked::Explain(pairs) => explain_text(alloc, writer, reader, pairs, form),
         Asked::Confirm(text) => confirm_text(alloc, writer, reader, text.as_bytes(), form),
         Asked::History(lengths) => history_text(alloc, writer, lengths, &limits, form),

@@ -1,6 +1,7 @@
 //! Verdicts at the limits of judging, and beyond them.
 
-use avro_answer::{Answer, Form, Refusal, judge_schemas, judge_text};
+use avro_answer::{CutAnswer, Form, Refusal, judge_schemas, judge_text};
+use avro_device::WriteOutput;
 use avro_judge::JudgeLimits;
 use avro_schema::{Draft, Limits, Node, Schema};
 use avro_schema_json::read_schema;
@@ -17,9 +18,9 @@ const FIXED_AND_STRING: &str =
     r#"{"type":"record","name":"R","fields":[{"name":"f","type":{"type":"fixed","name":"F","size":2}},{"name":"x","type":"string"}]}"#;
 
 /// Whether this is answered.
-fn is_text(answer: &Result<Answer, Refusal>, text: &str) -> bool {
+fn is_text(answer: &Result<CutAnswer, Refusal>, text: &str) -> bool {
     match answer {
-        Ok(answer) => answer.text.as_slice() == text.as_bytes(),
+        Ok(cut) => cut.answer.text.as_slice() == text.as_bytes(),
         Err(_) => false,
     }
 }
@@ -29,7 +30,7 @@ fn is_without_contents(alloc: Global, text: &str) -> Result<bool, Fail> {
     let limits = Limits::new(128, 1_048_576, 1).ok_or("limits")?;
     let limits = JudgeLimits::new(4_194_304, 4096, limits).ok_or("limits of judging")?;
     let (writer, reader) = (FIXED_AND_INT.as_bytes(), FIXED_AND_STRING.as_bytes());
-    let answer = judge_text(alloc, writer, reader, &limits, Form::Text);
+    let answer = judge_text(alloc, writer, reader, &limits, Form::Text, usize::MAX);
     Ok(is_text(&answer, text))
 }
 
@@ -60,8 +61,10 @@ fn is_verdict(
     row: &(u32, &str),
 ) -> Result<bool, Fail> {
     let limits = JudgeLimits::new(row.0, 1, Limits::default()).ok_or("limits of judging")?;
-    let judged = judge_schemas(alloc, writer, reader, &limits, Form::Text)?;
-    Ok(judged.answer.text.as_slice() == row.1.as_bytes())
+    let mut text = Vec::new(alloc);
+    let mut out = WriteOutput::new(&mut text);
+    let judged = judge_schemas(&mut out, alloc, writer, reader, &limits, Form::Text);
+    Ok(judged.is_ok() && text.as_slice() == row.1.as_bytes())
 }
 
 /// The text of the first row, if any, that is not the verdict of a writer of two nodes.

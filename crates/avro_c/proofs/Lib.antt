@@ -1,1 +1,2 @@
+pub mod CutTexts
 pub mod HistoryStatuses

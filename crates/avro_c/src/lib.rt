@@ -28,7 +28,7 @@ mod telling;
 
 use crate::asking::{are_lengths_of, limits_of, pairs_of, reader_of, reading_of, shown_of};
 use crate::room::{put, put_nothing};
-use crate::telling::{tell, tell_refusal};
+use crate::telling::{tell, tell_cut, tell_refusal};
 pub use asking::{AvroLimits, AvroReading};
 use avro_answer::{
     Form, certify_text, confirm_text, explain_text, history_text, judge_text, read_text,
@@ -56,8 +56,8 @@ pub extern "C" fn avrojudge_judge_text(
     let Some(limits) = limits_of(limits) else {
         return put_nothing(status::USAGE, wanted);
     };
-    match judge_text(alloc, writer, reader, &limits, Form::Text) {
-        Ok(answer) => tell(&answer, out, wanted),
+    match judge_text(alloc, writer, reader, &limits, Form::Text, out.len()) {
+        Ok(cut) => tell_cut(&cut, out, wanted),
         Err(refusal) => tell_refusal(alloc, refusal, out, wanted),
     }
 }

@@ -1,13 +1,14 @@
 //! What is told of an answer and of a refusal.
 
-ghost use Rattle.std.specs.Prelude.{◌≡◌, ◌⊎◌, IfOk};
+ghost use Rattle.std.specs.Prelude.{◌≡◌, ◌⊎◌, ℕ, List, length, IfOk};
+ghost use Rattle.avro_answer.specs.CutAnswer.{IsCut};
 ghost use Rattle.avro_c.specs.Room.{IsPut, IsUntouched};
 ghost use Rattle.avro_c.specs.Told.{refusal_line};
 ghost use Rattle.avro_answer.specs.declared.refusal.Refusal.TheVariants.{OutOfMemory};
 
 use crate::room::{put, put_nothing};
 use crate::status;
-use avro_answer::{Answer, Refusal, certificate_refusal, schema_refusal};
+use avro_answer::{Answer, CutAnswer, Refusal, certificate_refusal, schema_refusal};
 use std::alloc::{AllocError, Global};
 
 /// Puts the text of an answer, and answers its status.
@@ -17,6 +18,16 @@ pub(crate) fn tell(answer: &Answer, out: &mut [u8], wanted: &mut usize) -> u32
 {
     *wanted = put(&answer.text, out);
     u32::from(answer.status)
+}
+
+/// Puts the text of an answer of which as much was kept as there is room for, and answers its status.
+pub(crate) fn tell_cut(cut: &CutAnswer, out: &mut [u8], wanted: &mut usize) -> u32
+    ensures status { result ≡ cut.now.answer.status }
+    ensures put { (text : List ℕ) → IsCut (length out.old) text cut.now → IsPut text out.old out.new wanted.new }
+{
+    let status = tell(&cut.answer, out, wanted);
+    *wanted = cut.length;
+    status
 }
 
 /// Puts the line of a refusal.

@@ -30,6 +30,14 @@ impl<W: Write> WriteOutput<W> {
             flushed: false,
         }
     }
+
+    /// The writer.
+    pub fn into_inner(self) -> W
+        ensures { result ≡ self.writer }
+    {
+        let WriteOutput { writer, .. } = self;
+        writer
+    }
 }
 
 impl<W: Write> Output for WriteOutput<W> {

@@ -1,3 +1,4 @@
 mod RowsDisplays
-pub mod NoFloats
-pub mod DisplaySeen
+pub mod Tables
+pub mod Texts
+pub mod public

@@ -1,1 +1,5 @@
 pub mod DisplayTree
+pub mod Pieces
+pub mod Order
+pub mod Table
+pub mod inside

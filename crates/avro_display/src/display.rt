@@ -1,146 +1,374 @@
-ghost use Rattle.std.specs.Prelude.{◌≡◌, ◌<◌, true, length, string_bytes, IfOk};
-ghost use Rattle.avro_schema.specs.Fits.{fits};
-ghost use Rattle.avro_schema.specs.Node.{node_at};
-ghost use Rattle.avro_schema.specs.Seen.{node_of, value_of, values_of, entries_of, seen_fields};
+ghost use Rattle.std.specs.Prelude.{◌≡◌, ◌≢◌, ◌⊎◌, ◌++◌, ◌≤◌, List, length, codes, map, option_map, string_bytes, IfOk, OnOk, IsErrOf};
+ghost use Rattle.avro_schema.specs.Node.{FieldNode, node_at};
+ghost use Rattle.avro_schema.specs.Seen.{value_of, values_of, entries_of};
 ghost use Rattle.avro_schema.specs.SeenSchema.{schema_nodes};
-ghost use Rattle.avro_display.specs.DisplayTree.{display_tree, display_items as items_tree, display_entries as entries_tree, display_fields as fields_tree, display_text, branch_tree};
+ghost use Rattle.avro_schema.specs.Value.{keys_of};
+ghost use Rattle.avro_display.specs.Order.{IsOrder};
+ghost use Rattle.avro_display.specs.inside.Tables.{seen_place};
+ghost use Rattle.avro_display.specs.DisplayTree.{branch_tree, display_tree, display_items, display_entries, display_fields, display_text, part_at, record_fields};
+ghost use Rattle.avro_display.specs.Pieces.{PutsText};
+ghost use Rattle.avro_display.specs.Table.{AreMembers, entry_tree, head_text, value_at};
+ghost use Rattle.avro_display.specs.declared.put_error.PutError.{PutError};
 ghost use Rattle.serde_json.specs.Data.{array, object, no_members};
-ghost use Rattle.serde_json.specs.View.{view};
+ghost use Rattle.serde_json.specs.Written.{comma_if, compact_text};
+ghost use Rattle.json.specs.Print.{token_text};
+ghost use Rattle.json.specs.Token.Token.{boolean};
 
-use crate::labels::{bytes_text, copy_of_text, labelled, put_member, symbol_text};
+use crate::labels::{append_key, symbol_text};
+use crate::member::Member;
+use crate::members::{entry_order, members_of};
 use crate::parts::{node_fields, part};
-use avro_schema::{Datum, Field, Memory, Node, NodeId, Schema};
-use serde_json::{Map, Value};
+use crate::pieces::{put_characters, put_number, put_plain, put_quoted};
+use crate::put_error::PutError;
+use crate::table::DisplayTable;
+use avro_device::{Output, WriteOutput, put_all};
+use avro_schema::{Datum, Memory, Node, NodeId};
 use std::alloc::Global;
+use std::collections::BTreeMap;
 
 /// Displays a datum of a node as compact JSON.
 ///
 /// # Errors
 ///
 /// Memory ran out.
-pub fn show(alloc: Global, schema: &Schema, node: NodeId, datum: &Datum) -> Result<String, Memory>
-    requires in_schema { node.0 < length (schema_nodes schema.now) }
-    requires fitting { fits (schema_nodes schema.now) (node_at (schema_nodes schema.now) node.0) (value_of datum.now) ≡ true }
-    ensures { IfOk result (λ text.
-        string_bytes text ≡ display_text (schema_nodes schema.now) (node_at (schema_nodes schema.now) node.0) (value_of datum.now)) }
-{
-    let tree = displayed(alloc, schema, schema.node(node), datum)?;
-    Ok(tree.to_string(alloc)?)
-}
-
-/// The JSON value that displays a datum of a node.
-#[cycle(display)]
-fn displayed(alloc: Global, schema: &Schema, node: &Node, datum: &Datum) -> Result<Value, Memory>
-    ensures { IfOk result (λ tree. view tree ≡ display_tree (schema_nodes schema.now) (node_of node.now) (value_of datum.now)) }
-{
-    match datum {
-        Datum::Null => Ok(Value::Null),
-        Datum::Bool(value) => Ok(Value::Bool(*value)),
-        Datum::Int(value) => Ok(Value::from(*value)),
-        Datum::Long(value) => Ok(Value::from(*value)),
-        Datum::Bytes(bytes) => Ok(Value::String(bytes_text(alloc, bytes)?)),
-        Datum::Str(text) => Ok(Value::String(copy_of_text(alloc, text.as_str())?)),
-        Datum::Array(items) => {
-            displayed_items(
-                alloc,
-                schema,
-                part(schema, &Node::Null, node.items()),
-                items,
-            )
-        }
-        Datum::Map(entries) => {
-            displayed_entries(
-                alloc,
-                schema,
-                part(schema, &Node::Null, node.values()),
-                entries,
-            )
-        }
-        Datum::Union(branch, value) => {
-            displayed_branch(
-                alloc,
-                schema,
-                part(schema, &Node::Null, node.branch(*branch)),
-                value,
-            )
-        }
-        Datum::Record(values) => displayed_fields(alloc, schema, node_fields(node), values),
-        Datum::Enum(symbol) => Ok(Value::String(symbol_text(alloc, node, *symbol)?)),
-        Datum::Fixed(bytes) => Ok(Value::String(bytes_text(alloc, bytes)?)),
-    }
-}
-
-/// The JSON value that displays a datum of a union's branch.
-#[cycle(display)]
-fn displayed_branch(
+pub fn show(
     alloc: Global,
-    schema: &Schema,
-    node: &Node,
+    table: &DisplayTable<'_>,
+    node: NodeId,
     datum: &Datum,
-) -> Result<Value, Memory>
-    ensures { IfOk result (λ tree.
-        view tree ≡ branch_tree (node_of node.now) (display_tree (schema_nodes schema.now) (node_of node.now) (value_of datum.now))) }
+) -> Result<String, Memory>
+    ensures { IfOk result (λ text.
+        string_bytes text ≡ display_text (schema_nodes table.now) (node_at (schema_nodes table.now) node.0) (value_of datum.now)) }
 {
-    let tree = displayed(alloc, schema, node, datum)?;
-    labelled(alloc, node, tree)
-}
-
-/// The JSON array that displays data of a node.
-#[cycle(display)]
-fn displayed_items(
-    alloc: Global,
-    schema: &Schema,
-    node: &Node,
-    items: &[Datum],
-) -> Result<Value, Memory>
-    ensures { IfOk result (λ tree. view tree ≡ array (items_tree (schema_nodes schema.now) (node_of node.now) (values_of items.now))) }
-{
-    let mut trees: Vec<Value> = Vec::new(alloc);
-    for item in items {
-        let tree = displayed(alloc, schema, node, item)?;
-        trees.push(tree)?;
+    match shown(alloc, table, node, datum) {
+        Ok(text) => match String::from_utf8(text) {
+            Ok(text) => Ok(text),
+            Err(_) => Err(Memory),
+        },
+        Err(_) => Err(Memory),
     }
-    Ok(Value::from(trees))
 }
 
-/// The JSON object that displays the entries of a map.
-#[cycle(display)]
-fn displayed_entries(
+/// The display of a datum of a node.
+fn shown(
     alloc: Global,
-    schema: &Schema,
-    node: &Node,
-    entries: &[(String, Datum)],
-) -> Result<Value, Memory>
-    ensures { IfOk result (λ tree.
-        view tree ≡ object (entries_tree (schema_nodes schema.now) (node_of node.now) (entries_of entries.now) no_members)) }
+    table: &DisplayTable<'_>,
+    node: NodeId,
+    datum: &Datum,
+) -> Result<Vec<u8>, PutError>
+    ensures { IfOk result (λ text. text.items ≡ display_text (schema_nodes table.now) (node_at (schema_nodes table.now) node.0) (value_of datum.now)) }
 {
-    let mut members: Map<String, Value> = Map::new(alloc);
-    for entry in entries {
-        let tree = displayed(alloc, schema, node, &entry.1)?;
-        put_member(alloc, &mut members, entry.0.as_str(), tree)?;
-    }
-    Ok(Value::from(members))
+    let mut out = WriteOutput::new(Vec::new(alloc));
+    put_shown(&mut out, alloc, table, node, datum)?;
+    Ok(out.into_inner())
 }
 
-/// The JSON object that displays the field values of a record.
-#[cycle(display)]
-#[tactic(auto, using(crate::proofs::DisplaySeen::fields_past))]
-fn displayed_fields(
+/// Puts the display of a datum of a node, and all of it.
+fn put_shown<O: Output>(
+    out: &mut O,
     alloc: Global,
-    schema: &Schema,
-    fields: &[Field],
-    values: &[Datum],
-) -> Result<Value, Memory>
-    ensures { IfOk result (λ tree.
-        view tree ≡ object (fields_tree (schema_nodes schema.now) (seen_fields fields.now) (values_of values.now) no_members)) }
+    table: &DisplayTable<'_>,
+    node: NodeId,
+    datum: &Datum,
+) -> Result<(), PutError>
+    ensures { OnOk result (O.keeps out.old (display_text (schema_nodes table.now) (node_at (schema_nodes table.now) node.0) (value_of datum.now)) out.new) }
 {
-    let mut members: Map<String, Value> = Map::new(alloc);
-    for i in 0..values.len() {
-        if i >= fields.len() {
-            return Ok(Value::from(members));
+    let mut text = Vec::new(alloc);
+    put_display(&mut *out, &mut text, alloc, table, node, datum)?;
+    put_all(out, &text)?;
+    Ok(())
+}
+
+/// Appends the display of a datum of a node to a text, and puts the text in pieces if it is long: what the text held,
+/// and then the display, is what was put, and then what the text holds.
+///
+/// # Errors
+///
+/// The output failed, or took none of the bytes; memory ran out. Some of the text was put, or none.
+pub fn put_display<O: Output>(
+    out: &mut O,
+    text: &mut Vec<u8>,
+    alloc: Global,
+    table: &DisplayTable<'_>,
+    node: NodeId,
+    datum: &Datum,
+) -> Result<(), PutError>
+    ensures put { OnOk result (PutsText O.keeps out.old text.old.items
+        (display_text (schema_nodes table.now) (node_at (schema_nodes table.now) node.0) (value_of datum.now)) out.new text.new.items) }
+    ensures works { OnOk result (O.failures out.new ≡ O.failures out.old) }
+    ensures fails { IsErrOf result PutError.CannotWrite → (O.failures out.new ≢ O.failures out.old) ⊎ O.stuck out.new }
+    ensures memory { IsErrOf result PutError.OutOfMemory → O.failures out.new ≡ O.failures out.old }
+{
+    put_part(out, text, alloc, table, Some(node), datum)
+}
+
+/// Puts the display of a datum of a node, or of null if there is no node.
+#[cycle(display)]
+fn put_part<O: Output>(
+    out: &mut O,
+    text: &mut Vec<u8>,
+    alloc: Global,
+    table: &DisplayTable<'_>,
+    id: Option<NodeId>,
+    datum: &Datum,
+) -> Result<(), PutError>
+    ensures put { OnOk result (PutsText O.keeps out.old text.old.items
+        (display_text (schema_nodes table.now) (part_at (schema_nodes table.now) (option_map (λ id. id.0) id)) (value_of datum.now)) out.new text.new.items) }
+    ensures works { OnOk result (O.failures out.new ≡ O.failures out.old) }
+    ensures fails { IsErrOf result PutError.CannotWrite → (O.failures out.new ≢ O.failures out.old) ⊎ O.stuck out.new }
+    ensures memory { IsErrOf result PutError.OutOfMemory → O.failures out.new ≡ O.failures out.old }
+{
+    let node = part(table.schema(), &Node::Null, id);
+    match datum {
+        Datum::Null => put_plain(out, text, b"null"),
+        Datum::Bool(value) => put_plain(out, text, bool_text(*value)),
+        Datum::Int(value) => put_number(out, text, alloc, i64::from(*value)),
+        Datum::Long(value) => put_number(out, text, alloc, *value),
+        Datum::Bytes(bytes) => put_characters(out, text, alloc, bytes),
+        Datum::Str(string) => put_quoted(out, text, alloc, string.as_str()),
+        Datum::Array(items) => put_items(out, text, alloc, table, node.items(), items),
+        Datum::Map(entries) => put_entries(out, text, alloc, table, node.values(), entries),
+        Datum::Union(branch, value) => {
+            put_branch(out, text, alloc, table, node.branch(*branch), value)
         }
-        let tree = displayed(alloc, schema, schema.get(fields[i].node), &values[i])?;
-        put_member(alloc, &mut members, fields[i].name.as_str(), tree)?;
+        Datum::Record(values) => put_record(out, text, alloc, table, id, values),
+        Datum::Enum(symbol) => put_quoted(out, text, alloc, symbol_text(node, *symbol)),
+        Datum::Fixed(bytes) => put_characters(out, text, alloc, bytes),
     }
-    Ok(Value::from(members))
+}
+
+/// Puts the display of a datum of a union's branch.
+#[cycle(display)]
+fn put_branch<O: Output>(
+    out: &mut O,
+    text: &mut Vec<u8>,
+    alloc: Global,
+    table: &DisplayTable<'_>,
+    id: Option<NodeId>,
+    datum: &Datum,
+) -> Result<(), PutError>
+    ensures put { OnOk result (PutsText O.keeps out.old text.old.items
+        (compact_text (branch_tree (part_at (schema_nodes table.now) (option_map (λ id. id.0) id))
+        (display_tree (schema_nodes table.now) (part_at (schema_nodes table.now) (option_map (λ id. id.0) id)) (value_of datum.now)))) out.new text.new.items) }
+    ensures works { OnOk result (O.failures out.new ≡ O.failures out.old) }
+    ensures fails { IsErrOf result PutError.CannotWrite → (O.failures out.new ≢ O.failures out.old) ⊎ O.stuck out.new }
+    ensures memory { IsErrOf result PutError.OutOfMemory → O.failures out.new ≡ O.failures out.old }
+{
+    match table.part_opening(id) {
+        None => put_plain(out, text, b"null"),
+        Some(opening) => {
+            text.extend_from_slice(opening)?;
+            put_part(&mut *out, &mut *text, alloc, table, id, datum)?;
+            put_plain(out, text, b"}")
+        }
+    }
+}
+
+/// Puts the display of an array of data of a node.
+#[cycle(display)]
+fn put_items<O: Output>(
+    out: &mut O,
+    text: &mut Vec<u8>,
+    alloc: Global,
+    table: &DisplayTable<'_>,
+    id: Option<NodeId>,
+    items: &[Datum],
+) -> Result<(), PutError>
+    ensures put { OnOk result (PutsText O.keeps out.old text.old.items
+        (compact_text (array (display_items (schema_nodes table.now) (part_at (schema_nodes table.now) (option_map (λ id. id.0) id)) (values_of items.now)))) out.new text.new.items) }
+    ensures works { OnOk result (O.failures out.new ≡ O.failures out.old) }
+    ensures fails { IsErrOf result PutError.CannotWrite → (O.failures out.new ≢ O.failures out.old) ⊎ O.stuck out.new }
+    ensures memory { IsErrOf result PutError.OutOfMemory → O.failures out.new ≡ O.failures out.old }
+{
+    text.extend_from_slice(b"[")?;
+    let mut later = false;
+    for item in items {
+        append_separated(text, later, b"")?;
+        put_part(&mut *out, &mut *text, alloc, table, id, item)?;
+        later = true;
+    }
+    put_plain(out, text, b"]")
+}
+
+/// Puts the display of a map's entries.
+#[cycle(display)]
+fn put_entries<O: Output>(
+    out: &mut O,
+    text: &mut Vec<u8>,
+    alloc: Global,
+    table: &DisplayTable<'_>,
+    id: Option<NodeId>,
+    entries: &[(String, Datum)],
+) -> Result<(), PutError>
+    ensures put { OnOk result (PutsText O.keeps out.old text.old.items
+        (compact_text (object (display_entries (schema_nodes table.now) (part_at (schema_nodes table.now) (option_map (λ id. id.0) id)) (entries_of entries.now) no_members)))
+        out.new text.new.items) }
+    ensures works { OnOk result (O.failures out.new ≡ O.failures out.old) }
+    ensures fails { IsErrOf result PutError.CannotWrite → (O.failures out.new ≢ O.failures out.old) ⊎ O.stuck out.new }
+    ensures memory { IsErrOf result PutError.OutOfMemory → O.failures out.new ≡ O.failures out.old }
+{
+    let order = entry_order(alloc, entries)?;
+    put_ordered(out, text, alloc, table, id, entries, &order)
+}
+
+/// Puts the display of a map's entries in the order of their keys.
+#[cycle(display)]
+fn put_ordered<O: Output>(
+    out: &mut O,
+    text: &mut Vec<u8>,
+    alloc: Global,
+    table: &DisplayTable<'_>,
+    id: Option<NodeId>,
+    entries: &[(String, Datum)],
+    order: &BTreeMap<&str, usize>,
+) -> Result<(), PutError>
+    ensures put { IsOrder (keys_of (entries_of entries.now)) (map seen_place order.now.entries) → OnOk result (PutsText O.keeps out.old text.old.items
+        (compact_text (object (display_entries (schema_nodes table.now) (part_at (schema_nodes table.now) (option_map (λ id. id.0) id)) (entries_of entries.now) no_members)))
+        out.new text.new.items) }
+    ensures works { OnOk result (O.failures out.new ≡ O.failures out.old) }
+    ensures fails { IsErrOf result PutError.CannotWrite → (O.failures out.new ≢ O.failures out.old) ⊎ O.stuck out.new }
+    ensures memory { IsErrOf result PutError.OutOfMemory → O.failures out.new ≡ O.failures out.old }
+{
+    text.extend_from_slice(b"{")?;
+    let mut later = false;
+    for (key, index) in order.iter() {
+        append_entry_key(text, alloc, later, key)?;
+        put_entry_value(&mut *out, &mut *text, alloc, table, id, entries, *index)?;
+        later = true;
+    }
+    put_plain(out, text, b"}")
+}
+
+/// Puts the display of the value of the entry at an index, or null if there is none.
+#[cycle(display)]
+fn put_entry_value<O: Output>(
+    out: &mut O,
+    text: &mut Vec<u8>,
+    alloc: Global,
+    table: &DisplayTable<'_>,
+    id: Option<NodeId>,
+    entries: &[(String, Datum)],
+    index: usize,
+) -> Result<(), PutError>
+    ensures put { OnOk result (PutsText O.keeps out.old text.old.items
+        (compact_text (entry_tree (schema_nodes table.now) (part_at (schema_nodes table.now) (option_map (λ id. id.0) id)) (entries_of entries.now) index)) out.new text.new.items) }
+    ensures works { OnOk result (O.failures out.new ≡ O.failures out.old) }
+    ensures fails { IsErrOf result PutError.CannotWrite → (O.failures out.new ≢ O.failures out.old) ⊎ O.stuck out.new }
+    ensures memory { IsErrOf result PutError.OutOfMemory → O.failures out.new ≡ O.failures out.old }
+{
+    if index >= entries.len() {
+        return put_plain(out, text, b"null");
+    }
+    put_part(out, text, alloc, table, id, &entries[index].1)
+}
+
+/// Puts the display of the field values of a record.
+#[cycle(display)]
+fn put_record<O: Output>(
+    out: &mut O,
+    text: &mut Vec<u8>,
+    alloc: Global,
+    table: &DisplayTable<'_>,
+    id: Option<NodeId>,
+    values: &[Datum],
+) -> Result<(), PutError>
+    ensures put { OnOk result (PutsText O.keeps out.old text.old.items
+        (compact_text (object (display_fields (schema_nodes table.now) (record_fields (part_at (schema_nodes table.now) (option_map (λ id. id.0) id))) (values_of values.now) no_members)))
+        out.new text.new.items) }
+    ensures works { OnOk result (O.failures out.new ≡ O.failures out.old) }
+    ensures fails { IsErrOf result PutError.CannotWrite → (O.failures out.new ≢ O.failures out.old) ⊎ O.stuck out.new }
+    ensures memory { IsErrOf result PutError.OutOfMemory → O.failures out.new ≡ O.failures out.old }
+{
+    let fields = node_fields(part(table.schema(), &Node::Null, id));
+    if fields.len() <= values.len() {
+        return put_members(out, text, alloc, table, table.part_members(id), values);
+    }
+    // A record with fewer values than fields does not fit; those that it has are displayed.
+    let (first, _) = fields.split_at(values.len());
+    let members = members_of(alloc, first)?;
+    put_members(out, text, alloc, table, &members, values)
+}
+
+/// Puts the display of the values of fields, of which there are enough.
+#[cycle(display)]
+fn put_members<O: Output>(
+    out: &mut O,
+    text: &mut Vec<u8>,
+    alloc: Global,
+    table: &DisplayTable<'_>,
+    members: &[Member<'_>],
+    values: &[Datum],
+) -> Result<(), PutError>
+    ensures put { (fields : List FieldNode) → AreMembers fields members.now → length fields ≤ length values.now → OnOk result (PutsText O.keeps out.old text.old.items
+        (compact_text (object (display_fields (schema_nodes table.now) fields (values_of values.now) no_members)))
+        out.new text.new.items) }
+    ensures works { OnOk result (O.failures out.new ≡ O.failures out.old) }
+    ensures fails { IsErrOf result PutError.CannotWrite → (O.failures out.new ≢ O.failures out.old) ⊎ O.stuck out.new }
+    ensures memory { IsErrOf result PutError.OutOfMemory → O.failures out.new ≡ O.failures out.old }
+{
+    text.extend_from_slice(b"{")?;
+    let mut later = false;
+    for member in members {
+        append_separated(text, later, member.head())?;
+        put_field_value(&mut *out, &mut *text, alloc, table, member, values)?;
+        later = true;
+    }
+    put_plain(out, text, b"}")
+}
+
+/// Puts the display of the value of a record's member, or null if there is none.
+#[cycle(display)]
+fn put_field_value<O: Output>(
+    out: &mut O,
+    text: &mut Vec<u8>,
+    alloc: Global,
+    table: &DisplayTable<'_>,
+    member: &Member<'_>,
+    values: &[Datum],
+) -> Result<(), PutError>
+    ensures put { OnOk result (PutsText O.keeps out.old text.old.items
+        (display_text (schema_nodes table.now) (node_at (schema_nodes table.now) member.now.node.0) (value_at (values_of values.now) member.now.field)) out.new text.new.items) }
+    ensures works { OnOk result (O.failures out.new ≡ O.failures out.old) }
+    ensures fails { IsErrOf result PutError.CannotWrite → (O.failures out.new ≢ O.failures out.old) ⊎ O.stuck out.new }
+    ensures memory { IsErrOf result PutError.OutOfMemory → O.failures out.new ≡ O.failures out.old }
+{
+    if member.field >= values.len() {
+        return put_plain(out, text, b"null");
+    }
+    put_part(
+        out,
+        text,
+        alloc,
+        table,
+        Some(member.node),
+        &values[member.field],
+    )
+}
+
+/// Appends a comma, if something is before, and then a key with its colon.
+fn append_entry_key(text: &mut Vec<u8>, alloc: Global, later: bool, key: &str) -> Result<(), Memory>
+    ensures { OnOk result (text.new.items ≡ text.old.items ++ (comma_if later ++ head_text key.now)) }
+{
+    if later {
+        text.push(b',')?;
+    }
+    append_key(text, alloc, key)
+}
+
+/// Appends a comma, if something is before, and then bytes.
+fn append_separated(text: &mut Vec<u8>, later: bool, bytes: &[u8]) -> Result<(), Memory>
+    ensures { OnOk result (text.new.items ≡ text.old.items ++ (comma_if later ++ bytes.now)) }
+{
+    if later {
+        text.push(b',')?;
+    }
+    text.extend_from_slice(bytes)?;
+    Ok(())
+}
+
+/// The text of a boolean.
+fn bool_text(value: bool) -> &'static [u8]
+    ensures { result.now ≡ token_text (boolean value) }
+{
+    if value { b"true" } else { b"false" }
 }

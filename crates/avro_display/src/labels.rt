@@ -1,17 +1,28 @@
-ghost use Rattle.std.specs.Prelude.{◌≡◌, IfOk, OnOk, string_bytes, encode_utf8_all};
+ghost use Rattle.std.specs.Prelude.{◌≡◌, ◌++◌, IfOk, OnOk, option_map, string_bytes, encode_utf8_all};
 ghost use Rattle.avro_schema.specs.Fits.{is_null_node};
 ghost use Rattle.avro_schema.specs.Seen.{node_of};
-ghost use Rattle.avro_display.specs.DisplayTree.{name_text, branch_key as key_of_branch, branch_tree, symbol_at};
-ghost use Rattle.serde_json.specs.Data.{put};
-ghost use Rattle.serde_json.specs.View.{view, members_view};
+ghost use Rattle.avro_display.specs.DisplayTree.{name_text, branch_key as key_of_branch, symbol_at};
+ghost use Rattle.avro_display.specs.Table.{head_text, opening_of};
 
 use avro_name::FullName;
 use avro_schema::{Memory, Node};
-use serde_json::{Map, Value};
+use json::Writer;
 use std::alloc::Global;
+use std::mem::replace;
+
+/// Appends a key and its colon.
+pub(crate) fn append_key(text: &mut Vec<u8>, alloc: Global, key: &str) -> Result<(), Memory>
+    ensures { OnOk result (text.new.items ≡ text.old.items ++ head_text key.now) }
+{
+    let mut writer = Writer::new(replace(text, Vec::new(alloc)));
+    let written = writer.key(key);
+    *text = writer.into_inner();
+    written?;
+    Ok(())
+}
 
 /// A copy of a text.
-pub(crate) fn copy_of_text(alloc: Global, text: &str) -> Result<String, Memory>
+fn copy_of_text(alloc: Global, text: &str) -> Result<String, Memory>
     ensures { IfOk result (λ copy. string_bytes copy ≡ text.now) }
 {
     Ok(String::from_str(alloc, text)?)
@@ -29,15 +40,15 @@ pub(crate) fn bytes_text(alloc: Global, bytes: &[u8]) -> Result<String, Memory>
 }
 
 /// The symbol of an enum at an index; empty if there is none.
-pub(crate) fn symbol_text(alloc: Global, node: &Node, index: u32) -> Result<String, Memory>
-    ensures { IfOk result (λ text. string_bytes text ≡ symbol_at (node_of node.now) index) }
+pub(crate) fn symbol_text(node: &Node, index: u32) -> &str
+    ensures { result.now ≡ symbol_at (node_of node.now) index }
 {
     match node {
         Node::Enum(enumeration) => match enumeration.symbols.get(index as usize) {
-            Some(symbol) => copy_of_text(alloc, symbol.as_str()),
-            None => Ok(String::new(alloc)),
+            Some(symbol) => symbol.as_str(),
+            None => "",
         },
-        _ => Ok(String::new(alloc)),
+        _ => "",
     }
 }
 
@@ -75,20 +86,6 @@ fn branch_key(alloc: Global, node: &Node) -> Result<String, Memory>
     }
 }
 
-/// Adds a member to an object.
-pub(crate) fn put_member(
-    alloc: Global,
-    members: &mut Map<String, Value>,
-    key: &str,
-    tree: Value,
-) -> Result<(), Memory>
-    ensures { OnOk result (members_view members.new.entries ≡ put key.now (view tree) (members_view members.old.entries)) }
-{
-    let copy = copy_of_text(alloc, key)?;
-    members.insert(copy, tree)?;
-    Ok(())
-}
-
 /// Whether a node is null.
 fn is_null(node: &Node) -> bool
     ensures { result ≡ is_null_node (node_of node.now) }
@@ -96,15 +93,16 @@ fn is_null(node: &Node) -> bool
     matches!(node, Node::Null)
 }
 
-/// The value of a branch, under the branch's key unless it is null.
-pub(crate) fn labelled(alloc: Global, node: &Node, tree: Value) -> Result<Value, Memory>
-    ensures { IfOk result (λ labelled. view labelled ≡ branch_tree (node_of node.now) (view tree)) }
+/// The text before the value of a union's branch; none if the branch is null.
+pub(crate) fn opening(alloc: Global, node: &Node) -> Result<Option<Vec<u8>>, Memory>
+    ensures { IfOk result (λ text. option_map (λ t. t.items) text ≡ opening_of (node_of node.now)) }
 {
     if is_null(node) {
-        return Ok(Value::Null);
+        return Ok(None);
     }
     let key = branch_key(alloc, node)?;
-    let mut members: Map<String, Value> = Map::new(alloc);
-    members.insert(key, tree)?;
-    Ok(Value::Object(members))
+    let mut text = Vec::new(alloc);
+    text.push(b'{')?;
+    append_key(&mut text, alloc, key.as_str())?;
+    Ok(Some(text))
 }

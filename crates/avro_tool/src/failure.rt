@@ -9,7 +9,7 @@ ghost use Rattle.avro_tool.specs.declared.failure.Failure.TheVariants.{Schema, C
 
 use crate::container_line::container_line;
 use crate::number_options::NumberOption;
-use avro_answer::{certificate_refusal, data_refusal, schema_refusal};
+use avro_answer::{PutError, certificate_refusal, data_refusal, schema_refusal};
 use avro_binary::ReadError;
 use avro_container::CopyError;
 use avro_judge::CertError;
@@ -231,6 +231,20 @@ impl<'a> From<AllocError> for Failure<'a> {
 
     fn from(_e: AllocError) -> Failure<'a> {
         Failure::OutOfMemory
+    }
+}
+
+impl<'a> From<PutError> for Failure<'a> {
+    ghost use Rattle.std.specs.Prelude.{◌≡◌, ◌⊎◌};
+    ghost use Rattle.avro_tool.specs.declared.failure.Failure.TheVariants.{CannotPrint, OutOfMemory};
+
+    ghost from_gives = { λ _ failure. (failure ≡ OutOfMemory) ⊎ (failure ≡ CannotPrint) };
+
+    fn from(e: PutError) -> Failure<'a> {
+        match e {
+            PutError::CannotWrite => Failure::CannotPrint,
+            PutError::OutOfMemory => Failure::OutOfMemory,
+        }
     }
 }
 

@@ -5,7 +5,7 @@ use crate::failure::Failure;
 use crate::files::schema::read_schema_file;
 use crate::printing::print;
 use crate::request::Explaining;
-use avro_answer::{Form, PutError, no_fault, over_pairs, put_faults};
+use avro_answer::{Form, no_fault, over_pairs, put_faults};
 use avro_device::WriteOutput;
 use avro_explain::{ExplainError, Explanation, explain};
 use avro_schema::Schema;
@@ -82,9 +82,6 @@ fn print_faults<'a, O: Write>(
     out: &mut O,
 ) -> Result<(), Failure<'a>> {
     let mut output = WriteOutput::new(out);
-    match put_faults(&mut output, alloc, writer, reader, found, form) {
-        Ok(()) => Ok(()),
-        Err(PutError::CannotWrite) => Err(Failure::CannotPrint),
-        Err(PutError::OutOfMemory) => Err(Failure::OutOfMemory),
-    }
+    put_faults(&mut output, alloc, writer, reader, found, form)?;
+    Ok(())
 }

@@ -4,9 +4,9 @@ use crate::files::certificate::write_certificate_file;
 use crate::files::kept::{refuse_read_file, refuse_schema_file};
 use crate::files::refutation::write_refutation_file;
 use crate::files::schema::{read_schema_file, read_text_file};
-use crate::printing::print_bytes;
 use crate::request::Judging;
-use avro_answer::{Judged, judge_schemas};
+use avro_answer::judge_schemas;
+use avro_device::WriteOutput;
 use avro_judge::Verdict;
 use avro_schema::Schema;
 use avro_schema_json::ReaderText;
@@ -48,7 +48,7 @@ fn judge_written<'a, R: Files + AllocGlobal, O: Write>(
     judge_pair(rt, asked, writer, &reader, out)
 }
 
-/// Judges two schemas.
+/// Judges two schemas, prints the verdict, and writes its evidence where a file is named for it.
 fn judge_pair<'a, R: Files + AllocGlobal, O: Write>(
     rt: &R,
     asked: &Judging<'a>,
@@ -56,22 +56,17 @@ fn judge_pair<'a, R: Files + AllocGlobal, O: Write>(
     reader: &Schema,
     out: &mut O,
 ) -> Result<Finding, Failure<'a>> {
-    let limits = &asked.limits;
-    let judged = judge_schemas(rt.alloc(), writer.schema(), reader, limits, asked.form)?;
-    tell_judged(rt, asked, writer, &judged, out)
-}
-
-/// Prints a verdict, and writes its evidence where a file is named for it.
-fn tell_judged<'a, R: Files + AllocGlobal, O: Write>(
-    rt: &R,
-    asked: &Judging<'a>,
-    writer: &ReaderText,
-    judged: &Judged<'_>,
-    out: &mut O,
-) -> Result<Finding, Failure<'a>> {
-    print_bytes(out, &judged.answer.text)?;
-    write_evidence(rt, asked, writer, &judged.verdict)?;
-    Ok(Finding::of_verdict(judged.answer.status))
+    let mut output = WriteOutput::new(out);
+    let (verdict, status) = judge_schemas(
+        &mut output,
+        rt.alloc(),
+        writer.schema(),
+        reader,
+        &asked.limits,
+        asked.form,
+    )?;
+    write_evidence(rt, asked, writer, &verdict)?;
+    Ok(Finding::of_verdict(status))
 }
 
 /// Writes the certificate of a yes, or the datum of a no, where a file is named for it.

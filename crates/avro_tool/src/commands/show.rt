@@ -1,26 +1,28 @@
-ghost use Rattle.std.specs.Prelude.{◌≡◌, ◌≤◌, true, length, IfOk, option_map};
-ghost use Rattle.avro_container.specs.DataRead.{read_nodes};
-ghost use Rattle.avro_schema.specs.Fits.{fits};
-ghost use Rattle.avro_schema.specs.Node.{root_of};
-ghost use Rattle.avro_schema.specs.Seen.{value_of};
-ghost use Rattle.avro_schema.specs.SeenSchema.{schema_nodes};
+ghost use Rattle.std.specs.Prelude.{◌≤◌, length, IfOk};
 
 use crate::Finding;
 use crate::failure::Failure;
 use crate::files::container::{ROOM, open_container};
 use crate::files::kept::is_output;
 use crate::files::schema::read_reader;
-use avro_answer::datum_line;
 use avro_binary::{Nothing, Tree, decode};
 use avro_container::{Block, Blocks, CopyError, FileLimits, Header};
-use avro_device::Input;
-use avro_resolve::laws::resolved_fits;
+use avro_device::{Input, Output, WriteOutput, put_all};
+use avro_display::{DisplayTable, PutError, put_display};
 use avro_resolve::{Plan, ReadResolveError};
-use avro_schema::{Datum, Limits, Memory, Schema};
+use avro_schema::{Datum, Limits, Memory, NodeId, Schema};
 use avro_schema_json::ReaderText;
 use std::alloc::Global;
-use std::io::{BufWriter, Write};
+use std::io::Write;
 use std::rt::Files;
+
+/// Where lines go: the displays of a schema's data, the text that is held, and the output.
+#[derive(Drop)]
+struct Lines<'a, O> {
+    table: DisplayTable<'a>,
+    text: Vec<u8>,
+    out: WriteOutput<&'a mut O>,
+}
 
 /// Prints a line for each datum of the container in a file, resolved to a reader's schema if a file is
 /// named for it, and no more lines than the limit, if there is one.
@@ -48,36 +50,7 @@ fn show_for<'a, R: Files + AllocGlobal, O: Write>(
     out: &mut O,
 ) -> Result<Finding, Failure<'a>> {
     let mut input = open_container(rt, word)?;
-    show_lines(rt.alloc(), &mut input, word, reader, limit, out)
-}
-
-/// Prints the data of a container, many lines at once.
-fn show_lines<'a, I: Input, O: Write>(
-    alloc: Global,
-    input: &mut I,
-    word: &'a str,
-    reader: Option<&ReaderText>,
-    limit: u64,
-    out: &mut O,
-) -> Result<Finding, Failure<'a>> {
-    match BufWriter::with_capacity(alloc, ROOM, out) {
-        Ok(mut lines) => {
-            let shown = show_data(alloc, input, word, reader, limit, &mut lines);
-            flushed(&mut lines, shown)
-        }
-        Err(_) => Err(Failure::OutOfMemory),
-    }
-}
-
-/// What was shown, if all of it was written.
-fn flushed<'a, O: Write>(
-    out: &mut O,
-    shown: Result<Finding, Failure<'a>>,
-) -> Result<Finding, Failure<'a>> {
-    match out.flush() {
-        Ok(()) => shown,
-        Err(_) => Err(Failure::CannotPrint),
-    }
+    show_data(rt.alloc(), &mut input, word, reader, limit, out)
 }
 
 /// Prints the data of a container.
@@ -107,7 +80,45 @@ fn show_after<'a, I: Input, O: Write>(
     out: &mut O,
 ) -> Result<Finding, Failure<'a>> {
     let plan = plan_for(alloc, header, reader)?;
-    show_blocks(alloc, input, word, header, &plan, limit, out)
+    show_planned(alloc, input, word, header, &plan, limit, out)
+}
+
+/// Prints the data after a header, which are read by a plan where there is one.
+fn show_planned<'a, I: Input, O: Write>(
+    alloc: Global,
+    input: &mut I,
+    word: &'a str,
+    header: &Header,
+    plan: &Option<Plan<'_>>,
+    limit: u64,
+    out: &mut O,
+) -> Result<Finding, Failure<'a>> {
+    let table = DisplayTable::new(alloc, shown_schema(header.schema(), plan))?;
+    let mut lines = Lines {
+        table,
+        text: Vec::new(alloc),
+        out: WriteOutput::new(out),
+    };
+    let shown = show_blocks(alloc, input, word, header, plan, limit, &mut lines);
+    finished(&mut lines, shown)
+}
+
+/// What was shown, if all of it was put.
+fn finished<'a, O: Write>(
+    lines: &mut Lines<'_, O>,
+    shown: Result<Finding, Failure<'a>>,
+) -> Result<Finding, Failure<'a>> {
+    put_held(lines)?;
+    shown
+}
+
+/// Puts the text that is held. No part of it is put again if the output fails.
+fn put_held<O: Write>(lines: &mut Lines<'_, O>) -> Result<(), PutError> {
+    let put = put_all(&mut lines.out, &lines.text);
+    lines.text.clear();
+    put?;
+    lines.out.flush()?;
+    Ok(())
 }
 
 /// Prints the data of the blocks after a header, up to a number of lines. What follows is not read.
@@ -118,7 +129,7 @@ fn show_blocks<'a, I: Input, O: Write>(
     header: &Header,
     plan: &Option<Plan<'_>>,
     limit: u64,
-    out: &mut O,
+    lines: &mut Lines<'_, O>,
 ) -> Result<Finding, Failure<'a>> {
     let limits = FileLimits::default();
     let mut blocks = Blocks::new(alloc, header, &limits);
@@ -129,9 +140,17 @@ fn show_blocks<'a, I: Input, O: Write>(
         }
         match next_block(&mut blocks, input, plan) {
             Ok(Some(block)) => {
-                let lines = left.min(u64::from(block.count()));
-                show_block(alloc, &block, header, plan, &limits.datum(), lines, out)?;
-                left = left.saturating_sub(lines);
+                let count = left.min(u64::from(block.count()));
+                show_block(
+                    alloc,
+                    &block,
+                    header,
+                    plan,
+                    &limits.datum(),
+                    count,
+                    &mut *lines,
+                )?;
+                left = left.saturating_sub(count);
             }
             Ok(None) => break,
             Err(error) => return Err(Failure::of_container(word, error)),
@@ -177,31 +196,60 @@ fn show_block<'a, O: Write>(
     header: &Header,
     plan: &Option<Plan<'_>>,
     limits: &Limits,
-    lines: u64,
-    out: &mut O,
+    count: u64,
+    lines: &mut Lines<'_, O>,
 ) -> Result<(), Failure<'a>> {
-    let schema = header.schema();
-    let shown = shown_schema(schema, plan);
     let mut rest = block.body();
-    for _ in 0..lines {
+    for _ in 0..count {
         // After the walk over the block only memory can run out.
-        let Ok((datum, len)) = read_datum(alloc, schema, plan, rest, limits) else {
+        let Ok((datum, len)) = read_datum(alloc, header.schema(), plan, rest, limits) else {
             return Err(Failure::OutOfMemory);
         };
-        let line = datum_line(alloc, shown, &datum)?;
-        if out.write_all(line.as_bytes()).is_err() {
-            return Err(Failure::CannotPrint);
-        }
+        put_line(alloc, &mut *lines, &datum)?;
         let (_, others) = rest.split_at(len);
         rest = others;
     }
     Ok(())
 }
 
+/// Puts the line of a datum, or holds it. After an error only whole lines are held.
+fn put_line<'a, O: Write>(
+    alloc: Global,
+    lines: &mut Lines<'_, O>,
+    datum: &Datum,
+) -> Result<(), Failure<'a>> {
+    let held = lines.text.len();
+    match put_display(
+        &mut lines.out,
+        &mut lines.text,
+        alloc,
+        &lines.table,
+        NodeId(0),
+        datum,
+    ) {
+        Ok(()) => end_line(lines),
+        Err(PutError::CannotWrite) => {
+            lines.text.clear();
+            Err(Failure::CannotPrint)
+        }
+        Err(PutError::OutOfMemory) => {
+            lines.text.truncate(held);
+            Err(Failure::OutOfMemory)
+        }
+    }
+}
+
+/// Ends a line, and puts what is held if it is long.
+fn end_line<'a, O: Write>(lines: &mut Lines<'_, O>) -> Result<(), Failure<'a>> {
+    lines.text.extend_from_slice(b"\n")?;
+    if ROOM <= lines.text.len() {
+        put_held(lines)?;
+    }
+    Ok(())
+}
+
 /// The schema of what is printed: the reader's, where there is one.
-fn shown_schema<'a>(schema: &'a Schema, plan: &'a Option<Plan<'_>>) -> &'a Schema
-    ensures { schema_nodes result.now ≡ read_nodes (schema_nodes schema.now) (option_map (λ p. schema_nodes p.1) plan.now) }
-{
+fn shown_schema<'a>(schema: &'a Schema, plan: &'a Option<Plan<'_>>) -> &'a Schema {
     match plan {
         Some(plan) => plan.by_ref().reader(),
         None => schema,
@@ -217,17 +265,10 @@ fn read_datum(
     bytes: &[u8],
     limits: &Limits,
 ) -> Result<(Datum, usize), ReadResolveError>
-    ensures fitting { IfOk result (λ r. fits (read_nodes (schema_nodes schema.now) (option_map (λ p. schema_nodes p.1) plan.now))
-        (root_of (read_nodes (schema_nodes schema.now) (option_map (λ p. schema_nodes p.1) plan.now))) (value_of r.0) ≡ true) }
-    ensures inside { IfOk result (λ r. r.1 ≤ length bytes.now) }
+    ensures { IfOk result (λ r. r.1 ≤ length bytes.now) }
 {
-    resolved_fits();
     match plan {
-        Some(plan) => {
-            // Only the contract of this call matters here: the reader's schema is well formed.
-            let _ = plan.by_ref().reader().len();
-            plan.read(alloc, bytes, limits, &mut Tree)
-        }
+        Some(plan) => plan.read(alloc, bytes, limits, &mut Tree),
         None => match decode(alloc, schema, schema.root(), bytes, limits) {
             Ok(answer) => Ok(answer),
             Err(error) => Err(ReadResolveError::Read(error)),

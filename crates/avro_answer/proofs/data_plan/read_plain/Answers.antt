@@ -6,16 +6,16 @@ use Rattle.avro_resolve.specs.declared.error.ReadResolveError.{ReadResolveError}
 use Rattle.avro_answer.proofs.DataFound.{all_at_front, read_whole, read_broken}
 use Rattle.avro_answer.proofs.data_plan.read_plain.Goals as goal
 
-pub returns-in-Ok-clause-found : goal.returns-in-Ok-clause-found
-returns-in-Ok-clause-found c =
+pub returns-in-Ok : goal.returns-in-Ok
+returns-in-Ok c =
     let W = schema_nodes c.args.writer.now in
     let L = c.args.limits.now in
     let B = c.args.bytes.now in
     all_at_front W None L B (Ok c.in-Ok.found)
     (read_whole W L B c.in-Ok.found (subst (λ n. ReadsExactly W (node_at W n) L B (Ok c.in-Ok.found)) c.root.ensures.root c.in-Ok.ensures))
 
-pub returns-in-Err-clause-found : goal.returns-in-Err-clause-found
-returns-in-Err-clause-found c =
+pub returns-in-Err : goal.returns-in-Err
+returns-in-Err c =
     let W = schema_nodes c.args.writer.now in
     let L = c.args.limits.now in
     let B = c.args.bytes.now in

@@ -13,8 +13,8 @@ returns-clause-put g c = λ is_text exact.
     let faults = c.args.found.now.faults.items in
     let kept : List ℕ = string_bytes c.put_lines.new.text in
     on_ok (put_all writer reader places g.O.Output.keeps g.met.O.Output.chain c.args.out.now c.put_lines.new.out c.put_text.new.out faults
-    (string_bytes c.in_ok-text.text) kept c.as_str.result.now
+    (string_bytes c.in_ok-text.text) kept c.as_bytes.result.now
     (c.in_ok-text.ensures is_text ∙ ap no_line (c.len.ensures ∙ c.args.found.now.faults.ok.0))
-    (c.as_str.ensures.value ∙ (c.in_ok-push_str.ensures.bytes ∙ (ap (λ (e : List ℕ). kept ++ e) (c.end_of_faults.ensures is_text) ∙ append-nil kept)))
+    (c.as_bytes.ensures.value ∙ (c.in_ok-push_str.ensures.bytes ∙ (ap (λ (e : List ℕ). kept ++ e) (c.end_of_faults.ensures is_text) ∙ append-nil kept)))
     (c.in_ok-put_lines.ensures.put is_text (placed writer reader places faults exact)))
     c.put_text.result c.put_text.ensures.put

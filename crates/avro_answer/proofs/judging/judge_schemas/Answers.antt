@@ -1,11 +1,18 @@
+use Rattle.std.proofs.Common.{refl}
+use Rattle.avro_schema.specs.SeenSchema.{schema_nodes}
+use Rattle.avro_answer.specs.inside.VerdictTexts.{verdict_text}
 use Rattle.avro_answer.proofs.VerdictAnswers.{answered, status_answered}
 use Rattle.avro_answer.proofs.judging.judge_schemas.Goals as goal
 
 pub returns-clause-answered : goal.returns-clause-answered
-returns-clause-answered c =
-    λ is_text. answered c.args.writer.now c.args.reader.now c.args.limits.now c.in_ok-verdict.verdict c.in_ok-text.text.items c.status_of-status.result
-    (c.in_ok-text.ensures is_text) c.status_of-status.ensures c.in_ok-verdict.ensures
+returns-clause-answered g c = λ is_text.
+    let text = verdict_text (schema_nodes c.args.writer.now) c.in_ok-verdict.verdict in (
+      text,
+      answered c.args.writer.now c.args.reader.now c.args.limits.now c.in_ok-verdict.verdict text c.status_of-status.result
+          refl c.status_of-status.ensures c.in_ok-verdict.ensures,
+      c.in_ok-put_verdict.ensures.put is_text,
+    )
 
 pub returns-clause-status : goal.returns-clause-status
-returns-clause-status c =
+returns-clause-status g c =
     status_answered c.args.writer.now c.args.reader.now c.args.limits.now c.in_ok-verdict.verdict c.status_of-status.result c.status_of-status.ensures c.in_ok-verdict.ensures

@@ -8,3 +8,16 @@ returns-in_err-reader-clause-refused c =
     let p = err_from_is_err_and c.from_residual-in_err-reader.result c.from_residual-in_err-reader.ensures.1 in
     rw (p.1, p.2) (reader_of_pair c.args.writer.now c.args.reader.now (schema_nodes c.in_ok-writer.writer) c.in_ok-writer.ensures.found
     c.in_err-reader.field-0.0 c.in_err-reader.ensures.refused)
+
+pub returns-clause-answered : goal.returns-clause-answered
+returns-clause-answered c = λ is_text. let told = c.in_ok-judge_in_room.ensures.answered is_text in (
+  told.0,
+  record {
+    written = schema_nodes c.in_ok-writer.writer;
+    read = schema_nodes c.in_ok-reader.reader;
+    declares_written = c.in_ok-writer.ensures.found;
+    declares_read = c.in_ok-reader.ensures.found;
+    answered = told.1;
+  },
+  told.2,
+)

@@ -1,0 +1,11 @@
+use Rattle.std.proofs.Common.{◌+◌}
+use Rattle.avro_display.proofs.Tables.{left_more, name_here, names_past}
+use Rattle.avro_display.proofs.members.field_order.Goals as goal
+
+pub loop-i-preserved : goal.loop-i-preserved
+loop-i-preserved c =
+    let fields = c.args.fields.now in
+    let i = c.loop-i.i in
+    left_more (names_past fields 0) (names_past fields i) (names_past fields (i + 1)) i c.loop-i.order.entries c.insert.new.self.entries c.as_str.result
+    (name_here fields i c.index-fields-i.result c.as_str.result.now c.loop-i-test.true c.as_str.ensures.value)
+    c.in_ok-insert.ensures.entries c.loop-i.invariant

@@ -1,0 +1,6 @@
+use Rattle.avro_schema.specs.Seen.{seen_fields}
+use Rattle.avro_display.proofs.Tables.{AreMade}
+use Rattle.avro_display.proofs.members.members_in.Given as goal
+
+abbrev pub invariant-loop-name : goal.invariant-loop-name
+invariant-loop-name l = AreMade (seen_fields l.fields) l.order.entries l.name-iterator l.members.items

@@ -1,0 +1,123 @@
+//! Text that goes out in pieces.
+
+ghost use Rattle.std.specs.Prelude.{◌≡◌, ◌≢◌, ◌⊎◌, ◌++◌, [], OnOk, IsErrOf, encode_utf8_all};
+ghost use Rattle.json.specs.Print.{quoted};
+ghost use Rattle.serde_json.specs.Find.{of_integer};
+ghost use Rattle.serde_json.specs.Written.{number_text};
+ghost use Rattle.avro_display.specs.Pieces.{PutsText};
+ghost use Rattle.avro_display.specs.declared.put_error.PutError.{PutError};
+
+use crate::labels::bytes_text;
+use crate::put_error::PutError;
+use avro_device::{Output, put_all};
+use avro_schema::Memory;
+use json::Writer;
+use std::alloc::Global;
+use std::mem::replace;
+
+/// A longer text is put in several pieces.
+const PIECE: usize = 1_048_576;
+
+/// Puts and clears a text if it is long.
+///
+/// # Errors
+///
+/// The output failed, or took none of the bytes.
+pub(crate) fn put_piece<O: Output>(out: &mut O, text: &mut Vec<u8>) -> Result<(), PutError>
+    ensures put { OnOk result (PutsText O.keeps out.old text.old.items [] out.new text.new.items) }
+    ensures works { OnOk result (O.failures out.new ≡ O.failures out.old) }
+    ensures fails { IsErrOf result PutError.CannotWrite → (O.failures out.new ≢ O.failures out.old) ⊎ O.stuck out.new }
+    ensures memory { IsErrOf result PutError.OutOfMemory → O.failures out.new ≡ O.failures out.old }
+{
+    if text.len() <= PIECE {
+        return Ok(());
+    }
+    put_all(out, text.as_slice())?;
+    text.clear();
+    Ok(())
+}
+
+/// Appends bytes, and puts all if it is long.
+pub(crate) fn put_plain<O: Output>(
+    out: &mut O,
+    text: &mut Vec<u8>,
+    bytes: &[u8],
+) -> Result<(), PutError>
+    ensures put { OnOk result (PutsText O.keeps out.old text.old.items bytes.now out.new text.new.items) }
+    ensures works { OnOk result (O.failures out.new ≡ O.failures out.old) }
+    ensures fails { IsErrOf result PutError.CannotWrite → (O.failures out.new ≢ O.failures out.old) ⊎ O.stuck out.new }
+    ensures memory { IsErrOf result PutError.OutOfMemory → O.failures out.new ≡ O.failures out.old }
+{
+    text.extend_from_slice(bytes)?;
+    put_piece(out, text)
+}
+
+/// Appends the digits of a number, and puts all if it is long.
+pub(crate) fn put_number<O: Output>(
+    out: &mut O,
+    text: &mut Vec<u8>,
+    alloc: Global,
+    number: i64,
+) -> Result<(), PutError>
+    ensures put { OnOk result (PutsText O.keeps out.old text.old.items (number_text (of_integer number)) out.new text.new.items) }
+    ensures works { OnOk result (O.failures out.new ≡ O.failures out.old) }
+    ensures fails { IsErrOf result PutError.CannotWrite → (O.failures out.new ≢ O.failures out.old) ⊎ O.stuck out.new }
+    ensures memory { IsErrOf result PutError.OutOfMemory → O.failures out.new ≡ O.failures out.old }
+{
+    append_number(text, alloc, number)?;
+    put_piece(out, text)
+}
+
+/// Appends a quoted text, and puts all if it is long.
+pub(crate) fn put_quoted<O: Output>(
+    out: &mut O,
+    text: &mut Vec<u8>,
+    alloc: Global,
+    string: &str,
+) -> Result<(), PutError>
+    ensures put { OnOk result (PutsText O.keeps out.old text.old.items (quoted string.now) out.new text.new.items) }
+    ensures works { OnOk result (O.failures out.new ≡ O.failures out.old) }
+    ensures fails { IsErrOf result PutError.CannotWrite → (O.failures out.new ≢ O.failures out.old) ⊎ O.stuck out.new }
+    ensures memory { IsErrOf result PutError.OutOfMemory → O.failures out.new ≡ O.failures out.old }
+{
+    append_quoted(text, alloc, string)?;
+    put_piece(out, text)
+}
+
+/// Appends bytes as a quoted text of one character per byte, and puts all if it is long.
+pub(crate) fn put_characters<O: Output>(
+    out: &mut O,
+    text: &mut Vec<u8>,
+    alloc: Global,
+    bytes: &[u8],
+) -> Result<(), PutError>
+    ensures put { OnOk result (PutsText O.keeps out.old text.old.items (quoted (encode_utf8_all bytes.now)) out.new text.new.items) }
+    ensures works { OnOk result (O.failures out.new ≡ O.failures out.old) }
+    ensures fails { IsErrOf result PutError.CannotWrite → (O.failures out.new ≢ O.failures out.old) ⊎ O.stuck out.new }
+    ensures memory { IsErrOf result PutError.OutOfMemory → O.failures out.new ≡ O.failures out.old }
+{
+    let characters = bytes_text(alloc, bytes)?;
+    put_quoted(out, text, alloc, characters.as_str())
+}
+
+/// Appends the digits of a number.
+fn append_number(text: &mut Vec<u8>, alloc: Global, number: i64) -> Result<(), Memory>
+    ensures { OnOk result (text.new.items ≡ text.old.items ++ number_text (of_integer number)) }
+{
+    let mut writer = Writer::new(replace(text, Vec::new(alloc)));
+    let written = writer.i64(number);
+    *text = writer.into_inner();
+    written?;
+    Ok(())
+}
+
+/// Appends a quoted text.
+fn append_quoted(text: &mut Vec<u8>, alloc: Global, string: &str) -> Result<(), Memory>
+    ensures { OnOk result (text.new.items ≡ text.old.items ++ quoted string.now) }
+{
+    let mut writer = Writer::new(replace(text, Vec::new(alloc)));
+    let written = writer.string(string);
+    *text = writer.into_inner();
+    written?;
+    Ok(())
+}
