@@ -129,7 +129,12 @@ pub trait Put {
         ensures stands { IfOk result (λ out. stands_for self.new out (in_branch into (Value.enum index))) };
 
     /// Makes a union from the index of its branch and what was made of its value.
-    fn branch(&mut self, alloc: Global, index: u32, value: Self::Out) -> Result<Self::Out, AllocError>
+    fn branch(
+        &mut self,
+        alloc: Global,
+        index: u32,
+        value: Self::Out,
+    ) -> Result<Self::Out, AllocError>
         ensures kept { OnOk result (keeps self.old self.new) }
         ensures stays { (front : List ℕ) → begins self.old front → begins self.new front }
         ensures stands { (v : Value) → stands_for self.old value v → IfOk result (λ out. stands_for self.new out (Value.union index v)) };
