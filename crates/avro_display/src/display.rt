@@ -23,7 +23,7 @@ use crate::put_error::PutError;
 use crate::table::DisplayTable;
 use avro_device::{Output, WriteOutput, put_all};
 use avro_schema::{Datum, Memory, Node, NodeId};
-use std::alloc::Global;
+use std::alloc::{AllocError, Global};
 use std::collections::BTreeMap;
 
 /// Displays a datum of a node as compact JSON.
@@ -122,8 +122,8 @@ fn put_part<O: Output>(
     match datum {
         Datum::Null => put_plain(out, text, b"null"),
         Datum::Bool(value) => put_plain(out, text, bool_text(*value)),
-        Datum::Int(value) => put_number(out, text, alloc, i64::from(*value)),
-        Datum::Long(value) => put_number(out, text, alloc, *value),
+        Datum::Int(value) => put_number(out, text, i64::from(*value)),
+        Datum::Long(value) => put_number(out, text, *value),
         Datum::Bytes(bytes) => put_characters(out, text, alloc, bytes),
         Datum::Str(string) => put_quoted(out, text, alloc, string.as_str()),
         Datum::Array(items) => put_items(out, text, alloc, table, node.items(), items),
@@ -346,7 +346,12 @@ fn put_field_value<O: Output>(
 }
 
 /// Appends a comma, if something is before, and then a key with its colon.
-fn append_entry_key(text: &mut Vec<u8>, alloc: Global, later: bool, key: &str) -> Result<(), Memory>
+fn append_entry_key(
+    text: &mut Vec<u8>,
+    alloc: Global,
+    later: bool,
+    key: &str,
+) -> Result<(), AllocError>
     ensures { OnOk result (text.new.items ≡ text.old.items ++ (comma_if later ++ head_text key.now)) }
 {
     if later {

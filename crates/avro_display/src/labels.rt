@@ -7,17 +7,15 @@ ghost use Rattle.avro_display.specs.Table.{head_text, opening_of};
 use avro_name::FullName;
 use avro_schema::{Memory, Node};
 use json::Writer;
-use std::alloc::Global;
-use std::mem::replace;
+use std::alloc::{AllocError, Global};
 
 /// Appends a key and its colon.
-pub(crate) fn append_key(text: &mut Vec<u8>, alloc: Global, key: &str) -> Result<(), Memory>
+pub(crate) fn append_key(text: &mut Vec<u8>, alloc: Global, key: &str) -> Result<(), AllocError>
     ensures { OnOk result (text.new.items ≡ text.old.items ++ head_text key.now) }
 {
-    let mut writer = Writer::new(replace(text, Vec::new(alloc)));
-    let written = writer.key(key);
-    *text = writer.into_inner();
-    written?;
+    let mut writer = Writer::new(Vec::new(alloc));
+    writer.key(key)?;
+    text.extend_from_slice(&writer.into_inner())?;
     Ok(())
 }
 

@@ -10,10 +10,9 @@ ghost use Rattle.avro_display.specs.declared.put_error.PutError.{PutError};
 use crate::labels::bytes_text;
 use crate::put_error::PutError;
 use avro_device::{Output, put_all};
-use avro_schema::Memory;
+use itoa::Buffer;
 use json::Writer;
-use std::alloc::Global;
-use std::mem::replace;
+use std::alloc::{AllocError, Global};
 
 /// A longer text is put in several pieces.
 const PIECE: usize = 1_048_576;
@@ -56,7 +55,6 @@ pub(crate) fn put_plain<O: Output>(
 pub(crate) fn put_number<O: Output>(
     out: &mut O,
     text: &mut Vec<u8>,
-    alloc: Global,
     number: i64,
 ) -> Result<(), PutError>
     ensures put { OnOk result (PutsText O.keeps out.old text.old.items (number_text (of_integer number)) out.new text.new.items) }
@@ -64,7 +62,7 @@ pub(crate) fn put_number<O: Output>(
     ensures fails { IsErrOf result PutError.CannotWrite → (O.failures out.new ≢ O.failures out.old) ⊎ O.stuck out.new }
     ensures memory { IsErrOf result PutError.OutOfMemory → O.failures out.new ≡ O.failures out.old }
 {
-    append_number(text, alloc, number)?;
+    append_number(text, number)?;
     put_piece(out, text)
 }
 
@@ -101,23 +99,18 @@ pub(crate) fn put_characters<O: Output>(
 }
 
 /// Appends the digits of a number.
-fn append_number(text: &mut Vec<u8>, alloc: Global, number: i64) -> Result<(), Memory>
+fn append_number(text: &mut Vec<u8>, number: i64) -> Result<(), AllocError>
     ensures { OnOk result (text.new.items ≡ text.old.items ++ number_text (of_integer number)) }
 {
-    let mut writer = Writer::new(replace(text, Vec::new(alloc)));
-    let written = writer.i64(number);
-    *text = writer.into_inner();
-    written?;
-    Ok(())
+    text.extend_from_slice(Buffer::new().format(number).as_bytes())
 }
 
 /// Appends a quoted text.
-fn append_quoted(text: &mut Vec<u8>, alloc: Global, string: &str) -> Result<(), Memory>
+fn append_quoted(text: &mut Vec<u8>, alloc: Global, string: &str) -> Result<(), AllocError>
     ensures { OnOk result (text.new.items ≡ text.old.items ++ quoted string.now) }
 {
-    let mut writer = Writer::new(replace(text, Vec::new(alloc)));
-    let written = writer.string(string);
-    *text = writer.into_inner();
-    written?;
+    let mut writer = Writer::new(Vec::new(alloc));
+    writer.string(string)?;
+    text.extend_from_slice(&writer.into_inner())?;
     Ok(())
 }

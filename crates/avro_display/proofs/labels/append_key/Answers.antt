@@ -1,11 +1,10 @@
-use Rattle.std.proofs.Common.{ap, ◌∙◌}
-use Rattle.std.specs.Prelude.{vec_items}
+use Rattle.std.proofs.Common.{[], ◌++◌, ap, ◌∙◌}
 use Rattle.json.specs.Token.{Token}
 use Rattle.avro_display.proofs.Texts.{written_one}
 use Rattle.avro_display.proofs.labels.append_key.Goals as goal
 
 pub returns : goal.returns
 returns c =
-    written_one c.args.text.now.items c.key-written.new.self.before c.into_inner.result.items c.new-writer.result.tokens c.key-written.new.self.tokens (Token.key c.args.key.now)
-    (c.key-written.ensures.room.0 ∙ c.new-writer.ensures.before ∙ ap vec_items c.replace.ensures.value)
-    c.new-writer.ensures.tokens c.in_ok-written.ensures.ok c.into_inner.ensures.items
+    let written = written_one [] c.key.new.self.before c.into_inner.result.items c.new-writer.result.tokens c.key.new.self.tokens (Token.key c.args.key.now)
+        (c.key.ensures.room.0 ∙ c.new-writer.ensures.before ∙ c.new.ensures.items) c.new-writer.ensures.tokens c.in_ok-key.ensures.ok c.into_inner.ensures.items in
+    c.in_ok-extend_from_slice.ensures.items ∙ ap (λ w. c.args.text.now.items ++ w) (c.deref.ensures.value ∙ written)
