@@ -6,5 +6,5 @@ use Rattle.avro_display.proofs.labels.append_key.Goals as goal
 pub returns : goal.returns
 returns c =
     let written = written_one [] c.key.new.self.before c.into_inner.result.items c.new-writer.result.tokens c.key.new.self.tokens (Token.key c.args.key.now)
-        (c.key.ensures.room.0 ∙ c.new-writer.ensures.before ∙ c.new.ensures.items) c.new-writer.ensures.tokens c.in_ok-key.ensures.ok c.into_inner.ensures.items in
+    (c.key.ensures.room.0 ∙ c.new-writer.ensures.before ∙ c.new.ensures.items) c.new-writer.ensures.tokens c.in_ok-key.ensures.ok c.into_inner.ensures.items in
     c.in_ok-extend_from_slice.ensures.items ∙ ap (λ w. c.args.text.now.items ++ w) (c.deref.ensures.value ∙ written)
