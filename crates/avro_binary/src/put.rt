@@ -9,7 +9,8 @@ use avro_schema::Datum;
 use std::alloc::{AllocError, Global};
 
 /// A builder of data that may keep something as it goes: an output, for instance. A call is given the branch of a union
-/// that its datum goes into, if any: of the reader's, where data are read for a reader.
+/// that its datum goes into, if any: of the reader's, where data are read for a reader. Each is a
+/// [`Make`](crate::Make), too.
 ///
 /// A call fails only if memory runs out. What a result stands for is defined by its maker at that
 /// time; it is the same for every later maker that keeps it.
@@ -129,7 +130,12 @@ pub trait Put {
         ensures stands { IfOk result (λ out. stands_for self.new out (in_branch into (Value.enum index))) };
 
     /// Makes a union from the index of its branch and what was made of its value.
-    fn branch(&mut self, alloc: Global, index: u32, value: Self::Out) -> Result<Self::Out, AllocError>
+    fn branch(
+        &mut self,
+        alloc: Global,
+        index: u32,
+        value: Self::Out,
+    ) -> Result<Self::Out, AllocError>
         ensures kept { OnOk result (keeps self.old self.new) }
         ensures stays { (front : List ℕ) → begins self.old front → begins self.new front }
         ensures stands { (v : Value) → stands_for self.old value v → IfOk result (λ out. stands_for self.new out (Value.union index v)) };

@@ -150,7 +150,11 @@ impl Appending {
 
     /// Writes a length, and the bytes.
     #[inline(always)]
-    pub(crate) fn measured(&mut self, branch: Option<u32>, content: &[u8]) -> Result<Written, AllocError>
+    pub(crate) fn measured(
+        &mut self,
+        branch: Option<u32>,
+        content: &[u8],
+    ) -> Result<Written, AllocError>
         ensures kept { OnOk result (Grows self.old self.new) }
         ensures holds { IfOk result (λ out. Holds self.new out (branch_bytes branch ++ plain_bytes content.now)) }
         ensures stays { (front : List ℕ) → Grows front self.old → Grows front self.new }

@@ -192,12 +192,7 @@ impl Put for Appending {
     }
 
     #[inline(always)]
-    fn branch(
-        &mut self,
-        alloc: Global,
-        index: u32,
-        value: Written,
-    ) -> Result<Written, AllocError> {
+    fn branch(&mut self, alloc: Global, index: u32, value: Written) -> Result<Written, AllocError> {
         let mut out = self.number(None, i64::from(index))?;
         join(alloc, &self.out, &mut self.spares, &mut out, value)?;
         Ok(out)

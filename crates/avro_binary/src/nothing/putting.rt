@@ -127,12 +127,7 @@ impl Put for Nothing {
         true
     }
 
-    fn array(
-        &mut self,
-        _alloc: Global,
-        _into: Option<u32>,
-        _items: (),
-    ) -> Result<(), AllocError> {
+    fn array(&mut self, _alloc: Global, _into: Option<u32>, _items: ()) -> Result<(), AllocError> {
         Ok(())
     }
 
