@@ -9,8 +9,7 @@ use avro_schema::Datum;
 use std::alloc::{AllocError, Global};
 
 /// A builder of data that may keep something as it goes: an output, for instance. A call is given the branch of a union
-/// that its datum goes into, if any: of the reader's, where data are read for a reader. Each is a
-/// [`Make`](crate::Make), too.
+/// that its datum goes into, if any: of the reader's, where data are read for a reader.
 ///
 /// A call fails only if memory runs out. What a result stands for is defined by its maker at that
 /// time; it is the same for every later maker that keeps it.

@@ -1,4 +1,4 @@
-//! What puts data makes them as they are read.
+//! Whatever puts data makes them as they are read.
 
 use crate::make::Make;
 use crate::put::Put;
