@@ -17,7 +17,7 @@ SYNC = bytes(range(16))
 class Row:
     """A command, its files and what is on its standard input, what it prints and writes, and its status."""
 
-    def __init__(self, name, words, files, out="", err="", status=0, written=None, behind=None, given=None):
+    def __init__(self, name, words, files, out="", err="", status=0, written=None, behind=None, given=None, is_long=False):
         self.name = name
         self.words = words.split(" ")
         self.files = {file: text.encode() if isinstance(text, str) else text for file, text in files.items()}
@@ -30,6 +30,8 @@ class Row:
         self.behind = behind
         # The bytes on standard input, or None where there are none.
         self.given = given
+        # Whether it prints so much that no run of it moves a byte at a time.
+        self.is_long = is_long
 
     def write_files(self, names):
         """Writes those of its files that have these names."""
@@ -97,6 +99,12 @@ def schema_rows():
         yield Row(f"schema refused {name}", "schema f.avsc", {"f.avsc": text}, err=f"avro: f.avsc: {code}\n", status=3)
 
 
+FIXEDS = (
+    '{"type":"record","name":"W","fields":[{"name":"f","type":{"type":"fixed","name":"F","size":200000}},'
+    '{"name":"g","type":"F"},{"name":"z","type":"%s"}]}'
+)
+
+
 def judge_rows():
     """Verdicts and their files."""
     ints = {"int.avsc": '"int"', "long.avsc": '"long"'}
@@ -118,6 +126,14 @@ def judge_rows():
     file = header('"int"', sync, codec=True) + block(1, b"\0", sync)
     no = "no\nfault NoMatch at /\nnodes 1\ndatum 0\n"
     yield Row("judge refutation", "judge w.avsc r.avsc --refutation o.avro", strings, no, status=1, written={"o.avro": file})
+    fixeds = {"w.avsc": FIXEDS % "string", "r.avsc": FIXEDS % "int"}
+    zeros = "\\u0000" * 200_000
+    datum = f'{{"f":"{zeros}","g":"{zeros}","z":""}}'
+    no = f"no\nfault NoMatch at /2\nnodes 4\ndatum {datum}\n"
+    yield Row("judge long datum", "judge w.avsc r.avsc", fixeds, no, status=1, is_long=True)
+    fault = '{"kind":"NoMatch","path":[2],"at":"$.z"}'
+    no = f'{{"verdict":"no","fault":{fault},"nodes":4,"datum":{datum}}}\n'
+    yield Row("judge json long datum", "judge w.avsc r.avsc --json", fixeds, no, status=1, is_long=True)
 
 
 def option_rows():
@@ -207,6 +223,10 @@ def reading_rows():
     yield Row("check nulls", "check f.avro", files, "data 3 blocks 1\n")
     yield Row("check json", "check f.avro --json", files, '{"file":"f.avro","data":3,"blocks":1}\n')
     yield Row("show limit", "show f.avro --limit 2", files, "null\nnull\n")
+    long = ["a" * 1_500_000, "b", "c" * 1_100_000]
+    data = b"".join(text_bytes(text) for text in long)
+    lines = "".join(f'"{text}"\n' for text in long)
+    yield Row("show long lines", "show f.avro", {"f.avro": header('"string"') + block(3, data)}, lines, is_long=True)
     broken = header('"int"') + block(1, b"\x0a") + number(2) + number(1) + b"\x0a" + SYNC
     text = "avro: f.avro: C10 block 1 datum 1: B1 at 1\n"
     yield Row("check refused", "check f.avro", {"f.avro": broken}, err=text, status=3)

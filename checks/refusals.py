@@ -131,12 +131,13 @@ def sweep(row, program, library, kind, short):
 
 def runs_of(row, program, library):
     """All runs of a row."""
-    for short in (False, True):
+    shorts = (False,) if row.is_long else (False, True)
+    for short in shorts:
         yield "whole" if not short else "short", Run(row, program, library, "", short)
     for kind in ("memory", "open"):
         yield from sweep(row, program, library, kind, False)
     for kind in ("read", "write", "nothing"):
-        for short in (False, True):
+        for short in shorts:
             yield from sweep(row, program, library, kind, short)
 
 
