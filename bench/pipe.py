@@ -188,7 +188,7 @@ def measure(program: str, folder: str, kind: str, given: argparse.Namespace) -> 
         for what, at in ("`copy`", 0), ("`pipe < IN > OUT`", 1):
             are_good &= tell(case, what, given.compared, [pair[at] for pair in pairs], given.peak)
         stream = between_pipes(starter, program, case, given.megabytes)
-        are_good &= tell(case, "`.. \\| pipe \\| ..`", given.megabytes, [stream], given.peak)
+        are_good &= tell(case, "`pipe` between two pipes", given.megabytes, [stream], given.peak)
     return are_good
 
 
