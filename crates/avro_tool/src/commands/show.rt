@@ -212,7 +212,7 @@ fn show_block<'a, O: Write>(
     Ok(())
 }
 
-/// Puts the line of a datum, or holds it. After an error only whole lines are held.
+/// Puts the line of a datum, or holds it. After an error what is held goes on where what was put ends.
 fn put_line<'a, O: Write>(
     alloc: Global,
     lines: &mut Lines<'_, O>,
