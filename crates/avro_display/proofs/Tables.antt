@@ -37,9 +37,6 @@ one_more P xs new x m pushed (count, all) last =
 pub no_node : (nodes : List Node) (k : ℕ) → length nodes ≤ k → node_at nodes k ≡ Node.null
 no_node nodes k past = rw (slice_get_past nodes k past) refl
 
-pub none_ordered : AreMembers [] []
-none_ordered = record { order = λ tree. refl; each = tt }
-
 -- ---- the order of keys
 
 abbrev key_cmp : Bor (List ℕ) → Bor (List ℕ) → Ordering
@@ -90,9 +87,6 @@ key_here es i e k within has =
 pub names_end : (fs : List Field) (i : ℕ) → length fs ≤ i → names_past fs i ≡ []
 names_end fs i past = ap (λ l. map (λ (f : FieldNode). f.name) (seen_fields l)) (drop_all i fs past)
 
-pub keys_end : (es : List (String Global × Datum)) (i : ℕ) → length es ≤ i → keys_past es i ≡ []
-keys_end es i past = ap (λ l. keys_of (entries_of l)) (drop_all i es past)
-
 -- ---- members in an order
 
 pub each_push : (fields : List FieldNode) (ms : List Member) (m : Member) → AllByRecursion (IsMember fields) ms → IsMember fields m → AllByRecursion (IsMember fields) (ms ++ m ∷ [])
@@ -111,14 +105,6 @@ moved (z ∷ xs) x ys = ap (λ l. z ∷ l) (moved xs x ys)
 pub record AreMade (fields : List FieldNode) (all left : List (Bor (List ℕ) × ℕ)) (ms : List Member) : Type 0 where
   pub places : map place_of ms ++ map seen_place left ≡ map seen_place all
   pub each : AllByRecursion (IsMember fields) ms
-
-pub made_more : (fields : List FieldNode) (all left rest : List (Bor (List ℕ) × ℕ)) (ms new : List Member) (m : Member) (e : Bor (List ℕ) × ℕ) → left ≡ e ∷ rest → new ≡ ms ++ m ∷ []
-    → place_of m ≡ seen_place e → IsMember fields m → AreMade fields all left ms → AreMade fields all rest new
-made_more fields all left rest ms new m e is pushed place good have = subst (AreMade fields all rest) (sym pushed) (record {
-  places = ap (λ l. l ++ map seen_place rest) (places_push ms m ∙ ap (λ p. map place_of ms ++ p ∷ []) place) ∙ moved (map place_of ms) (seen_place e) (map seen_place rest)
-      ∙ ap (λ l. map place_of ms ++ map seen_place l) (sym is) ∙ have.places;
-  each = each_push fields ms m have.each good;
-})
 
 pub made_all : (fields : List FieldNode) (all left : List (Bor (List ℕ) × ℕ)) (ms : List Member) → left ≡ [] → AreMade fields all left ms
     → IsOrder (map (λ f. f.name) fields) (map seen_place all) → AreMembers fields ms

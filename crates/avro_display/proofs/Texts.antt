@@ -58,10 +58,6 @@ branch_opened (Node.record_of name aliases fields) d o is = opened (branch_key (
 branch_opened (Node.enum name aliases symbols default) d o is = opened (branch_key (Node.enum name aliases symbols default)) d o is
 branch_opened (Node.fixed name aliases count) d o is = opened (branch_key (Node.fixed name aliases count)) d o is
 
-pub branch_null : (n : Node) (d : Data) → None ≡ opening_of n → compact_text (branch_tree n d) ≡ codes "null"
-branch_null Node.null d is = refl
-branch_null _ d is = absurd (cc (is))
-
 -- a separator and a head, and then the tail
 pub apart : (text separator head next left tail : List ℕ) → next ≡ text ++ (separator ++ head) → left ≡ separator ++ (head ++ tail) → text ++ left ≡ next ++ tail
 apart text separator head next left tail has is =

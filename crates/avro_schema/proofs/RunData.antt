@@ -44,11 +44,6 @@ behind P [] last all is (suc k) x at = cc
 behind P (y ∷ ys) last all is zero x at = all zero x at
 behind P (y ∷ ys) last all is (suc k) x at = behind (λ i z. P (suc i) z) ys last (λ i z h. all (suc i) z h) is k x at
 
--- an entry of no fields behind others
-pub none_behind : (nodes : List Node) (ids : List ℕ) (runs : List EmptyFields) (none : EmptyFields) → ((rest : List ℕ) → is_run nodes rest none ≡ true)
-    → AreRuns nodes ids runs → AreRuns nodes ids (runs ++ none ∷ [])
-none_behind nodes ids runs none is are = behind (λ k run. is_run nodes (drop k ids) run ≡ true) runs none are (is (drop (length runs) ids))
-
 -- what a run says of its fields
 pub run_shown : (nodes : List Node) (ids : List ℕ) (run : EmptyFields) → is_run nodes ids run ≡ true → StartWithEmpties nodes ids run
 run_shown nodes ids run h =

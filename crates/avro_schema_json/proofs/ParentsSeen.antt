@@ -30,12 +30,6 @@ bit-kept words w old bits p below at h = by (p / 64 == w) refl
 pub bit-same : (words more : List ℕ) (p : ℕ) → ((k : ℕ) → get_or more k 0 ≡ get_or words k 0) → has_bit words p → has_bit more p
 bit-same words more p same h = of-bit more p (rw (same (p / 64)) (bit-of words p h))
 
-pub zero-more : (words : List ℕ) (k : ℕ) → get_or (words ++ 0 ∷ []) k 0 ≡ get_or words k 0
-zero-more [] zero = refl
-zero-more [] (suc k) = refl
-zero-more (w ∷ words) zero = refl
-zero-more (w ∷ words) (suc k) = zero-more words k
-
 -- ---- labels
 
 pub label-kept : (old new : BTreeMap (Bor (List ℕ)) ℕ) (name : List ℕ) (label : ℕ) → label_of old name ≡ None

@@ -188,12 +188,6 @@ module _ (nodes : ℕ) where
   pub head_part : IsPart (IsHeadOrEnd nodes) (HeadBreaks nodes)
   head_part = record { one = head-one; excludes = head-excludes nodes; one_fault = head-one_fault nodes }
 
-abbrev head_answer : Option Block → Result (Option Block) ReadError
-head_answer block = Ok block
-
-abbrev head_error : ReadError → Result (Option Block) ReadError
-head_error e = Err e
-
 -- a head that is at the front is returned
 pub head_found : (before after : CursorValue) (head : Option Head) (block : Option Block) (front : List ℕ) → IsHeadOrEnd before.nodes head front
     → Passes before front after → IsBlockOrEnd before.offset head block → ReadsHead before after (Ok block)
