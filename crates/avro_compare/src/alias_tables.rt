@@ -4,13 +4,11 @@ ghost use Rattle.avro_schema.specs.Node.{node_at};
 ghost use Rattle.avro_schema.specs.Seen.{field_of, seen_fields, texts_of};
 ghost use Rattle.avro_schema.specs.SeenSchema.{schema_nodes};
 ghost use Rattle.avro_compare.specs.inside.AliasTables.{AreAliasTables, HasAliasTable, field_in, nearer};
-ghost use Rattle.avro_compare.specs.inside.NameTables.{AreFieldTables};
 ghost use Rattle.avro_compare.specs.Planned.{FindsSymbols};
 ghost use Rattle.avro_compare.specs.Resolve.{fields_at};
 ghost use Rattle.avro_compare.specs.Source.{first_index, source_of};
 
 use crate::by_node::FEWEST;
-use crate::field_tables::source_by;
 use crate::naming::symbol_names;
 use crate::sourcing::{fields_of, index_named};
 use crate::symbols::index_by_name;
@@ -90,35 +88,30 @@ fn table_at<'t, T>(tables: &'t [((NodeId, usize), T)], id: NodeId, index: usize)
     }
 }
 
-/// The index of the field of a writer's record that a reader's field takes its value from. The reader's field is at an
-/// index of a record, by which its aliases may have a table. Either the aliases are gone through or the writer's
-/// fields, whichever are fewer.
-pub(crate) fn source_by_index(
-    fields: &[(NodeId, BTreeMap<&str, usize>)],
-    aliases: &[((NodeId, usize), BTreeMap<&str, usize>)],
-    writer: &Schema,
-    w: NodeId,
-    reader: &Schema,
+/// The index of the writer's field that a reader's field takes its value from, found by the table of the aliases of the
+/// reader's field, where it has one and there are fewer fields than aliases. The reader's field is at an index of a record.
+pub(crate) fn source_by_table(
+    tables: &[((NodeId, usize), BTreeMap<&str, usize>)],
+    _reader: &Schema,
     r: NodeId,
     index: usize,
+    writes: &[Field],
     field: &Field,
-) -> Option<usize>
-    requires fields { AreFieldTables (schema_nodes writer.now) fields.now }
-    requires aliases { AreAliasTables (schema_nodes reader.now) aliases.now }
-    requires there { slice_get (fields_at (node_at (schema_nodes reader.now) r.0)) index ≡ Some (field_of field.now) }
-    ensures { result ≡ source_of (fields_at (node_at (schema_nodes writer.now) w.0)) (field_of field.now) }
+) -> Option<Option<usize>>
+    requires tables { AreAliasTables (schema_nodes _reader.now) tables.now }
+    requires there { slice_get (fields_at (node_at (schema_nodes _reader.now) r.0)) index ≡ Some (field_of field.now) }
+    ensures { IfSome result (λ source. source ≡ source_of (seen_fields writes.now) (field_of field.now)) }
 {
-    let writes = fields_of(writer, w);
     if writes.len() >= field.aliases.len() {
-        return source_by(fields, writer, w, field);
+        return None;
     }
-    match table_at(aliases, r, index) {
-        Some(first) => source_by_aliases(first, writes, field),
-        None => source_by(fields, writer, w, field),
+    match table_at(tables, r, index) {
+        Some(first) => Some(source_by_aliases(first, writes, field)),
+        None => None,
     }
 }
 
-/// The same, by the table of the aliases of the reader's field.
+/// The same, given the table.
 fn source_by_aliases(
     first: &BTreeMap<&str, usize>,
     writes: &[Field],

@@ -1,9 +1,10 @@
-use crate::alias_tables::{alias_tables, source_by_index};
+use crate::alias_tables::{alias_tables, source_by_table};
 use crate::field_tables::{field_tables, source_by};
 use crate::guided::Aim;
 use crate::name_numbers::NameNumbers;
 use crate::numbering::{name_numbers, no_numbers};
 use crate::pairs::{aim_after, first_match_after};
+use crate::sourcing::fields_of;
 use crate::symbol_tables::{symbol_by, symbol_tables};
 use crate::symbols::text_of;
 use crate::union_tables::{start_by, union_tables};
@@ -133,16 +134,11 @@ impl<'a> Names<'a> {
         requires { slice_get (fields_at (node_at (schema_nodes self.now.1) r.0)) index ≡ Some (field_of field.now) }
         ensures { result ≡ source_of (fields_at (node_at (schema_nodes self.now.0) w.0)) (field_of field.now) }
     {
-        source_by_index(
-            &self.fields,
-            &self.aliases,
-            self.writer,
-            w,
-            self.reader,
-            r,
-            index,
-            field,
-        )
+        let writes = fields_of(self.writer, w);
+        match source_by_table(&self.aliases, self.reader, r, index, writes, field) {
+            Some(source) => source,
+            None => self.source(w, field),
+        }
     }
 
     /// The index of a symbol of a reader's enum, or of its default; none at another reader's node.
