@@ -223,9 +223,12 @@ def instructions(program, folder, *kinds):
     for kind in kinds or KINDS:
         source = os.path.join(folder, f"{kind}.avro")
         write(kind, source, FEW_MEGABYTES)
-        for name, ours, by_c, _ in commands(program, folder, kind, source):
+        for name, ours, by_c, made in commands(program, folder, kind, source):
             count, c_count = instructions_of(ours), instructions_of(by_c)
             print(f"| {kind} | {name} | {count / 1e6:.0f} million | {c_count / 1e6:.0f} million | {count / c_count:.2f} |", flush=True)
+            # A file that is there would be read, to see whether it is a schema.
+            for file in made or ():
+                os.remove(file)
 
 
 def large(program, folder):

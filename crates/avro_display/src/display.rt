@@ -1,5 +1,5 @@
-ghost use Rattle.std.specs.Prelude.{◌≡◌, ◌≢◌, ◌⊎◌, ◌++◌, ◌≤◌, List, length, codes, map, option_map, string_bytes, IfOk, OnOk, IsErrOf};
-ghost use Rattle.avro_schema.specs.Node.{FieldNode, node_at};
+ghost use Rattle.std.specs.Prelude.{◌≡◌, ◌≢◌, ◌⊎◌, ◌++◌, ◌≤◌, [], ◌∷◌, List, length, codes, map, option_map, string_bytes, IfOk, OnOk, IsErrOf};
+ghost use Rattle.avro_schema.specs.Node.{FieldNode, node_at, root_of};
 ghost use Rattle.avro_schema.specs.Seen.{value_of, values_of, entries_of};
 ghost use Rattle.avro_schema.specs.SeenSchema.{schema_nodes};
 ghost use Rattle.avro_schema.specs.Value.{keys_of};
@@ -100,6 +100,35 @@ pub fn put_display<O: Output>(
     ensures memory { IsErrOf result PutError.OutOfMemory → O.failures out.new ≡ O.failures out.old }
 {
     put_part(out, text, alloc, table, Some(node), datum)
+}
+
+/// Does the same for the line of a datum of the schema: its display and a line feed.
+///
+/// # Errors
+///
+/// Those of [`put_display`].
+pub fn put_line<O: Output>(
+    out: &mut O,
+    text: &mut Vec<u8>,
+    alloc: Global,
+    table: &DisplayTable<'_>,
+    datum: &Datum,
+) -> Result<(), PutError>
+    ensures put { OnOk result (PutsText O.keeps out.old text.old.items
+        (display_text (schema_nodes table.now) (root_of (schema_nodes table.now)) (value_of datum.now) ++ 10 ∷ []) out.new text.new.items) }
+    ensures works { OnOk result (O.failures out.new ≡ O.failures out.old) }
+    ensures fails { IsErrOf result PutError.CannotWrite → (O.failures out.new ≢ O.failures out.old) ⊎ O.stuck out.new }
+    ensures memory { IsErrOf result PutError.OutOfMemory → O.failures out.new ≡ O.failures out.old }
+{
+    put_display(
+        &mut *out,
+        &mut *text,
+        alloc,
+        table,
+        table.schema().root(),
+        datum,
+    )?;
+    put_plain(out, text, b"\n")
 }
 
 /// Puts the display of a datum of a node, or of null if there is no node.

@@ -3,7 +3,7 @@
 //! The form is this project's own, not part of the Avro specification: the value of a union is an object
 //! whose key is its branch, except for null, and bytes are a string of one character per byte.
 //!
-//! A display goes out in pieces ([`put_display`]), so that nothing holds all of it; [`show`] returns it as one text.
+//! A display goes out in pieces ([`put_display`], [`put_line`]), so that nothing holds all of it; [`show`] returns it as one text.
 #![tactic(auto)]
 
 mod display;
@@ -15,7 +15,7 @@ mod pieces;
 mod put_error;
 mod table;
 
-pub use display::{put_display, show};
+pub use display::{put_display, put_line, show};
 pub use member::Member;
 pub use put_error::PutError;
 pub use table::DisplayTable;

@@ -1,12 +1,13 @@
 //! The maker that appends the plain encoding of what is read.
 
-ghost use Rattle.std.specs.Prelude.{◌≡◌, ◌++◌, [], ◌∷◌, List, ℕ, IfOk, OnOk, OnErr, length, pos};
+ghost use Rattle.std.specs.Prelude.{◌≡◌, ◌++◌, [], ◌∷◌, ◌<◌, List, ℕ, IfNone, IfOk, OnOk, OnErr, length, pos};
+ghost use Rattle.std.specs.Option.{IfSome};
 ghost use Rattle.avro_zigzag.specs.Number.{number_bytes};
 ghost use Rattle.avro_cursor.specs.Encoding.{plain_bytes, plain_blocks};
 ghost use Rattle.avro_packed.specs.Appended.{AppendsWithin, Grows, Holds, branch_bytes};
 
 use crate::gathered::Gathered;
-use crate::moving::{append_written, closed, fits_behind, give_back};
+use crate::moving::{append_written, closed, give_back, is_past, is_within};
 use crate::numbers::{append_byte, append_number};
 use crate::written::{Apart, Written};
 use std::alloc::{AllocError, Global};
@@ -49,7 +50,7 @@ impl Appending {
     }
 
     /// Empties the output.
-    pub fn clear(&mut self)
+    pub(crate) fn clear(&mut self)
         ensures { self.new ≡ [] }
     {
         self.out.clear();
@@ -63,26 +64,45 @@ impl Appending {
         self.most = most;
     }
 
-    /// Appends to other bytes what was written, unless they would be more than `most`. Returns whether they were not.
+    /// Appends to other bytes what was written, unless they would be more than `most`. Returns whether they were not, or `None`
+    /// for what was only counted, and would fit.
     ///
     /// # Errors
     ///
     /// Memory ran out; they are as they were.
-    pub fn append(
+    pub(crate) fn append(
         &self,
         written: &Written,
         most: usize,
         to: &mut Vec<u8>,
-    ) -> Result<bool, AllocError>
-        ensures appended { (bytes : List ℕ) → Holds self.now written.now bytes → IfOk result (λ fits. AppendsWithin most to.old.items to.new.items bytes fits) }
+    ) -> Result<Option<bool>, AllocError>
+        ensures appended { (bytes : List ℕ) → Holds self.now written.now bytes → IfOk result (λ told. IfSome told (λ fits. AppendsWithin most to.old.items to.new.items bytes fits)) }
+        ensures none { IfOk result (λ told. IfNone told (to.new.items ≡ to.old.items)) }
         ensures unchanged { OnErr result (to.new.items ≡ to.old.items) }
     {
         let end = to.len();
-        if !fits_behind(end, written, most)? {
-            return Ok(false);
+        match written {
+            Written::Range(_, _) => self.append_kept(written, most, to),
+            Written::Apart(_) => self.append_kept(written, most, to),
+            Written::Counted(count) => Ok(is_past(end, *count, most).then_some(false)),
         }
+    }
+
+    /// The same for what was kept.
+    #[inline(always)]
+    fn append_kept(
+        &self,
+        written: &Written,
+        most: usize,
+        to: &mut Vec<u8>,
+    ) -> Result<Option<bool>, AllocError>
+        ensures appended { (bytes : List ℕ) → Holds self.now written.now bytes → IfOk result (λ told. IfSome told (λ fits. AppendsWithin most to.old.items to.new.items bytes fits)) }
+        ensures none { IfOk result (λ told. IfNone told (to.new.items ≡ to.old.items)) }
+        ensures unchanged { OnErr result (to.new.items ≡ to.old.items) }
+    {
+        let end = to.len();
         match append_written(&self.out, written, to) {
-            Ok(()) => Ok(true),
+            Ok(()) => Ok(Some(is_within(to, end, most))),
             Err(_) => {
                 to.truncate(end);
                 Err(AllocError)
@@ -91,7 +111,7 @@ impl Appending {
     }
 
     /// Keeps the room of what was written for later.
-    pub fn keep_room(&mut self, written: Written)
+    pub(crate) fn keep_room(&mut self, written: Written)
         ensures { self.new ≡ self.old }
     {
         give_back(&mut self.spares, written);
@@ -118,22 +138,7 @@ impl Appending {
         ensures holds { (before bytes : List ℕ) → self.old ≡ before ++ bytes → start ≡ length before → Holds self.new result bytes }
         ensures kept { (before bytes : List ℕ) → self.old ≡ before ++ bytes → start ≡ length before → Grows before self.new }
     {
-        if start > self.most {
-            return self.count_since(start);
-        }
-        Written::Range(start, self.out.len())
-    }
-
-    /// Takes back what was written from an offset on, and counts it.
-    #[inline(never)]
-    fn count_since(&mut self, start: usize) -> Written
-        ensures holds { (before bytes : List ℕ) → self.old ≡ before ++ bytes → start ≡ length before → Holds self.new result bytes }
-        ensures back { (before bytes : List ℕ) → self.old ≡ before ++ bytes → start ≡ length before → self.new ≡ before }
-        ensures kept { (before bytes : List ℕ) → self.old ≡ before ++ bytes → start ≡ length before → Grows before self.new }
-    {
-        let count = self.out.len().saturating_sub(start);
-        self.out.truncate(start);
-        Written::Counted(count)
+        written_since(&mut self.out, start, self.most)
     }
 
     /// Writes a number.
@@ -211,4 +216,28 @@ impl Appending {
             Err(_) => Err(AllocError),
         }
     }
+}
+
+/// What was written from an offset on. Behind the limit it is taken back, and counted.
+#[inline(always)]
+fn written_since(out: &mut Vec<u8>, start: usize, most: usize) -> Written
+    ensures holds { (before bytes : List ℕ) → out.old.items ≡ before ++ bytes → start ≡ length before → Holds out.new.items result bytes }
+    ensures kept { (before bytes : List ℕ) → out.old.items ≡ before ++ bytes → start ≡ length before → Grows before out.new.items }
+    ensures back { (before bytes : List ℕ) → out.old.items ≡ before ++ bytes → start ≡ length before → most < start → out.new.items ≡ before }
+{
+    if start > most {
+        return count_since(out, start);
+    }
+    Written::Range(start, out.len())
+}
+
+/// Takes back what was written from an offset on, and counts it.
+#[inline(never)]
+fn count_since(out: &mut Vec<u8>, start: usize) -> Written
+    ensures holds { (before bytes : List ℕ) → out.old.items ≡ before ++ bytes → start ≡ length before → Holds out.new.items result bytes }
+    ensures back { (before bytes : List ℕ) → out.old.items ≡ before ++ bytes → start ≡ length before → out.new.items ≡ before }
+{
+    let count = out.len().saturating_sub(start);
+    out.truncate(start);
+    Written::Counted(count)
 }

@@ -3,7 +3,7 @@
 ghost use Rattle.std.specs.Prelude.{◌≡◌, ◌++◌, ◌+◌, ◌<◌, ◌≤◌, [], ◌∷◌, List, ℕ, true, false, length, IfOk, OnOk};
 ghost use Rattle.std.specs.Option.{IfSome};
 ghost use Rattle.avro_cursor.specs.Encoding.{plain_bytes};
-ghost use Rattle.avro_packed.specs.Appended.{Grows, Holds, StandsAt};
+ghost use Rattle.avro_packed.specs.Appended.{AppendsWithin, Grows, Holds, StandsAt};
 
 use crate::numbers::{append_byte, append_number};
 use crate::spares::{give, room};
@@ -88,19 +88,23 @@ fn size(written: &Written) -> Option<usize>
     }
 }
 
-/// Whether what was written, behind so many bytes, is not more than `most`.
-///
-/// # Errors
-///
-/// No machine number counts it.
-pub(crate) fn fits_behind(end: usize, written: &Written, most: usize) -> Result<bool, AllocError>
-    ensures within { (out bytes : List ℕ) → Holds out written.now bytes → IfOk result (λ fits. fits ≡ true → end + length bytes ≤ most) }
-    ensures over { (out bytes : List ℕ) → Holds out written.now bytes → IfOk result (λ fits. fits ≡ false → most < end + length bytes) }
+/// Takes back what was appended behind the end that an output had, where it is then longer than `most`. Returns whether it is not.
+#[inline(always)]
+pub(crate) fn is_within(out: &mut Vec<u8>, end: usize, most: usize) -> bool
+    ensures { (old bytes : List ℕ) → out.old.items ≡ old ++ bytes → end ≡ length old → AppendsWithin most old out.new.items bytes result }
 {
-    match size(written) {
-        Some(size) => Ok(end <= most && size <= most - end),
-        None => Err(AllocError),
+    if out.len() <= most {
+        return true;
     }
+    out.truncate(end);
+    false
+}
+
+/// Whether an output would be longer than `most` with so many bytes more behind its end.
+pub(crate) fn is_past(end: usize, count: usize, most: usize) -> bool
+    ensures past { result ≡ true → most < end + count }
+{
+    end > most || count > most - end
 }
 
 /// Whether these are no bytes, where none is apart.
@@ -246,15 +250,21 @@ fn is_counted(written: &Written) -> bool {
 const FEW: usize = 8;
 
 /// What was written, at the end of the output where this ends with what was written before: a few bytes are copied there, so that the
-/// two need no room of their own.
+/// two need no room of their own. An output that is longer than `most` gets no longer.
 #[inline(always)]
-fn brought(out: &mut Vec<u8>, before: &Written, written: Written) -> Result<Written, AllocError>
+fn brought(
+    out: &mut Vec<u8>,
+    most: usize,
+    before: &Written,
+    written: Written,
+) -> Result<Written, AllocError>
     ensures kept { OnOk result (Grows out.old.items out.new.items) }
     ensures stays { (front : List ℕ) → Grows front out.old.items → Grows front out.new.items }
     ensures holds { (bytes : List ℕ) → Holds out.old.items written bytes → IfOk result (λ it. Holds out.new.items it bytes) }
+    ensures past { most < length out.old.items → out.new.items ≡ out.old.items }
 {
     let len = out.len();
-    if !ends_at(before, len) {
+    if len > most || !ends_at(before, len) {
         return Ok(written);
     }
     match written {
@@ -298,6 +308,7 @@ fn copied(out: &mut Vec<u8>, start: usize, end: usize) -> Result<Written, AllocE
 pub(crate) fn join_near(
     alloc: Global,
     out: &mut Vec<u8>,
+    most: usize,
     spares: &mut Vec<Box<Apart>>,
     first: &mut Written,
     second: Written,
@@ -305,11 +316,12 @@ pub(crate) fn join_near(
     ensures kept { OnOk result (Grows out.old.items out.new.items) }
     ensures stays { (front : List ℕ) → Grows front out.old.items → Grows front out.new.items }
     ensures joined { (a b : List ℕ) → Holds out.old.items first.old a → Holds out.old.items second b → OnOk result (Holds out.new.items first.new (a ++ b)) }
+    ensures past { most < length out.old.items → out.new.items ≡ out.old.items }
 {
     if extend(first, &second) {
         return Ok(());
     }
-    let near = brought(out, first, second)?;
+    let near = brought(out, most, first, second)?;
     join(alloc, out, spares, first, near)
 }
 

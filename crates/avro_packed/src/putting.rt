@@ -307,7 +307,14 @@ impl Put for Appending {
         fields: &mut Written,
         value: Written,
     ) -> Result<(), AllocError> {
-        join_near(alloc, &mut self.out, &mut self.spares, fields, value)
+        join_near(
+            alloc,
+            &mut self.out,
+            self.most,
+            &mut self.spares,
+            fields,
+            value,
+        )
     }
 
     fn empty_fields(&self, _fields: &mut Written, _count: u32) -> bool {

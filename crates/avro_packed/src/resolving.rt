@@ -1,6 +1,6 @@
 //! Reading a datum for a reader, and appending its plain encoding.
 
-ghost use Rattle.std.specs.Prelude.{◌≡◌, ℕ, Ok, Err, IfOk, OnErr};
+ghost use Rattle.std.specs.Prelude.{◌≡◌, ℕ, Ok, Err, IfNone, IfOk, OnErr};
 ghost use Rattle.std.specs.Option.{IfSome};
 ghost use Rattle.avro_schema.specs.Node.{root_of};
 ghost use Rattle.avro_schema.specs.SeenSchema.{schema_nodes};
@@ -8,13 +8,12 @@ ghost use Rattle.avro_schema.specs.Value.{Value};
 ghost use Rattle.avro_cursor.specs.Breaks.{Breaks};
 ghost use Rattle.avro_cursor.specs.Encoding.{plain};
 ghost use Rattle.avro_cursor.specs.Seen.{read_fault};
-ghost use Rattle.avro_resolve.specs.Reading.{ReadsAs, BuildsResolved};
-ghost use Rattle.avro_packed.specs.Appended.{AppendsWithin, Holds};
+ghost use Rattle.avro_resolve.specs.Reading.{ReadsAs};
+ghost use Rattle.avro_packed.specs.Appended.{AppendsWithin};
 ghost use Rattle.avro_compare.specs.Seen.{fault_of};
 ghost use Rattle.avro_resolve.specs.Seen.{IfUnread, IfUnresolved};
 
 use crate::appending::Appending;
-use crate::written::Written;
 use avro_binary::ReadError;
 use avro_resolve::{PlanRef, ReadResolveError};
 use avro_schema::Limits;
@@ -42,51 +41,45 @@ pub fn append_resolved(
     ensures faulty { IfUnresolved result (λ f. (len : ℕ) × ReadsAs (schema_nodes plan.now.0) (schema_nodes plan.now.1) limits.now bytes.now len (Err (fault_of f))) }
     ensures refused { IfUnread result (λ e. IfSome (read_fault e) (Breaks (schema_nodes plan.now.0) limits.now (root_of (schema_nodes plan.now.0)) bytes.now)) }
 {
-    let left = most.saturating_sub(out.len());
-    match put_within(alloc, plan, bytes, limits, left, room) {
-        Ok((written, len)) => match room.append(&written, most, out) {
-            Ok(fits) => {
-                room.keep_room(written);
-                Ok((fits, len))
-            }
-            Err(_) => Err(ReadResolveError::Read(ReadError::OutOfMemory)),
-        },
-        Err(error) => Err(error),
+    // Bytes that are in no result may pass the limit alone: then the datum is put again, and all of them are kept.
+    let kept = [most.saturating_sub(out.len()), usize::MAX];
+    for keep in &kept {
+        room.keep_at_most(*keep);
+        match append_put(alloc, plan, bytes, limits, most, room, out) {
+            Ok((Some(fits), len)) => return Ok((fits, len)),
+            Ok((None, _)) => {}
+            Err(error) => return Err(error),
+        }
     }
+    Err(ReadResolveError::Read(ReadError::OutOfMemory))
 }
 
-/// Puts what a writer's datum is for the reader into an empty output, and only counts what is past `most` bytes of this. The output
-/// may have bytes that are in no result. Where these alone passed `most`, the datum is put again, and all of it is kept.
-fn put_within(
+/// The same, where the room says how many bytes are kept; `None` where what was only counted would fit.
+fn append_put(
     alloc: Global,
     plan: &PlanRef<'_>,
     bytes: &[u8],
     limits: &Limits,
     most: usize,
     room: &mut Appending,
-) -> Result<(Written, usize), ReadResolveError>
-    ensures { BuildsResolved (λ out v. Holds room.new out (plain v)) (schema_nodes plan.now.0) (schema_nodes plan.now.1) limits.now bytes.now result }
+    out: &mut Vec<u8>,
+) -> Result<(Option<bool>, usize), ReadResolveError>
+    ensures found { IfOk result (λ read. (u : Value) × IfSome read.0 (λ fits. AppendsWithin most out.old.items out.new.items (plain u) fits)
+        × ReadsAs (schema_nodes plan.now.0) (schema_nodes plan.now.1) limits.now bytes.now read.1 (Ok u)) }
+    ensures none { IfOk result (λ read. IfNone read.0 (out.new.items ≡ out.old.items)) }
+    ensures unchanged { OnErr result (out.new.items ≡ out.old.items) }
+    ensures faulty { IfUnresolved result (λ f. (len : ℕ) × ReadsAs (schema_nodes plan.now.0) (schema_nodes plan.now.1) limits.now bytes.now len (Err (fault_of f))) }
+    ensures refused { IfUnread result (λ e. IfSome (read_fault e) (Breaks (schema_nodes plan.now.0) limits.now (root_of (schema_nodes plan.now.0)) bytes.now)) }
 {
     room.clear();
-    room.keep_at_most(most);
     match plan.put(alloc, bytes, limits, room) {
-        Ok((written, len)) => {
-            if !is_counted_within(&written, most) {
-                return Ok((written, len));
+        Ok((written, len)) => match room.append(&written, most, out) {
+            Ok(told) => {
+                room.keep_room(written);
+                Ok((told, len))
             }
-            room.clear();
-            room.keep_at_most(usize::MAX);
-            plan.put(alloc, bytes, limits, room)
-        }
+            Err(_) => Err(ReadResolveError::Read(ReadError::OutOfMemory)),
+        },
         Err(error) => Err(error),
-    }
-}
-
-/// Whether bytes were only counted, and are not more than `most`.
-fn is_counted_within(written: &Written, most: usize) -> bool {
-    match written {
-        Written::Range(_, _) => false,
-        Written::Apart(_) => false,
-        Written::Counted(count) => *count <= most,
     }
 }

@@ -4,7 +4,7 @@ ghost use Rattle.std.specs.Prelude.{◌≡◌, ◌++◌, ◌+◌, ◌<◌, ◌�
 ghost use Rattle.avro_packed.specs.Appended.{AppendsWithin, Grows, Holds, StandsAt};
 
 use crate::appending::Appending;
-use crate::moving::fits_behind;
+use crate::moving::{is_past, is_within};
 use crate::written::{Apart, Written};
 use std::alloc::AllocError;
 use std::mem::swap;
@@ -48,7 +48,7 @@ pub(crate) fn settle(
             settle_moved(out, end, written, most)
         }
         Written::Apart(_) => settle_moved(out, end, written, most),
-        Written::Counted(_) => settle_moved(out, end, written, most),
+        Written::Counted(count) => settle_counted(out, end, *count, most),
     }
 }
 
@@ -79,12 +79,8 @@ fn settle_moved(
     ensures unchanged { (old bytes : List ℕ) → Grows old out.old.items → end ≡ length old → Holds out.old.items written.now bytes
         → OnErr result (out.new.items ≡ old) }
 {
-    match leave_within(out, end, written, most) {
-        Ok(true) => Ok(true),
-        Ok(false) => {
-            out.truncate(end);
-            Ok(false)
-        }
+    match leave(out, end, written) {
+        Ok(()) => Ok(is_within(out, end, most)),
         Err(_) => {
             out.truncate(end);
             Err(AllocError)
@@ -92,27 +88,24 @@ fn settle_moved(
     }
 }
 
-/// Leaves what was written right behind the end that an output had, where the output is then not longer than `most`; otherwise,
-/// or if memory runs out, anything behind that end.
-#[inline(always)]
-fn leave_within(
+/// The same for bytes that were only counted, which are then too many; or else memory ran out.
+#[inline(never)]
+fn settle_counted(
     out: &mut Vec<u8>,
     end: usize,
-    written: &Written,
+    count: usize,
     most: usize,
 ) -> Result<bool, AllocError>
-    ensures left { (old bytes : List ℕ) → Grows old out.old.items → end ≡ length old → Holds out.old.items written.now bytes
-        → IfOk result (λ fits. fits ≡ true → (out.new.items ≡ old ++ bytes) × (end + length bytes ≤ most)) }
-    ensures over { (old bytes : List ℕ) → Holds out.old.items written.now bytes
-        → IfOk result (λ fits. fits ≡ false → most < end + length bytes) }
-    ensures kept { (old bytes : List ℕ) → Grows old out.old.items → end ≡ length old → Holds out.old.items written.now bytes
-        → Grows old out.new.items }
+    ensures settled { (old bytes : List ℕ) → Grows old out.old.items → end ≡ length old → count ≡ length bytes
+        → IfOk result (λ fits. AppendsWithin most old out.new.items bytes fits) }
+    ensures unchanged { (old : List ℕ) → Grows old out.old.items → end ≡ length old → out.new.items ≡ old }
 {
-    if !fits_behind(end, written, most)? {
-        return Ok(false);
+    out.truncate(end);
+    if is_past(end, count, most) {
+        Ok(false)
+    } else {
+        Err(AllocError)
     }
-    leave(out, end, written)?;
-    Ok(true)
 }
 
 /// Leaves what was written right behind the end that an output had; if memory runs out, anything behind that end.

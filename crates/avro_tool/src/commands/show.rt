@@ -8,9 +8,9 @@ use crate::files::schema::read_reader;
 use avro_binary::{Nothing, Tree, decode};
 use avro_container::{Block, Blocks, CopyError, FileLimits, Header};
 use avro_device::{Input, Output, WriteOutput, put_all};
-use avro_display::{DisplayTable, PutError, put_display};
+use avro_display::{DisplayTable, PutError, put_line};
 use avro_resolve::{Plan, ReadResolveError};
-use avro_schema::{Datum, Limits, Memory, NodeId, Schema};
+use avro_schema::{Datum, Limits, Memory, Schema};
 use avro_schema_json::ReaderText;
 use std::alloc::Global;
 use std::io::Write;
@@ -205,7 +205,7 @@ fn show_block<'a, O: Write>(
         let Ok((datum, len)) = read_datum(alloc, header.schema(), plan, rest, limits) else {
             return Err(Failure::OutOfMemory);
         };
-        put_line(alloc, &mut *lines, &datum)?;
+        show_line(alloc, &mut *lines, &datum)?;
         let (_, others) = rest.split_at(len);
         rest = others;
     }
@@ -213,21 +213,20 @@ fn show_block<'a, O: Write>(
 }
 
 /// Puts the line of a datum, or holds it. After an error what is held goes on where what was put ends.
-fn put_line<'a, O: Write>(
+fn show_line<'a, O: Write>(
     alloc: Global,
     lines: &mut Lines<'_, O>,
     datum: &Datum,
 ) -> Result<(), Failure<'a>> {
     let held = lines.text.len();
-    match put_display(
+    match put_line(
         &mut lines.out,
         &mut lines.text,
         alloc,
         &lines.table,
-        NodeId(0),
         datum,
     ) {
-        Ok(()) => end_line(lines),
+        Ok(()) => put_long(lines),
         Err(PutError::CannotWrite) => {
             lines.text.clear();
             Err(Failure::CannotPrint)
@@ -239,9 +238,8 @@ fn put_line<'a, O: Write>(
     }
 }
 
-/// Ends a line, and puts what is held if it is long.
-fn end_line<'a, O: Write>(lines: &mut Lines<'_, O>) -> Result<(), Failure<'a>> {
-    lines.text.extend_from_slice(b"\n")?;
+/// Puts what is held if it is long.
+fn put_long<'a, O: Write>(lines: &mut Lines<'_, O>) -> Result<(), Failure<'a>> {
     if ROOM <= lines.text.len() {
         put_held(lines)?;
     }
