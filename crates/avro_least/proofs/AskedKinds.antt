@@ -13,7 +13,6 @@ use Rattle.avro_compare.specs.Children.{lacks_symbol}
 use Rattle.avro_compare.proofs.public.NodeKinds.{union_of_branches}
 use Rattle.avro_certificate.proofs.public.Shapes.{first_match_within}
 use Rattle.avro_least.specs.Asked.{Row, Asked, rows_from, asked_inside, asked_branch, asked}
-use Rattle.avro_least.specs.BuiltErrors.{is_same}
 use Rattle.avro_least.proofs.AskedValue.{asked_of_plain, asked_of_union}
 use Rattle.avro_certificate.proofs.public.FaultyResults.{through_is_matched, IsFault, value_of_plain, plain_form, missing_errs}
 
@@ -108,14 +107,3 @@ module _ (writer reader : List Node) where
 
   pub asks : (n q : Node) (a : Asked) → a ≡ asked writer reader n q → Asks n q a
   asks n q a e = subst (λ (x : Asked). Asks n q x) (sym e) (own_asks n q)
-
-  -- where no reader's union is met, no other reader's node is asked for
-  pub not_same : (n q : Node) → branches_of q ≡ None → is_same (asked writer reader n q) ≡ false
-  not_same n q plain = by (asked writer reader n q) (own_asks n q)
-    where
-      by : (a : Asked) → Asks n q a → is_same a ≡ false
-      by (Asked.same p) own = absurd (no_union own.ids (ap branches_of (sym own.is) ∙ plain))
-        where
-          no_union : (ids : List ℕ) → Some ids ≡ None → ⊥
-          no_union ids e = cc
-      by _ own = refl

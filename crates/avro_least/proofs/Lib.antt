@@ -27,7 +27,6 @@ pub mod Searching
 pub mod Settling
 pub mod ShownData
 pub mod ShownErrors
-pub mod ShownParts
 pub mod Starting
 pub mod Taken
 pub mod UseRows

@@ -4,3 +4,4 @@ pub mod Exact
 pub mod Keys
 pub mod Quiet
 pub mod Stepping
+pub mod ShownParts

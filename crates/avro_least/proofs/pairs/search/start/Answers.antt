@@ -13,7 +13,7 @@ use Rattle.avro_least.specs.declared.kept.Least.{Least as KeptLeast}
 use Rattle.avro_least.specs.inside.Falling.{lowered}
 use Rattle.avro_least.specs.inside.Leading.{AreTakenBut}
 use Rattle.avro_least.proofs.PairSteps.{below_at, start_pairs}
-use Rattle.avro_least.proofs.ShownParts.{alone_shows}
+use Rattle.avro_least.proofs.public.ShownParts.{alone_shows}
 use Rattle.avro_least.proofs.Starting.{lowered_search, unknown_taken}
 use Rattle.avro_least.proofs.Taken.{lower_taken, lowered_fallen, lowered_at}
 use Rattle.avro_least.proofs.pairs.search.start.Goals as goal

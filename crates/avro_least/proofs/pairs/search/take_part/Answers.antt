@@ -9,7 +9,7 @@ use Rattle.avro_least.specs.Tables.{AtMost, no_parts}
 use Rattle.avro_least.specs.SeenLeast.{seen, seen_all, table_of}
 use Rattle.avro_least.specs.declared.kept.Least.{Least as KeptLeast}
 use Rattle.avro_least.proofs.PairSteps.{below_at}
-use Rattle.avro_least.proofs.ShownParts.{part_shows}
+use Rattle.avro_least.proofs.public.ShownParts.{part_shows}
 use Rattle.avro_least.proofs.Starting.{lowered_search}
 use Rattle.avro_least.proofs.Taken.{value_in, take_lowered, lowered_fallen}
 use Rattle.avro_least.proofs.pairs.search.take_part.Goals as goal
