@@ -17,7 +17,7 @@ use Rattle.avro_least.specs.Asked.{Row, Asked, rows_from, asked, err_of_row, err
 use Rattle.avro_least.specs.inside.Built.{Builds}
 use Rattle.avro_least.specs.BuiltErrors.{BuildsLone, part_value, IsErringOf, AreExact, BuildsError, BuildsAsked, BuildsRow, BuildsRows, part_of_row, total_from}
 use Rattle.avro_certificate.proofs.public.Shapes.{plain_branch}
-use Rattle.avro_least.proofs.ShownData.{lesser_either}
+use Rattle.avro_least.proofs.public.ShownData.{lesser_either}
 use Rattle.avro_certificate.proofs.public.Resolving.{slice_get_of_drop, drop_more}
 use Rattle.avro_least.proofs.Building.{around_is, together_is}
 use Rattle.avro_least.proofs.Built.{few_branches}

@@ -7,7 +7,7 @@ use Rattle.avro_compare.specs.Children.{Pair}
 use Rattle.avro_least.specs.Tables.{Least, LeastTable, ErringTable, AtMost, capped, around, together, best_of, all_of}
 use Rattle.avro_least.specs.Asked.{Row, Asked, err_of_row, err_of_rows, asked_value}
 use Rattle.avro_least.specs.inside.Parts.{least_of_others, row_part, entry_of_part, part_at, value_alone, value_by_part}
-use Rattle.avro_least.proofs.ShownData.{around_some, together_some, lesser_either, best_is}
+use Rattle.avro_least.proofs.public.ShownData.{around_some, together_some, lesser_either, best_is}
 use Rattle.avro_least.proofs.RowTotals.{together_around}
 
 some_at_most : (e : Option Least) (s d : ℕ) → AtMost e s d → is_some e ≡ true

@@ -25,7 +25,6 @@ pub mod Rounds
 pub mod RowTotals
 pub mod Searching
 pub mod Settling
-pub mod ShownData
 pub mod ShownErrors
 pub mod Starting
 pub mod Taken

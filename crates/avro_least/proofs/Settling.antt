@@ -17,7 +17,7 @@ use Rattle.avro_certificate.proofs.public.Tests.{or_cases, or_left, or_right, or
 use Rattle.avro_certificate.proofs.public.Shapes.{meets_rules_at}
 use Rattle.avro_least.proofs.public.Keys.{key_at}
 use Rattle.avro_least.proofs.LeastOrder.{under_lesser_left, under_lesser_right}
-use Rattle.avro_least.proofs.ShownData.{exact_around, around_some, best_is, step_shown}
+use Rattle.avro_least.proofs.public.ShownData.{exact_around, around_some, best_is, step_shown}
 use Rattle.avro_least.proofs.Rounds.{none_is}
 
 -- what is no more than an entry stays so inside one more node

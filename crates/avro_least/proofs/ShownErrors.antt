@@ -8,7 +8,7 @@ use Rattle.avro_schema.specs.Fits.{fits, fields_fit}
 use Rattle.avro_compare.specs.Source.{reader_field}
 use Rattle.avro_compare.specs.Resolve.{resolve, resolve_sources}
 use Rattle.avro_least.specs.Tables.{Least, Exactly, ShowsData, ShowsError, around, together}
-use Rattle.avro_least.proofs.ShownData.{ShowsFields, exact_around, exact_together}
+use Rattle.avro_least.proofs.public.ShownData.{ShowsFields, exact_around, exact_together}
 use Rattle.avro_certificate.proofs.public.FaultyResults.{IsFault, the_fault, is_fault, fault_inside, fault_later, field_faults, record_faults}
 
 module _ (writer reader : List Node) (limit : ℕ) where

@@ -4,4 +4,5 @@ pub mod Exact
 pub mod Keys
 pub mod Quiet
 pub mod Stepping
+pub mod ShownData
 pub mod ShownParts

@@ -96,20 +96,21 @@ any_pass test other (x ∷ xs) more h = elim (or_cases (test x) (list_any test x
   | inr rest ↦ or_from_right (other x) (list_any other xs) (any_pass test other xs more rest)
 ]
 
--- a node without an entry is dead
+-- a node of which a step gives no entry is dead
+pub dead_of_step : (limit : ℕ) (table : LeastTable) (dead : List ℕ) → ((p : ℕ) → is_none (table p) ≡ true → is_among dead p ≡ true) → (n : Node)
+    → least_datum limit table n ≡ None → is_dead_node dead n ≡ true
+dead_of_step limit table dead covers (Node.union ids) h =
+    all_pass (λ p. is_none (table p)) (is_among dead) ids covers (best_none table ids (around_none limit (best_of table ids) h))
+dead_of_step limit table dead covers (Node.record_of name aliases fields) h =
+    any_pass (λ p. is_none (table p)) (is_among dead) (field_ids fields) covers
+    (all_none limit table (field_ids fields) (around_none limit (all_of limit table (field_ids fields)) h))
+dead_of_step limit table dead covers _ h = absurd (grind arith)
+
+-- so is a node without an entry
 pub dead_of_none : (writer : List Node) (limit : ℕ) (table : LeastTable) (dead : List ℕ) → IsLowForData writer limit table
     → ((p : ℕ) → is_none (table p) ≡ true → is_among dead p ≡ true) → (p : ℕ) → table p ≡ None → is_dead_node dead (node_at writer p) ≡ true
-dead_of_none writer limit table dead low covers p none =
-    by_node (node_at writer p) (none_above (least_datum limit table (node_at writer p))
-    (λ s d m. subst (λ (e : Option Least). AtMost e s d) none (low p s d m)))
-  where
-    by_node : (n : Node) → least_datum limit table n ≡ None → is_dead_node dead n ≡ true
-    by_node (Node.union ids) h =
-        all_pass (λ p. is_none (table p)) (is_among dead) ids covers (best_none table ids (around_none limit (best_of table ids) h))
-    by_node (Node.record_of name aliases fields) h =
-        any_pass (λ p. is_none (table p)) (is_among dead) (field_ids fields) covers
-        (all_none limit table (field_ids fields) (around_none limit (all_of limit table (field_ids fields)) h))
-    by_node _ h = absurd (grind arith)
+dead_of_none writer limit table dead low covers p none = dead_of_step limit table dead covers (node_at writer p)
+    (none_above (least_datum limit table (node_at writer p)) (λ s d m. subst (λ (e : Option Least). AtMost e s d) none (low p s d m)))
 
 module _ (writer reader : List Node) (limit : ℕ) (table : LeastTable) (erring : ErringTable) (low : AreLow writer reader limit table erring)
     (formed : is_schema reader ≡ true) where

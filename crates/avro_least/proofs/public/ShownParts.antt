@@ -23,7 +23,7 @@ use Rattle.avro_least.proofs.AskedKinds.{asks}
 use Rattle.avro_least.proofs.AskedValue.{row_nodes, value_is}
 use Rattle.avro_least.proofs.AtMostParts.{together_across, by_row, branch_part, chosen_part}
 use Rattle.avro_least.proofs.PairSteps.{followed_known}
-use Rattle.avro_least.proofs.ShownData.{ShowsFields, exact_around, around_some, together_some, shown_fields}
+use Rattle.avro_least.proofs.public.ShownData.{ShowsFields, exact_around, around_some, together_some, shown_fields}
 use Rattle.avro_least.proofs.ShownErrors.{shows, ErringFields, first_errs, later_errs, record_errs, branch_errs}
 use Rattle.avro_least.proofs.public.Stepping.{children_at_within}
 use Rattle.avro_least.proofs.AskedParts.{parts_pass}

@@ -5,7 +5,7 @@ use Rattle.std.proofs.lemmas.Option.{slice_get_within}
 use Rattle.std.specs.Prelude.{slice_get}
 use Rattle.avro_schema.specs.Seen.{ids_of}
 use Rattle.avro_least.specs.Tables.{LeastTable}
-use Rattle.avro_least.proofs.ShownData.{best_is}
+use Rattle.avro_least.proofs.public.ShownData.{best_is}
 use Rattle.avro_least.specs.SeenTables.{erring_in}
 use Rattle.avro_least.proofs.datum.selecting.best_error_index.Goals as goal
 use Rattle.avro_least.proofs.Choosing.{id_here}
