@@ -8,21 +8,15 @@ use Rattle.avro_least.specs.Tables.{Least, LeastTable, ErringTable, AtMost, capp
 use Rattle.avro_least.specs.Asked.{Row, Asked, err_of_row, err_of_rows, asked_value}
 use Rattle.avro_least.specs.inside.Parts.{least_of_others, row_part, entry_of_part, part_at, value_alone, value_by_part}
 use Rattle.avro_least.proofs.public.ShownData.{around_some, together_some, lesser_either, best_is}
-use Rattle.avro_least.proofs.RowTotals.{together_around}
-
-some_at_most : (e : Option Least) (s d : ℕ) → AtMost e s d → is_some e ≡ true
-some_at_most None s d h = absurd h
-some_at_most (Some e) s d h = refl
+use Rattle.avro_least.proofs.public.Quiet.{some_below}
+use Rattle.avro_least.proofs.RowTotals.{both_swap, together_around}
 
 -- two stand side by side in either order
 together_swap : (limit : ℕ) (a b : Option Least) → together limit a b ≡ together limit b a
 together_swap limit None None = refl
 together_swap limit None (Some b) = refl
 together_swap limit (Some a) None = refl
-together_swap limit (Some a) (Some b) =
-    let nodes : a.nodes + b.nodes ≡ b.nodes + a.nodes = omega arith in
-    let depth : max a.depth b.depth ≡ max b.depth a.depth = omega arith in
-    λ i. Some (capped limit (record { nodes = nodes i; depth = depth i }))
+together_swap limit (Some a) (Some b) = ap (λ e. Some (capped limit e)) (both_swap a b)
 
 -- of three, too
 pub together_across : (limit : ℕ) (a b c : Option Least) → together limit a (together limit b c) ≡ together limit b (together limit a c)
@@ -74,7 +68,7 @@ module _ (limit : ℕ) (table : LeastTable) (erring : ErringTable) where
 
   pub at_most_parts : (w r : ℕ) (a : Asked) (s d : ℕ) → AtMost (asked_value limit table erring w r a) s d
       → AtMost (value_alone table w a) s d ⊎ ((k : ℕ) × AtMost (value_by_part limit table erring w r a k) s d)
-  at_most_parts w r a s d h = elim (chosen_part w r a (some_at_most (asked_value limit table erring w r a) s d h)) [
+  at_most_parts w r a s d h = elim (chosen_part w r a (some_below (asked_value limit table erring w r a) s d h)) [
     | inl alone ↦ inl (subst (λ (e : Option Least). AtMost e s d) alone h)
     | inr found ↦ inr (found.0, subst (λ (e : Option Least). AtMost e s d) found.1 h)
   ]

@@ -27,22 +27,12 @@ use Rattle.avro_least.proofs.Others.{against, part_within}
 
 -- the part at an index is the one that is asked for
 pub kept_is : (w r : ℕ) (ask : Ask) (a : Asked) (k : ℕ) → IsKept ask a → kept_part w r ask k ≡ part_at w r a k
-kept_is w r Ask.Quiet a k h = sym (ap (λ (x : Asked). part_at w r x k) h)
-kept_is w r Ask.Whole a k h = sym (ap (λ (x : Asked). part_at w r x k) h)
-kept_is w r Ask.Lone a k h = sym (ap (λ (x : Asked). part_at w r x k) h)
-kept_is w r (Ask.Same q) a k h = sym (ap (λ (x : Asked). part_at w r x k) h)
-kept_is w r (Ask.Part x y) a k h = sym (ap (λ (x : Asked). part_at w r x k) h)
-kept_is w r (Ask.Branches ids) a k h = sym (ap (λ (x : Asked). part_at w r x k) h)
 kept_is w r (Ask.Fields parts) a k h = h.same k ∙ sym (ap (λ (x : Asked). part_at w r x k) h.is)
+kept_is w r ask a k h = sym (ap (λ (x : Asked). part_at w r x k) h)
 
 pub kept_ordered : (ask : Ask) (a : Asked) → IsKept ask a → AreOrdered ask
-kept_ordered Ask.Quiet a h = tt
-kept_ordered Ask.Whole a h = tt
-kept_ordered Ask.Lone a h = tt
-kept_ordered (Ask.Same q) a h = tt
-kept_ordered (Ask.Part x y) a h = tt
-kept_ordered (Ask.Branches ids) a h = tt
 kept_ordered (Ask.Fields parts) a h = h.ascends
+kept_ordered ask a h = tt
 
 -- the ids of a part with its index
 pub part_given : (o : Option (ℕ × NodeId × NodeId)) (k a b : ℕ) → seen_part o ≡ Some (k, record { w = a; r = b })
@@ -54,9 +44,6 @@ part_given (Some c) k a b e =
 
 -- each part is one of the parts by their order
 pub nth_found : (w r : ℕ) (ask : Ask) (k : ℕ) (c : Pair) → kept_part w r ask k ≡ Some c → (n : ℕ) × (n < kept_count ask) × (nth_part w r ask n ≡ Some (k, c))
-nth_found w r Ask.Quiet k c is = absurd cc
-nth_found w r Ask.Whole k c is = absurd cc
-nth_found w r Ask.Lone k c is = absurd cc
 nth_found w r (Ask.Same q) k c is = (k, omega (arith, part_within w r (Asked.same q.0) k c is), ap (with_index k) is)
 nth_found w r (Ask.Part a b) k c is = (k, omega (arith, part_within w r (Asked.part a.0 b.0) k c is), ap (with_index k) is)
 nth_found w r (Ask.Branches ids) k c is =
@@ -69,6 +56,7 @@ nth_found w r (Ask.Fields parts) k c is = by (entry_at parts.now k) refl is
     by (Some at) e got =
         let found = entry_place parts.now k at e in
         (found.0, found.1, ap indexed found.2 ∙ ap (with_index k) got)
+nth_found w r _ k c is = absurd cc
 
 -- the pair that a field of a node leads to
 abbrev row_for : Option ℕ → Option FieldNode → Option Pair
@@ -115,15 +103,10 @@ module _ (ws rs : List FieldNode) where
 
 -- a view is what its pair asks for
 pub kept_of_view : (n q : Node) (ask : Ask) (a : Asked) → view_of (nodes_of n) ask ≡ a → AreTaken n q ask → IsKept ask a
-kept_of_view n q Ask.Quiet a e h = sym e
-kept_of_view n q Ask.Whole a e h = sym e
-kept_of_view n q Ask.Lone a e h = sym e
-kept_of_view n q (Ask.Same p) a e h = sym e
-kept_of_view n q (Ask.Part x y) a e h = sym e
-kept_of_view n q (Ask.Branches ids) a e h = sym e
 kept_of_view n q (Ask.Fields parts) a e h = record {
   rows = rows_by parts.now 0 (nodes_of n);
   is = sym e;
   ascends = h.0;
   same = same_rows (fields_at n) (fields_at q) parts.now h;
 }
+kept_of_view n q ask a e h = sym e

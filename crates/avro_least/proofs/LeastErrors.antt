@@ -124,9 +124,7 @@ module _ (writer reader : List Node) (limit : ℕ) (table : LeastTable) (erring 
           → branches_of q ≡ None → match_within steps writer reader n q ≡ true
           → OnErr (enum_as (symbol_at n k) q) (AtMost (err_inside limit table erring w n q) 1 1)
       into steps (Node.enum a xs symbols x) (Node.union ids) h plain m = absurd (grind arith)
-      into zero (Node.enum a xs symbols x) (Node.enum b ys theirs y) h plain m =
-          lacked (Node.enum a xs symbols x) (Node.enum b ys theirs y) (lacks_symbol symbols theirs y) (λ e. succeeds_enum symbols theirs k y h e)
-      into (suc steps) (Node.enum a xs symbols x) (Node.enum b ys theirs y) h plain m =
+      into steps (Node.enum a xs symbols x) (Node.enum b ys theirs y) h plain m =
           lacked (Node.enum a xs symbols x) (Node.enum b ys theirs y) (lacks_symbol symbols theirs y) (λ e. succeeds_enum symbols theirs k y h e)
       into zero (Node.enum a xs symbols x) _ h plain m = absurd (false≢true m)
       into (suc steps) (Node.enum a xs symbols x) _ h plain m = absurd (false≢true m)
@@ -152,8 +150,7 @@ module _ (writer reader : List Node) (limit : ℕ) (table : LeastTable) (erring 
           → OnErr (result_map Value.array (resolve_items writer reader (part_at writer (items_node n)) (part_at reader (items_node q)) 0 vs))
           (AtMost (err_inside limit table erring w n q) (suc (values_size vs)) (suc (values_depth vs)))
       into steps (Node.array a) (Node.union ids) h plain m = absurd (grind arith)
-      into zero (Node.array a) (Node.array b) h plain m = parts a b h
-      into (suc steps) (Node.array a) (Node.array b) h plain m = parts a b h
+      into steps (Node.array a) (Node.array b) h plain m = parts a b h
       into zero (Node.array a) _ h plain m = absurd (false≢true m)
       into (suc steps) (Node.array a) _ h plain m = absurd (false≢true m)
       into steps _ q h plain m = absurd (false≢true h)
@@ -178,8 +175,7 @@ module _ (writer reader : List Node) (limit : ℕ) (table : LeastTable) (erring 
           → OnErr (result_map Value.map_of (resolve_entries writer reader (part_at writer (values_node n)) (part_at reader (values_node q)) 0 es))
           (AtMost (err_inside limit table erring w n q) (suc (entries_size es)) (suc (entries_depth es)))
       into steps (Node.map_of a) (Node.union ids) h plain m = absurd (grind arith)
-      into zero (Node.map_of a) (Node.map_of b) h plain m = parts a b h
-      into (suc steps) (Node.map_of a) (Node.map_of b) h plain m = parts a b h
+      into steps (Node.map_of a) (Node.map_of b) h plain m = parts a b h
       into zero (Node.map_of a) _ h plain m = absurd (false≢true m)
       into (suc steps) (Node.map_of a) _ h plain m = absurd (false≢true m)
       into steps _ q h plain m = absurd (false≢true h)
@@ -209,8 +205,7 @@ module _ (writer reader : List Node) (limit : ℕ) (table : LeastTable) (erring 
           → OnErr (record_or_missing (fields_at n) (fields_at q) (missing_field (fields_at n) (fields_at q)) (resolve_sources writer reader (fields_at n) (fields_at q) 0 vs))
           (AtMost (err_inside limit table erring w n q) (suc (values_size vs)) (suc (values_depth vs)))
       into steps (Node.record_of a xs fields) (Node.union ids) h plain m = absurd (grind arith)
-      into zero (Node.record_of a xs fields) (Node.record_of b ys theirs) h plain m = parts fields theirs (missing_field fields theirs) h
-      into (suc steps) (Node.record_of a xs fields) (Node.record_of b ys theirs) h plain m = parts fields theirs (missing_field fields theirs) h
+      into steps (Node.record_of a xs fields) (Node.record_of b ys theirs) h plain m = parts fields theirs (missing_field fields theirs) h
       into zero (Node.record_of a xs fields) _ h plain m = absurd (false≢true m)
       into (suc steps) (Node.record_of a xs fields) _ h plain m = absurd (false≢true m)
       into steps _ q h plain m = absurd (false≢true h)

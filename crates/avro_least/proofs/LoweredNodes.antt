@@ -11,7 +11,6 @@ use Rattle.avro_least.specs.declared.kept.Least.{Least as KeptLeast}
 use Rattle.avro_least.specs.inside.Falling.{lowered}
 use Rattle.avro_least.specs.inside.Settled.{IsNoMore}
 use Rattle.avro_least.proofs.LeastOrder.{under_lesser_left}
-use Rattle.avro_least.proofs.Searching.{lowered_better, lowered_worse}
 use Rattle.avro_least.proofs.Rounds.{set_here, set_other, improves_low}
 use Rattle.avro_least.proofs.Searching.{lowered_better, lowered_worse}
 

@@ -10,6 +10,15 @@ use Rattle.avro_least.specs.SeenAsk.{row_of, rows_of}
 use Rattle.avro_least.specs.declared.pairs.asking.FieldAsk.{FieldAsk}
 use Rattle.avro_compare.proofs.public.Lists.{get_before, get_last}
 
+abbrev both : Least → Least → Least
+both a b = record { nodes = a.nodes + b.nodes; depth = max a.depth b.depth }
+
+same_least : (a b : Least) → a.nodes ≡ b.nodes → a.depth ≡ b.depth → a ≡ b
+same_least a b n d = λ i. record { nodes = n i; depth = d i }
+
+pub both_swap : (a b : Least) → both a b ≡ both b a
+both_swap a b = same_least (both a b) (both b a) (omega arith) (omega arith)
+
 module _ (limit : ℕ) where
   is_few : (e : Least) → e.nodes ≤ limit → capped limit e ≡ e
   is_few e h = ap (λ t. cond t e (record { nodes = suc limit; depth = 0 })) (le-leb e.nodes limit h)
@@ -20,12 +29,6 @@ module _ (limit : ℕ) where
       chosen : (t : Bool) → nat_le e.nodes limit ≡ t → cond t e (record { nodes = suc limit; depth = 0 }) ≡ record { nodes = suc limit; depth = 0 }
       chosen true m = absurd (omega (arith, h, leb-true e.nodes limit m))
       chosen false m = refl
-
-  abbrev both : Least → Least → Least
-  both a b = record { nodes = a.nodes + b.nodes; depth = max a.depth b.depth }
-
-  same_least : (a b : Least) → a.nodes ≡ b.nodes → a.depth ≡ b.depth → a ≡ b
-  same_least a b n d = λ i. record { nodes = n i; depth = d i }
 
   both_around : (a b c : Least) → both a (both b c) ≡ both (both a b) c
   both_around a b c = same_least (both a (both b c)) (both (both a b) c) (omega arith) (omega arith)
@@ -41,13 +44,7 @@ module _ (limit : ℕ) where
   ]
 
   capped_before : (a b : Least) → capped limit (both (capped limit a) b) ≡ capped limit (both a b)
-  capped_before a b = elim (cases_Bool (nat_le a.nodes limit)) [
-    | inl few ↦ ap (λ e. capped limit (both e b)) (is_few a (leb-true a.nodes limit few))
-    | inr many ↦
-        let over = leb-false a.nodes limit many in
-        ap (λ e. capped limit (both e b)) (is_many a (omega (arith, over)))
-        ∙ is_many (both (record { nodes = suc limit; depth = 0 }) b) (omega arith) ∙ sym (is_many (both a b) (omega (arith, over)))
-  ]
+  capped_before a b = ap (capped limit) (both_swap (capped limit a) b) ∙ capped_behind b a ∙ ap (capped limit) (both_swap b a)
 
   pub together_around : (a b c : Option Least) → together limit a (together limit b c) ≡ together limit (together limit a b) c
   together_around None b c = refl

@@ -32,7 +32,7 @@ none_above None h = refl
 none_above (Some e) h = absurd (h e.nodes e.depth (record { fewer = omega arith; shallower = λ k. omega arith }))
 
 -- what is above something is an entry
-some_below : (e : Option Least) (s d : ℕ) → AtMost e s d → is_some e ≡ true
+pub some_below : (e : Option Least) (s d : ℕ) → AtMost e s d → is_some e ≡ true
 some_below None s d h = absurd h
 some_below (Some e) s d h = refl
 
@@ -62,16 +62,12 @@ lesser_none (Some a) (Some b) h = chosen (precedes b a) h
     chosen true e = absurd (grind arith)
     chosen false e = absurd (grind arith)
 
-is_none_of : (e : Option Least) → e ≡ None → is_none e ≡ true
-is_none_of None h = refl
-is_none_of (Some e) h = absurd (grind arith)
-
 -- each branch has none
 best_none : (table : LeastTable) (ps : List ℕ) → best_of table ps ≡ None → list_all (λ p. is_none (table p)) ps ≡ true
 best_none table [] h = refl
 best_none table (p ∷ ps) h =
     let both = lesser_none (table p) (best_of table ps) h in
-    and_from (is_none (table p)) (list_all (λ p. is_none (table p)) ps) (is_none_of (table p) both.0) (best_none table ps both.1)
+    and_from (is_none (table p)) (list_all (λ p. is_none (table p)) ps) (ap is_none both.0) (best_none table ps both.1)
 
 -- some field has none
 all_none : (limit : ℕ) (table : LeastTable) (ps : List ℕ) → all_of limit table ps ≡ None → list_any (λ p. is_none (table p)) ps ≡ true
@@ -80,7 +76,7 @@ all_none limit table (p ∷ ps) h = first (table p) refl (all_none limit table p
   where
     first : (e : Option Least) → table p ≡ e → (all_of limit table ps ≡ None → list_any (λ p. is_none (table p)) ps ≡ true)
         → (is_none (table p) || list_any (λ p. is_none (table p)) ps) ≡ true
-    first None e rest = or_from_left _ _ (is_none_of (table p) e)
+    first None e rest = or_from_left _ _ (ap is_none e)
     first (Some x) e rest = or_from_right _ _ (rest (right_none limit (table p) (all_of limit table ps) h (subst (λ (o : Option Least). is_some o ≡ true) (sym e) refl)))
 
 -- all that pass one test pass another
@@ -89,7 +85,7 @@ all_pass test other [] more h = refl
 all_pass test other (x ∷ xs) more h =
     and_from (other x) (list_all other xs) (more x (and_left (test x) (list_all test xs) h)) (all_pass test other xs more (and_right (test x) (list_all test xs) h))
 
-any_pass : {A : Type 0} (test other : A → Bool) (xs : List A) → ((x : A) → test x ≡ true → other x ≡ true) → list_any test xs ≡ true → list_any other xs ≡ true
+pub any_pass : {A : Type 0} (test other : A → Bool) (xs : List A) → ((x : A) → test x ≡ true → other x ≡ true) → list_any test xs ≡ true → list_any other xs ≡ true
 any_pass test other [] more h = h
 any_pass test other (x ∷ xs) more h = elim (or_cases (test x) (list_any test xs) h) [
   | inl first ↦ or_from_left (other x) (list_any other xs) (more x first)
@@ -124,7 +120,7 @@ module _ (writer reader : List Node) (limit : ℕ) (table : LeastTable) (erring 
     pub children : list_all is_quiet (children_of writer reader w r n q) ≡ true
 
   quiet_none : (w r : ℕ) → erring w r ≡ None → is_quiet (record { w = w; r = r }) ≡ true
-  quiet_none w r h = or_from_right (is_none (table w)) (is_none (erring w r)) (is_none_of (erring w r) h)
+  quiet_none w r h = or_from_right (is_none (table w)) (is_none (erring w r)) (ap is_none h)
 
   -- the fields of a record of which each has data
   fields_quiet : (fields theirs : List FieldNode) (index : ℕ) (ps : List ℕ) (vs : Values) → drop index (field_ids fields) ≡ ps → fields_fit writer ps vs ≡ true
