@@ -29,13 +29,11 @@ one_same index (Some k) false e = refl
 pub untaken_next : (w q : Node) (i : ℕ) (f : Option ℕ) (symbols : List (List ℕ)) → symbols ≡ unwrap_or (symbols_of w) [] → i < length symbols
     → IsSymbol (enum_as (symbol_at w i) q) f → untaken_from q i (drop i symbols) ≡ untaken_one i f ++ untaken_from q (i + 1) (drop (i + 1) symbols)
 untaken_next w q i f symbols e low h =
+    let more : suc i ≡ i + 1 = omega arith in
     ap (untaken_from q i) (ap (λ (ss : List (List ℕ)). drop i ss) e ∙ symbols_there w i (subst (λ (ss : List (List ℕ)). i < length ss) e low))
     ∙ ap (λ (ds : List Detail). ds ++ untaken_from q (suc i) (drop (i + 1) (unwrap_or (symbols_of w) []))) (one_same i f (lacks q (symbol_at w i)) (lacks_is q (symbol_at w i) f h))
-    ∙ ap (λ (n : ℕ). untaken_one i f ++ untaken_from q n (drop (i + 1) (unwrap_or (symbols_of w) []))) (more i)
+    ∙ ap (λ (n : ℕ). untaken_one i f ++ untaken_from q n (drop (i + 1) (unwrap_or (symbols_of w) []))) more
     ∙ ap (λ (ss : List (List ℕ)). untaken_one i f ++ untaken_from q (i + 1) (drop (i + 1) ss)) (sym e)
-  where
-    more : (i : ℕ) → suc i ≡ i + 1
-    more i = omega arith
 
 pub texts_many : (symbols : List (String Global)) → length (texts_of symbols) ≡ length symbols
 texts_many [] = refl

@@ -9,7 +9,6 @@ pub mod Built
 pub mod BuiltErrors
 pub mod Choosing
 pub mod Entries
-pub mod Faults
 pub mod Fixed
 pub mod KeptParts
 pub mod LeastData
