@@ -45,11 +45,6 @@ improves_low None b s d h m = absurd m
 improves_low (Some a) None s d h m = absurd (true≢false h)
 improves_low (Some a) (Some b) s d h m = follows_under b a s d h m
 
--- a test that there is none
-pub none_is : (o : Option Least) → is_none o ≡ true → o ≡ None
-none_is None h = refl
-none_is (Some e) h = absurd (false≢true h)
-
 -- an entry at the start
 pub slice_get-replicate : (n p : ℕ) → p < n → slice_get (replicate {A = Option KeptLeast} n None) p ≡ Some None
 slice_get-replicate zero p h = absurd (omega (arith, h))

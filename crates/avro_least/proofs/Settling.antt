@@ -20,7 +20,7 @@ use Rattle.avro_least.proofs.LeastOrder.{under_lesser_left, under_lesser_right}
 use Rattle.avro_least.proofs.public.ShownData.{exact_around, around_some, best_is, step_shown}
 use Rattle.avro_certificate.proofs.public.FaultyResults.{any_at}
 use Rattle.avro_least.proofs.public.Quiet.{any_pass, some_below}
-use Rattle.avro_least.proofs.Rounds.{none_is}
+use Rattle.avro_least.proofs.public.DeadNodes.{none_of}
 
 -- what is no more than an entry stays so inside one more node
 around_no_more : (limit : ℕ) (a b : Option Least) → IsNoMore a b → IsNoMore (around limit a) (around limit b)
@@ -147,7 +147,7 @@ open_settles limit table waits ids e h = elim (waits_or_none ids h) [
     waits_or_none [] m = absurd (false≢true m)
     waits_or_none (p ∷ ps) m = elim (or_cases (is_none (table p) || waits p) (list_any (λ q. is_none (table q) || waits q) ps) m) [
       | inl here ↦ elim (or_cases (is_none (table p)) (waits p) here) [
-        | inl none ↦ inr (ap (λ x. together limit x (all_of limit table ps)) (none_is (table p) none))
+        | inl none ↦ inr (ap (λ x. together limit x (all_of limit table ps)) (none_of (table p) none))
         | inr waited ↦ inl (or_from_left (waits p) (list_any waits ps) waited)
       ]
       | inr later ↦ elim (waits_or_none ps later) [

@@ -11,7 +11,6 @@ use Rattle.avro_certificate.proofs.public.Tests.{or_from_left, or_from_right}
 use Rattle.avro_least.specs.Tables.{Least, LeastTable, IsLowForData, AreDataShown}
 use Rattle.avro_least.specs.SeenLeast.{table_of}
 use Rattle.avro_least.specs.declared.kept.Least.{Least as KeptLeast}
-use Rattle.avro_least.proofs.Rounds.{none_is}
 use Rattle.avro_least.proofs.public.Quiet.{dead_of_none}
 
 -- what each of some numbers passes, all pass
@@ -20,6 +19,10 @@ all_from test [] each = refl
 all_from test (k ∷ ks) each =
     and_from (test k) (list_all test ks) (each k (or_from_left (k == k) (is_among ks k) (eq-eqb k k refl)))
     (all_from test ks (λ x m. each x (or_from_right (k == x) (is_among ks x) m)))
+
+pub none_of : (e : Option Least) → is_none e ≡ true → e ≡ None
+none_of None h = refl
+none_of (Some e) h = absurd (false≢true h)
 
 -- past the end of a table stand entries
 pub past_end : (es : List (Option KeptLeast)) (p : ℕ) → is_none (table_of es p) ≡ true → p < length es
@@ -39,7 +42,7 @@ none_greatest writer limit table dead low shown within is = record {
     each p among =
         let none : is_none (table p) ≡ true = sym (is p) ∙ among in
         and_from (nat_lt p (length writer)) (is_dead_node dead (node_at writer p)) (lt-ltb p (length writer) (within p none))
-        (dead_of_none writer limit table dead low (λ q m. is q ∙ m) p (none_is (table p) none))
+        (dead_of_none writer limit table dead low (λ q m. is q ∙ m) p (none_of (table p) none))
 
     without : (other : List ℕ) → is_dead writer other ≡ true → (p : ℕ) → is_among other p ≡ true → (o : Option Least) → table p ≡ o → is_none (table p) ≡ true
     without other all_dead p among None e = ap is_none e

@@ -14,7 +14,7 @@ pub loop-i-preserved : goal.loop-i-preserved
 loop-i-preserved c j p below got same =
     let table : LeastTable = λ q. erring_in c.args.tables.now q c.args.r.0 in
     elim (cases_eq j c.loop-i.i) [
-      | inl here ↦ absurd (true≢false (sym (c.are_same.ensures.told (c.pair_entry.ensures
+      | inl here ↦ absurd (true≢false (sym (c.are_same.ensures.told (c.erring_entry.ensures
           ∙ ap (λ (q : ℕ). erring_in c.args.tables.now q c.args.r.0) (id_here c.args.ids.now c.loop-i.i p _ c.loop-i-test.true (subst (λ (n : ℕ). slice_get (ids_of c.args.ids.now) n ≡ Some p) here got)) ∙ same)) ∙ c.if-are_same.false))
       | inr apart ↦ c.loop-i.invariant j p (omega (arith, below, apart)) got same
     ]
