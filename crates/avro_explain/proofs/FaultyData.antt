@@ -1,7 +1,6 @@
 -- At a pair that is reached and has a fault of its own, or that leads to such a pair, some datum fails.
-use Rattle.std.proofs.Common.{◌≡◌, ℕ, Bool, true, false, ◌||◌, cond, List, [], ◌∷◌, Option, Some, None, refl, sym, ◌∙◌, subst, arith}
+use Rattle.std.proofs.Common.{◌≡◌, ℕ, Bool, true, false, ◌||◌, cond, List, [], ◌∷◌, Option, Some, None, refl, sym, ◌∙◌, subst, arith, is_none, is_some}
 use Rattle.std.proofs.lemmas.Bool.{false≢true}
-use Rattle.std.specs.Prelude.{is_none, is_some}
 use Rattle.std.specs.List.{list_all}
 use Rattle.avro_schema.specs.Value.{Value}
 use Rattle.avro_schema.specs.Node.{Node, node_at}
@@ -53,9 +52,12 @@ module _ (writer reader : List Node) (formed : is_schema writer ≡ true) (their
   -- a datum fails at a pair that has a fault of its own, or a child with an entry
   fails_at : (erring : ErringTable) (w r : ℕ) → AreErrorsShown writer reader 0 (λ p. true) erring → is_among dead w ≡ false
       → (IsCalm writer reader 0 table erring w r (node_at writer w) (node_at reader r) → ⊥) → Fails w r
-  fails_at erring w r shown live busy = (_, step_errs writer reader 0 table erring (λ p. true) theirs_formed table_shown shown w r
-      (all_true (children_of writer reader w r (node_at writer w) (node_at reader r)))
-      (some (err_of writer reader 0 table erring w r (node_at writer w) (node_at reader r)) refl))
+  fails_at erring w r shown live busy = (
+    _,
+    step_errs writer reader 0 table erring (λ p. true) theirs_formed table_shown shown w r
+        (all_true (children_of writer reader w r (node_at writer w) (node_at reader r)))
+        (some (err_of writer reader 0 table erring w r (node_at writer w) (node_at reader r)) refl),
+  )
     where
       some : (o : Option Least) → err_of writer reader 0 table erring w r (node_at writer w) (node_at reader r) ≡ o → is_some o ≡ true
       some None e =

@@ -1,7 +1,6 @@
 -- The first fault of each datum is at a pair that its path leads to.
-use Rattle.std.proofs.Common.{◌≡◌, ℕ, zero, suc, ◌<◌, Bool, true, false, cond, ◌||◌, List, [], ◌∷◌, ◌++◌, Option, Some, None, Result, Ok, Err, length, drop, refl, sym, ◌∙◌, ap, subst, arith}
+use Rattle.std.proofs.Common.{◌≡◌, ℕ, zero, suc, ◌<◌, Bool, true, false, cond, ◌||◌, List, [], ◌∷◌, ◌++◌, Option, Some, None, Ok, Err, length, drop, refl, sym, ◌∙◌, ap, subst, arith, slice_get, unwrap_or, option_and_then, nat_lt, is_some, position, bytes_eq, ◌==◌}
 use Rattle.std.proofs.lemmas.Bool.{false≢true, eq-eqb, eqb-true, ltb-true}
-use Rattle.std.specs.Prelude.{slice_get, unwrap_or, option_and_then, nat_lt, is_some, position, bytes_eq, ◌==◌}
 use Rattle.std.specs.List.{list_any}
 use Rattle.std.specs.Str.{is_utf8}
 use Rattle.avro_schema.specs.Value.{Value, Values, Entries, no_values, value, no_entries, entry, values_count}
@@ -11,7 +10,7 @@ use Rattle.avro_schema.specs.WellFormed.{is_schema}
 use Rattle.avro_compare.specs.Fault.{ResolutionFault, fault_here, fault_in, no_match, not_utf8}
 use Rattle.avro_compare.specs.Match.{match_within, is_match, first_match}
 use Rattle.avro_compare.specs.Source.{source_of, is_index, reader_field, missing_field_from, missing_field}
-use Rattle.avro_compare.specs.Resolve.{Resolved, Sourced, inside, result_map, both, matched, through, into_branch, int_as, bytes_as, string_as, enum_as, enum_or_default, part_at, symbol_at, fields_at, field_values, branch_node, record_or_missing, with_sourced, resolve, resolve_items, resolve_entries, resolve_sources}
+use Rattle.avro_compare.specs.Resolve.{Resolved, inside, result_map, matched, through, into_branch, int_as, bytes_as, string_as, enum_as, enum_or_default, part_at, symbol_at, fields_at, field_values, branch_node, record_or_missing, resolve, resolve_items, resolve_entries, resolve_sources}
 use Rattle.avro_compare.specs.Children.{Pair}
 use Rattle.avro_certificate.specs.Closed.{is_among, is_among_pairs, is_dead}
 use Rattle.avro_certificate.specs.Compatible.{ErrsWith}

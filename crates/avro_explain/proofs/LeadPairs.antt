@@ -1,9 +1,7 @@
 -- The pair of a lead is among those of all leads.
-use Rattle.std.proofs.Common.{◌≡◌, ℕ, suc, true, List, ◌∷◌, Some, map, refl, ap, ◌∙◌}
-use Rattle.std.proofs.lemmas.Bool.{eq-eqb}
+use Rattle.std.proofs.Common.{◌≡◌, ℕ, suc, true, List, ◌∷◌, Some, map, refl, ap, ◌∙◌, slice_get, option_map, ◌==◌, eq-eqb}
 use Rattle.std.proofs.lemmas.Map.Keys.{any_passes_from_place}
 use Rattle.std.proofs.lemmas.Option.{slice_get-map}
-use Rattle.std.specs.Prelude.{slice_get, option_map, ◌==◌}
 use Rattle.avro_compare.specs.Children.{Pair}
 use Rattle.avro_compare.specs.Leads.{lead_pair}
 use Rattle.avro_compare.specs.declared.lead.Lead.{Lead}

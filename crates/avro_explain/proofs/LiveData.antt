@@ -1,8 +1,7 @@
 -- A writer's node that is not dead has a datum.
-use Rattle.std.proofs.Common.{◌≡◌, ℕ, zero, suc, ◌<◌, ◌≤◌, ◌⊎◌, inl, inr, Bool, true, false, ◌&&◌, cond, List, [], ◌∷◌, Option, Some, None, length, refl, sym, ◌∙◌, ap, subst, arith}
+use Rattle.std.proofs.Common.{◌≡◌, ℕ, zero, suc, ◌<◌, ◌≤◌, ◌⊎◌, inl, inr, Bool, true, false, ◌&&◌, cond, List, [], ◌∷◌, Option, Some, None, length, refl, sym, ◌∙◌, ap, subst, arith, unwrap_or, nat_lt, ◌==◌, is_none, is_some}
 use Rattle.std.proofs.lemmas.Bool.{true≢false, false≢true, cases_eq, cases_lt, eq-eqb, ne_eqb, lt-ltb}
 use Rattle.std.proofs.lemmas.Option.{slice_get_past}
-use Rattle.std.specs.Prelude.{unwrap_or, nat_lt, ◌==◌, is_none, is_some}
 use Rattle.std.specs.List.{list_all}
 use Rattle.avro_schema.specs.Value.{Value}
 use Rattle.avro_schema.specs.Node.{Node, node_at}
@@ -46,7 +45,7 @@ loose test (x ∷ xs) h = decided (test x) refl h (loose test xs)
       rest = xs;
       fails = e;
       shorter = refl;
-      others = λ p none. elim (cases_eq x p) [ | inl same ↦ inl same | inr apart ↦ inr (rw (ne_eqb x p apart) none) ];
+      others = λ p none. elim (cases_eq x p) [ inl same ↦ inl same | inr apart ↦ inr (rw (ne_eqb x p apart) none) ];
     }
 
 -- all ids below a number

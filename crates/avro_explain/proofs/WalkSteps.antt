@@ -1,16 +1,15 @@
 -- What holds of the places when one more is added, and when all are that a place leads to.
-use Rattle.std.proofs.Common.{◌≡◌, ℕ, zero, suc, ◌+◌, ◌<◌, ◌≤◌, ◌⊎◌, Bool, true, false, not, cond, ◌||◌, List, [], ◌∷◌, ◌++◌, Option, Some, None, map, length, take, inl, inr, refl, sym, ◌∙◌, ap, subst, append_assoc, arith}
+use Rattle.std.proofs.Common.{◌≡◌, ℕ, zero, suc, ◌+◌, ◌<◌, ◌≤◌, ◌⊎◌, Bool, true, false, not, cond, ◌||◌, List, [], ◌∷◌, ◌++◌, Option, Some, None, map, length, take, inl, inr, refl, sym, ◌∙◌, ap, subst, append_assoc, arith, slice_get, option_map, nat_lt}
 use Rattle.std.proofs.lemmas.Bool.{false≢true, true≢false, and_from, ltb-true, ltb-false, not_from_false}
 use Rattle.std.proofs.lemmas.List.{append-nil, map-append, length-append, length-map}
 use Rattle.std.proofs.lemmas.List.Folds.{list_any-append}
-use Rattle.std.specs.Prelude.{slice_get, option_map, nat_lt}
 use Rattle.std.specs.List.{list_any}
 use Rattle.avro_schema.specs.Distinct.{are_distinct}
 use Rattle.avro_schema.specs.Node.{Node, node_at}
 use Rattle.avro_compare.specs.Children.{Pair, children_of}
 use Rattle.avro_certificate.specs.Closed.{same_pair, is_among, is_among_pairs}
 use Rattle.avro_certificate.specs.Evidence.{IsReached, roots, child}
-use Rattle.avro_certificate.proofs.public.Tests.{or_cases, or_from_left, or_from_right, same_pair-true, and_left, and_right, not_true, or_left, or_right}
+use Rattle.avro_certificate.proofs.public.Tests.{or_cases, or_from_left, same_pair-true, and_left, and_right, not_true, or_left, or_right}
 use Rattle.avro_compare.specs.Leads.{leads_at, lead_pair}
 use Rattle.avro_explain.specs.Places.{pair_of, pairs_of, came, round_of, AreReached, AreTooMany, IsFoundBy, findings_at, findings_from}
 use Rattle.avro_explain.specs.Search.{roots_place, with_place, led_from, with_lead, with_leads, leads_of_place, places_after}

@@ -1,9 +1,8 @@
 -- The ways that steps from pair to pair are in each of two schemas.
-use Rattle.std.proofs.Common.{◌≡◌, ◌<◌, ◌∙◌, ℕ, zero, suc, ◌+◌, List, [], ◌∷◌, ◌++◌, Option, Some, None, length, refl, sym, ap, subst, append_assoc, append-nil, arith}
+use Rattle.std.proofs.Common.{◌≡◌, ◌<◌, ◌∙◌, ℕ, zero, suc, ◌+◌, List, [], ◌∷◌, ◌++◌, Option, Some, None, length, refl, sym, ap, subst, append_assoc, append-nil, arith, slice_get, unwrap_or, option_and_then, reverse, bytes_eq}
 use Rattle.std.proofs.lemmas.List.{reverse-append, length-map}
 use Rattle.std.proofs.lemmas.List.Quantifiers.{position-Some}
 use Rattle.std.proofs.lemmas.Option.{slice_get-get_or, unwrap_or-slice_get}
-use Rattle.std.specs.Prelude.{slice_get, unwrap_or, option_and_then, reverse, bytes_eq}
 use Rattle.avro_schema.specs.Node.{Node, FieldNode, node_at, field_ids, branches_of}
 use Rattle.avro_compare.specs.Match.{first_match}
 use Rattle.avro_compare.specs.Source.{field_index, first_index, or_else, source_of}

@@ -1,16 +1,14 @@
 -- What is built of each thing that a pair may ask for.
-use Rattle.std.proofs.Common.{◌≡◌, ℕ, suc, ◌+◌, ◌≤◌, ◌<◌, Bool, true, false, List, [], ◌∷◌, ◌++◌, Option, Some, None, inl, inr, length, drop, refl, sym, ◌∙◌, ap, subst, arith}
+use Rattle.std.proofs.Common.{◌≡◌, ℕ, suc, ◌+◌, ◌≤◌, ◌<◌, Bool, true, false, List, [], ◌∷◌, ◌++◌, Option, Some, None, inl, inr, length, drop, refl, sym, ◌∙◌, ap, subst, arith, slice_get, is_some, max, option_map, map, ◌==◌}
 use Rattle.std.proofs.lemmas.Bool.{and_from, false≢true, true≢false, eq-eqb, ne_eqb}
 use Rattle.std.proofs.lemmas.Option.{slice_get_within}
-use Rattle.std.specs.Prelude.{slice_get, is_some, max, unwrap_or, option_map, map, ◌==◌}
 use Rattle.avro_schema.specs.Value.{Value, value, size, depth, values_size, values_depth}
 use Rattle.avro_schema.specs.Seen.{values_from}
 use Rattle.avro_schema.specs.Node.{Node, FieldNode, node_at, branches_of, field_ids}
 use Rattle.avro_schema.specs.Fits.{fits, fields_fit}
 use Rattle.avro_schema.proofs.public.Choices.{HasFewChoices-from_is_schema}
-use Rattle.avro_compare.specs.Match.{first_match}
 use Rattle.avro_compare.specs.Source.{reader_field}
-use Rattle.avro_compare.specs.Resolve.{Resolved, matched, into_branch, branch_node, resolve, resolve_sources}
+use Rattle.avro_compare.specs.Resolve.{resolve, resolve_sources}
 use Rattle.avro_compare.specs.Children.{Pair}
 use Rattle.avro_least.specs.Tables.{Least, LeastTable, ErringTable, IsWithin, count_of, around, together, best_of, all_of, no_parts, one}
 use Rattle.avro_least.specs.Asked.{Row, Asked, rows_from, asked, err_of_row, err_of_rows, asked_value}
@@ -27,7 +25,7 @@ use Rattle.avro_least.proofs.public.Keys.{some_same}
 use Rattle.avro_least.proofs.AskedKinds.{IsRecords, asks}
 use Rattle.avro_least.specs.inside.Parts.{PartsPass, RowsPass, row_part}
 use Rattle.avro_least.proofs.AtMostParts.{branch_part}
-use Rattle.avro_certificate.proofs.public.FaultyResults.{through_is_matched, IsFault, the_fault, is_fault, fault_inside, fault_map, fault_later, value_of_plain, plain_form, field_faults, record_faults}
+use Rattle.avro_certificate.proofs.public.FaultyResults.{IsFault, the_fault, is_fault, fault_inside, fault_later, field_faults, record_faults}
 
 -- an entry within the limit
 the_entry : (limit : ℕ) (o : Option Least) → IsWithin limit o → (e : Least) × (o ≡ Some e) × (e.nodes ≤ limit)

@@ -1,7 +1,6 @@
 -- What is built is least.
-use Rattle.std.proofs.Common.{◌≡◌, ℕ, suc, ◌^◌, ◌≤◌, ◌<◌, true, List, [], ◌∷◌, ◌++◌, Option, Some, None, length, refl, sym, ◌∙◌, ap, subst, arith}
+use Rattle.std.proofs.Common.{◌≡◌, ℕ, suc, ◌^◌, ◌≤◌, ◌<◌, true, List, [], ◌∷◌, ◌++◌, Option, Some, None, length, refl, sym, ◌∙◌, ap, subst, arith, slice_get, is_some, max}
 use Rattle.std.proofs.lemmas.Bool.{and_from}
-use Rattle.std.specs.Prelude.{slice_get, is_some, max}
 use Rattle.avro_schema.specs.Value.{Value, size, depth, values_size, values_depth}
 use Rattle.avro_schema.specs.Seen.{values_from, node_of}
 use Rattle.avro_schema.specs.declared.schema.Node.{Node as KeptNode}

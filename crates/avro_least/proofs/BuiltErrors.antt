@@ -1,7 +1,6 @@
 -- Data that err at a pair, by what the pair asks for.
-use Rattle.std.proofs.Common.{◌≡◌, ℕ, suc, ◌+◌, ◌<◌, Bool, true, false, cond, ◌||◌, List, [], ◌∷◌, Option, Some, None, length, refl, sym, ◌∙◌, ap, subst, arith}
+use Rattle.std.proofs.Common.{◌≡◌, ℕ, suc, ◌+◌, ◌<◌, Bool, true, false, cond, ◌||◌, List, [], ◌∷◌, Option, Some, None, length, refl, sym, ◌∙◌, ap, subst, arith, slice_get, unwrap_or, position, bytes_eq}
 use Rattle.std.proofs.lemmas.Bool.{and_from, false≢true, lt-ltb}
-use Rattle.std.specs.Prelude.{slice_get, unwrap_or, position, bytes_eq}
 use Rattle.std.specs.List.{list_any}
 use Rattle.avro_schema.specs.Value.{Value, size, depth}
 use Rattle.avro_schema.specs.Node.{Node, node_at, branches_of}

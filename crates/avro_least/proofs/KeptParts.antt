@@ -1,6 +1,5 @@
 -- The parts of a pair, by the view of what it asks for.
-use Rattle.std.proofs.Common.{◌≡◌, ◌∙◌, ◌<◌, ◌+◌, ℕ, zero, suc, List, [], ◌∷◌, Option, Some, None, inl, inr, length, get_or, refl, sym, ap, arith}
-use Rattle.std.specs.Prelude.{slice_get, option_map, unwrap_or, map}
+use Rattle.std.proofs.Common.{◌≡◌, ◌∙◌, ◌<◌, ◌+◌, ℕ, zero, suc, List, [], ◌∷◌, Option, Some, None, inl, inr, length, get_or, refl, sym, ap, arith, slice_get, option_map, unwrap_or, map}
 use Rattle.std.proofs.lemmas.Bool.{cases_lt}
 use Rattle.std.proofs.lemmas.List.{length-map}
 use Rattle.std.proofs.lemmas.Option.{slice_get-get_or}

@@ -1,7 +1,6 @@
 -- No datum of a node is below its entry.
-use Rattle.std.proofs.Common.{◌≡◌, ℕ, Bool, true, false, List, [], ◌∷◌, Option, Some, None, refl, arith}
+use Rattle.std.proofs.Common.{◌≡◌, ℕ, Bool, true, false, List, [], ◌∷◌, Option, Some, None, refl, arith, slice_get, option_and_then}
 use Rattle.std.proofs.lemmas.Bool.{false≢true}
-use Rattle.std.specs.Prelude.{slice_get, option_and_then}
 use Rattle.avro_name.specs.Name.{Name}
 use Rattle.avro_schema.specs.Value.{Value, Values, no_values, value, size, depth, values_size, values_depth, values_count}
 use Rattle.avro_schema.specs.Node.{Node, FieldNode, node_at, branches_of, fields_of, field_ids}

@@ -1,25 +1,20 @@
 -- A step over a table of pairs.
-use Rattle.std.proofs.Common.{◌≡◌, ℕ, ◌+◌, ◌*◌, ◌/◌, ◌%◌, ◌<◌, Bool, true, false, cond, ◌&&◌, ◌||◌, List, [], ◌∷◌, Option, Some, None, inl, inr, ◌⊎◌, length, get_or, refl, sym, ◌∙◌, ap, subst, arith}
-use Rattle.std.proofs.Math.ListN.{set, replicate}
+use Rattle.std.proofs.Common.{◌≡◌, ℕ, ◌+◌, ◌*◌, ◌/◌, ◌%◌, ◌<◌, Bool, true, false, cond, ◌&&◌, ◌||◌, List, [], ◌∷◌, Option, Some, None, inl, inr, ◌⊎◌, length, get_or, refl, sym, ◌∙◌, ap, subst, arith, slice_get, unwrap_or, option_map, position, nat_lt, ◌==◌, is_some, is_none, set, replicate}
 use Rattle.std.proofs.lemmas.Bool.{false≢true, and_from, ltb-true, eqb-true, cases_eq}
 use Rattle.std.proofs.lemmas.Nat.{div-mul-add, mod-mul-add}
 use Rattle.std.proofs.lemmas.Option.{slice_get-get_or, slice_get-map}
 use Rattle.std.proofs.lemmas.Iterator.Adapters.{position_from-zero}
 use Rattle.std.proofs.lemmas.List.Quantifiers.{position-Some}
-use Rattle.std.specs.Prelude.{slice_get, unwrap_or, option_map, position, nat_lt, ◌==◌, is_some, is_none}
 use Rattle.std.specs.List.{list_all, list_any, position_from}
 use Rattle.avro_schema.specs.Node.{Node, node_at}
-use Rattle.avro_schema.specs.WellFormed.{is_schema}
 use Rattle.avro_compare.specs.Children.{Pair}
-use Rattle.avro_least.specs.Tables.{Least, LeastTable, AreDataShown, ShowsError, no_parts, pair_number, reached_entry, erring_of, err_of}
+use Rattle.avro_least.specs.Tables.{Least, LeastTable, ShowsError, no_parts, pair_number, reached_entry, erring_of}
 use Rattle.avro_least.specs.SeenLeast.{seen, seen_all, given_entry}
 use Rattle.avro_least.specs.declared.kept.Least.{Least as KeptLeast}
 use Rattle.avro_least.specs.Reached.{is_key}
-use Rattle.avro_least.specs.Asked.{asked_at, asked_value, children_at, live_numbers, steps_at, is_known, ArePairsShown}
+use Rattle.avro_least.specs.Asked.{live_numbers, is_known, ArePairsShown}
 use Rattle.avro_certificate.proofs.public.Tests.{all_at, and_left, and_right, or_from_left, or_from_right}
 use Rattle.avro_least.proofs.Rounds.{set_here, set_other, slice_get-replicate}
-use Rattle.avro_least.proofs.AskedValue.{value_is}
-use Rattle.avro_least.proofs.public.Stepping.{children_at_within}
 use Rattle.avro_least.proofs.public.Keys.{some_same}
 use Rattle.avro_certificate.proofs.public.Within.{is_within}
 

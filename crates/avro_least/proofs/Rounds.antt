@@ -1,10 +1,8 @@
 -- Entries that are set, and tables at the start.
-use Rattle.std.proofs.Common.{◌≡◌, ℕ, zero, suc, ◌<◌, true, false, List, [], ◌∷◌, Option, Some, None, inl, inr, length, refl, sym, ◌∙◌, ap, subst, arith}
-use Rattle.std.proofs.Math.ListN.{set, replicate}
+use Rattle.std.proofs.Common.{◌≡◌, ℕ, zero, suc, ◌<◌, true, false, List, [], ◌∷◌, Option, Some, None, inl, inr, length, refl, sym, ◌∙◌, ap, subst, arith, slice_get, unwrap_or, is_some, nat_lt, ◌==◌, ◌&&◌, set, replicate}
 use Rattle.std.proofs.lemmas.Bool.{false≢true, true≢false, ltb-true, eqb-true, cases_lt}
 use Rattle.std.proofs.lemmas.Option.{slice_get_past, slice_get-get_or}
 use Rattle.std.proofs.lemmas.List.{get_or-set_same, length-set, length-replicate}
-use Rattle.std.specs.Prelude.{slice_get, unwrap_or, is_some, nat_lt, ◌==◌, ◌&&◌, is_none}
 use Rattle.avro_schema.specs.Value.{Value}
 use Rattle.avro_schema.specs.Node.{Node, node_at}
 use Rattle.avro_least.specs.Tables.{Least, AtMost, AreDataShown, ShowsData, one}

@@ -1,7 +1,6 @@
 -- Data of a record or of a writer's union that err, from those of their parts.
-use Rattle.std.proofs.Common.{◌≡◌, ℕ, suc, true, List, ◌∷◌, Option, Some}
+use Rattle.std.proofs.Common.{◌≡◌, ℕ, suc, true, List, ◌∷◌, Option, Some, slice_get}
 use Rattle.std.proofs.lemmas.Bool.{and_from}
-use Rattle.std.specs.Prelude.{slice_get}
 use Rattle.avro_schema.specs.Value.{Value, Values, value, size, depth, values_size, values_depth}
 use Rattle.avro_schema.specs.Node.{Node, FieldNode, node_at, field_ids}
 use Rattle.avro_schema.specs.Fits.{fits, fields_fit}

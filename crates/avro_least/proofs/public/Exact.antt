@@ -1,8 +1,7 @@
 -- Within the limit each entry of a pair that was reached is what the pair asks for.
-use Rattle.std.proofs.Common.{◌≡◌, ℕ, ◌+◌, ◌*◌, ◌/◌, ◌%◌, ◌≤◌, ◌<◌, Bool, true, ◌&&◌, ◌||◌, List, Option, Some, None, length, refl, sym, ◌∙◌, ap, subst, arith}
+use Rattle.std.proofs.Common.{◌≡◌, ℕ, ◌+◌, ◌*◌, ◌/◌, ◌%◌, ◌≤◌, ◌<◌, Bool, true, ◌&&◌, ◌||◌, List, Option, Some, None, length, refl, sym, ◌∙◌, ap, subst, arith, slice_get, is_some, is_none, nat_lt, ◌==◌}
 use Rattle.std.proofs.lemmas.Nat.{div-mul-add, mod-mul-add}
 use Rattle.std.proofs.lemmas.Bool.{ltb-true, lt-ltb, eqb-true, false≢true}
-use Rattle.std.specs.Prelude.{slice_get, is_some, is_none, nat_lt, ◌==◌}
 use Rattle.std.specs.List.{list_all}
 use Rattle.avro_schema.specs.Value.{size, depth}
 use Rattle.avro_schema.specs.Node.{Node, node_at}

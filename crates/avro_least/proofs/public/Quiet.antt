@@ -1,10 +1,9 @@
 -- What it says of a node and of a pair that they have no entry.
-use Rattle.std.proofs.Common.{◌≡◌, ℕ, suc, ◌+◌, ◌≤◌, ◌<◌, Bool, true, false, not, ◌||◌, cond, List, [], ◌∷◌, drop, Option, Some, None, inl, inr, length, refl, sym, ◌∙◌, ap, subst, arith}
+use Rattle.std.proofs.Common.{◌≡◌, ℕ, suc, ◌+◌, ◌≤◌, ◌<◌, Bool, true, false, not, ◌||◌, cond, List, [], ◌∷◌, drop, Option, Some, None, inl, inr, length, refl, sym, ◌∙◌, ap, subst, arith, max, slice_get, unwrap_or, is_some, is_none, bytes_eq}
 use Rattle.std.proofs.lemmas.Bool.{false≢true, and_from, cases_eq}
 use Rattle.std.proofs.lemmas.List.Folds.{list_all-map}
-use Rattle.std.specs.Prelude.{max, slice_get, unwrap_or, is_some, is_none, bytes_eq}
 use Rattle.std.specs.List.{list_all, list_any, flat_map}
-use Rattle.avro_schema.specs.Value.{Value, Values, no_values, value, size, depth, values_size, values_depth, values_count}
+use Rattle.avro_schema.specs.Value.{Value, Values, no_values, value, size, depth, values_count}
 use Rattle.avro_schema.specs.Node.{Node, FieldNode, node_at, branches_of, field_ids}
 use Rattle.avro_schema.specs.Fits.{fits, fields_fit, is_count, are_bytes}
 use Rattle.avro_schema.specs.Distinct.{are_distinct}
@@ -23,7 +22,7 @@ use Rattle.avro_compare.proofs.public.NodeKinds.{fault_of_union, fault_of_others
 use Rattle.avro_certificate.proofs.public.Shapes.{meets_rules_at}
 use Rattle.avro_certificate.proofs.public.Resolving.{slice_get_of_drop, drop_more}
 use Rattle.avro_least.proofs.LeastOrder.{under_more_left, under_more_right}
-use Rattle.avro_least.proofs.LeastData.{at_most_data, at_most_fields}
+use Rattle.avro_least.proofs.LeastData.{at_most_data}
 use Rattle.avro_least.proofs.LeastErrors.{err_of_plain, err_of_none, err_of_some}
 
 -- an entry that nothing is above is none

@@ -1,10 +1,8 @@
 -- A step over entries that have data has a datum.
-use Rattle.std.proofs.Common.{◌≡◌, ℕ, suc, ◌+◌, ◌≤◌, Bool, true, false, cond, pos, List, [], ◌∷◌, Option, Some, None, ◌⊎◌, inl, inr, length, refl, sym, ◌∙◌, subst, arith}
+use Rattle.std.proofs.Common.{◌≡◌, ℕ, suc, ◌+◌, ◌≤◌, Bool, true, false, cond, List, [], ◌∷◌, Option, Some, None, ◌⊎◌, inl, inr, length, refl, sym, ◌∙◌, subst, arith, max, slice_get, is_some, nat_le, ◌==◌, replicate}
 use Rattle.std.proofs.lemmas.Bool.{false≢true, eq-eqb, and_from}
 use Rattle.std.proofs.lemmas.List.{length-replicate}
-use Rattle.std.proofs.Math.ListN.{replicate}
-use Rattle.std.specs.Prelude.{max, slice_get, is_some, nat_le, ◌==◌}
-use Rattle.avro_schema.specs.Value.{Value, Values, no_values, value, no_entries, size, depth, values_size, values_depth}
+use Rattle.avro_schema.specs.Value.{Value, Values, no_values, value, size, depth, values_size, values_depth}
 use Rattle.avro_schema.specs.Node.{Node, node_at, branches_of, fields_of, field_ids}
 use Rattle.avro_schema.specs.Fits.{fits, fields_fit, are_bytes}
 use Rattle.avro_schema.specs.WellFormed.{meets_its_rules}

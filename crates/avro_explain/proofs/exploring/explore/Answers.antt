@@ -1,4 +1,4 @@
-use Rattle.std.proofs.Common.{◌≡◌, ◌∙◌, ◌+◌, ◌<◌, ℕ, suc, List, length, sym, subst, arith}
+use Rattle.std.proofs.Common.{◌∙◌, ◌<◌, ℕ, suc, List, length, sym, subst, arith}
 use Rattle.avro_schema.specs.SeenSchema.{schema_nodes}
 use Rattle.avro_explain.specs.Places.{marked}
 use Rattle.avro_explain.specs.inside.Walks.{IsWalk}

@@ -1,6 +1,5 @@
-use Rattle.std.proofs.Common.{◌≡◌, ℕ, zero, suc, ◌+◌, ◌-◌, ◌<◌, ◌≤◌, true, List, [], ◌∷◌, ◌++◌, Some, take, length, get_or, refl, sym, ◌∙◌, ap, subst, arith}
+use Rattle.std.proofs.Common.{◌≡◌, ℕ, zero, suc, ◌+◌, ◌-◌, ◌<◌, ◌≤◌, true, List, [], ◌∷◌, ◌++◌, Some, take, length, get_or, refl, sym, ◌∙◌, ap, subst, arith, map, ◌==◌}
 use Rattle.std.proofs.lemmas.List.{take_more, map-append, length-map, take_all}
-use Rattle.std.specs.Prelude.{map, ◌==◌}
 use Rattle.avro_schema.specs.Value.{Value}
 use Rattle.avro_schema.specs.Seen.{ids_of, value_of}
 use Rattle.avro_schema.specs.SeenSchema.{schema_nodes}

@@ -1,5 +1,4 @@
-use Rattle.std.proofs.Common.{ℕ, List, ◌*◌, ◌+◌, ◌-◌, cond, take}
-use Rattle.std.specs.Prelude.{map, is_some}
+use Rattle.std.proofs.Common.{ℕ, List, ◌*◌, ◌+◌, ◌-◌, cond, take, map, is_some}
 use Rattle.avro_schema.specs.Node.{Node as SeenNode, node_at, branches_of}
 use Rattle.avro_schema.specs.Seen.{value_of}
 use Rattle.avro_schema.specs.SeenSchema.{schema_nodes}

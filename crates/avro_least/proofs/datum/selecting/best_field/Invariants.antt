@@ -1,5 +1,4 @@
-use Rattle.std.proofs.Common.{◌≡◌, ◌≤◌, length, drop}
-use Rattle.std.specs.Prelude.{map}
+use Rattle.std.proofs.Common.{◌≡◌, ◌≤◌, length, drop, map}
 use Rattle.avro_least.specs.Tables.{all_of}
 use Rattle.avro_least.specs.SeenLeast.{seen}
 use Rattle.avro_least.specs.SeenTables.{erring_in, least_in}

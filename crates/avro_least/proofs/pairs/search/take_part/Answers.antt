@@ -1,7 +1,5 @@
-use Rattle.std.proofs.Common.{◌≡◌, ◌<◌, ◌*◌, ℕ, Some, List, Option, length, arith, sym, ◌∙◌, ap, subst}
-use Rattle.std.proofs.lemmas.Bool.{lt-ltb}
+use Rattle.std.proofs.Common.{◌≡◌, ◌<◌, ◌*◌, ℕ, Some, List, Option, length, arith, sym, ◌∙◌, ap, subst, slice_get, unwrap_or, lt-ltb}
 use Rattle.std.proofs.lemmas.Option.{slice_get_within}
-use Rattle.std.specs.Prelude.{slice_get, unwrap_or}
 use Rattle.indexmap.specs.IndexSet.{keys}
 use Rattle.avro_schema.specs.Node.{Node}
 use Rattle.avro_schema.specs.SeenSchema.{schema_nodes}
