@@ -1,7 +1,6 @@
 -- The first fault of each datum is at a pair that its path leads to.
-use Rattle.std.proofs.Common.{◌≡◌, ℕ, zero, suc, ◌<◌, Bool, true, false, cond, ◌||◌, List, [], ◌∷◌, ◌++◌, Option, Some, None, Result, Ok, Err, length, drop, refl, sym, ◌∙◌, ap, subst, arith}
+use Rattle.std.proofs.Common.{◌≡◌, ℕ, zero, suc, ◌<◌, Bool, true, false, cond, ◌||◌, List, [], ◌∷◌, ◌++◌, Option, Some, None, Ok, Err, length, drop, refl, sym, ◌∙◌, ap, subst, arith, slice_get, unwrap_or, option_and_then, nat_lt, is_some, position, bytes_eq, ◌==◌}
 use Rattle.std.proofs.lemmas.Bool.{false≢true, eq-eqb, eqb-true, ltb-true}
-use Rattle.std.specs.Prelude.{slice_get, unwrap_or, option_and_then, nat_lt, is_some, position, bytes_eq, ◌==◌}
 use Rattle.std.specs.List.{list_any}
 use Rattle.std.specs.Str.{is_utf8}
 use Rattle.avro_schema.specs.Value.{Value, Values, Entries, no_values, value, no_entries, entry, values_count}
@@ -11,7 +10,7 @@ use Rattle.avro_schema.specs.WellFormed.{is_schema}
 use Rattle.avro_compare.specs.Fault.{ResolutionFault, fault_here, fault_in, no_match, not_utf8}
 use Rattle.avro_compare.specs.Match.{match_within, is_match, first_match}
 use Rattle.avro_compare.specs.Source.{source_of, is_index, reader_field, missing_field_from, missing_field}
-use Rattle.avro_compare.specs.Resolve.{Resolved, Sourced, inside, result_map, both, matched, through, into_branch, int_as, bytes_as, string_as, enum_as, enum_or_default, part_at, symbol_at, fields_at, field_values, branch_node, record_or_missing, with_sourced, resolve, resolve_items, resolve_entries, resolve_sources}
+use Rattle.avro_compare.specs.Resolve.{Resolved, inside, result_map, matched, through, into_branch, int_as, bytes_as, string_as, enum_as, enum_or_default, part_at, symbol_at, fields_at, field_values, branch_node, record_or_missing, resolve, resolve_items, resolve_entries, resolve_sources}
 use Rattle.avro_compare.specs.Children.{Pair}
 use Rattle.avro_certificate.specs.Closed.{is_among, is_among_pairs, is_dead}
 use Rattle.avro_certificate.specs.Compatible.{ErrsWith}
@@ -20,7 +19,7 @@ use Rattle.avro_certificate.proofs.public.DeadNodes.{no_dead_datum}
 use Rattle.avro_compare.proofs.public.NodeKinds.{is_plain_value, plain_node, union_of_branches}
 use Rattle.avro_certificate.proofs.public.Resolving.{slice_get_of_drop, drop_more}
 use Rattle.avro_certificate.proofs.public.Shapes.{first_match_within, plain_branch}
-use Rattle.avro_certificate.proofs.public.Successes.{Succeeds, succeeds_int, succeeds_string}
+use Rattle.avro_certificate.proofs.public.Successes.{succeeds_int, succeeds_string}
 use Rattle.avro_compare.proofs.public.Symbols.{some_position}
 use Rattle.avro_certificate.proofs.public.Tests.{and_left, and_right}
 use Rattle.avro_explain.specs.Blamed.{cause_for, goes_to, is_choice, IsPath, ends, chooses, goes, IsFaultFrom, IsAtOne}
@@ -31,37 +30,10 @@ use Rattle.avro_compare.specs.declared.lead.Lead.{Lead}
 use Rattle.avro_compare.specs.declared.lead.Step.{Step}
 use Rattle.avro_compare.proofs.public.LeadPairs.{lead_children}
 use Rattle.avro_explain.proofs.LeadPairs.{lead_among}
+use Rattle.avro_least.proofs.public.Faults.{Blames, blames_both, blames_good, blames_inside, blames_map, blames_more, blames_sourced}
 use Rattle.avro_least.proofs.public.Keys.{some_same}
 use Rattle.avro_explain.proofs.LocalFaults.{details_of_union, details_of_others}
 use Rattle.avro_certificate.proofs.public.FaultyResults.{through_is_matched}
-
--- a result, the fault of which is such a one
-abbrev Blames : {A : Type 0} → (ResolutionFault → Type 0) → Result A ResolutionFault → Type 0
-Blames T (Ok a) = Unit {0}
-Blames T (Err e) = T e
-
-blames_good : {A : Type 0} (T : ResolutionFault → Type 0) (x : Result A ResolutionFault) → Succeeds x → Blames T x
-blames_good T (Ok a) h = tt
-blames_good T (Err e) h = absurd h
-
-blames_map : {A B : Type 0} (T : ResolutionFault → Type 0) (f : A → B) (x : Result A ResolutionFault) → Blames T x → Blames T (result_map f x)
-blames_map T f (Ok a) h = tt
-blames_map T f (Err e) h = h
-
-blames_both : {A B C : Type 0} (T : ResolutionFault → Type 0) (f : A → B → C) (x : Result A ResolutionFault) (y : Result B ResolutionFault)
-    → Blames T x → Blames T y → Blames T (both f x y)
-blames_both T f (Ok a) (Ok b) h k = tt
-blames_both T f (Ok a) (Err e) h k = k
-blames_both T f (Err e) y h k = h
-
-blames_inside : {A : Type 0} (T U : ResolutionFault → Type 0) (step : ℕ) (x : Result A ResolutionFault) → ((e : ResolutionFault) → T e → U (fault_in step e))
-    → Blames T x → Blames U (inside step x)
-blames_inside T U step (Ok a) up h = tt
-blames_inside T U step (Err e) up h = up e h
-
-blames_more : {A : Type 0} (T U : ResolutionFault → Type 0) (x : Result A ResolutionFault) → ((e : ResolutionFault) → T e → U e) → Blames T x → Blames U x
-blames_more T U (Ok a) up h = tt
-blames_more T U (Err e) up h = up e h
 
 -- where things stand among others
 
@@ -241,10 +213,6 @@ module _ (writer reader : List Node) (dead : List ℕ) (dead_set : is_dead write
   blames_symbol w b k (Node.enum a xs symbols x) (Node.enum c ys others y) steps from to live plain theirs m inside their_plain h =
       decided (position (λ t. bytes_eq t (unwrap_or (slice_get symbols k) [])) others) y (some_position (unwrap_or (slice_get symbols k) []) others) refl
     where
-      none_some : (o : Option ℕ) → o ≡ None → is_some o ≡ false
-      none_some None e = refl
-      none_some (Some i) e = absurd (grind arith)
-
       decided : (o d : Option ℕ) → is_some o ≡ list_any (bytes_eq (unwrap_or (slice_get symbols k) [])) others → y ≡ d → Blames (From w b) (enum_or_default o d)
       decided (Some i) d e g = tt
       decided None (Some i) e g = tt
@@ -324,12 +292,6 @@ module _ (writer reader : List Node) (dead : List ℕ) (dead_set : is_dead write
           (go_down w r found.0 0 (lead_by (Step.Branch found.1.0) id r) live (ap (λ (p : Node). slice_get (leads_of writer reader w r p (node_at reader r)) found.0) from ∙ found.1.1) refl)
           (each id passes))
   blames_union v k w r _ from live h each = absurd (false≢true h)
-
-  -- a field
-  blames_sourced : (T : ResolutionFault → Type 0) (o : Option FieldNode) (index : ℕ) (f : FieldNode → Resolved) (later : Result Sourced ResolutionFault)
-      → ((g : FieldNode) → o ≡ Some g → Blames T (inside index (f g))) → Blames T later → Blames T (with_sourced o index f later)
-  blames_sourced T None index f later here h = h
-  blames_sourced T (Some g) index f later here h = blames_both T (λ v found. (index, v) ∷ found) (inside index (f g)) later (here g refl) h
 
   plain_of : (v : Value) (w : ℕ) → is_plain_value v ≡ true → fits writer (node_at writer w) v ≡ true → branches_of (node_at writer w) ≡ None
   plain_of v w plain h = plain_node writer (node_at writer w) v plain h

@@ -1,14 +1,12 @@
 -- The pair of a lead is among those of all leads.
-use Rattle.std.proofs.Common.{◌≡◌, ℕ, zero, suc, true, List, [], ◌∷◌, Some, map, refl, subst, arith}
-use Rattle.std.proofs.lemmas.Bool.{eq-eqb}
-use Rattle.std.specs.Prelude.{slice_get, ◌==◌}
+use Rattle.std.proofs.Common.{◌≡◌, ℕ, suc, true, List, ◌∷◌, Some, map, refl, ap, ◌∙◌, slice_get, option_map, ◌==◌, eq-eqb}
+use Rattle.std.proofs.lemmas.Map.Keys.{any_passes_from_place}
+use Rattle.std.proofs.lemmas.Option.{slice_get-map}
 use Rattle.avro_compare.specs.Children.{Pair}
 use Rattle.avro_compare.specs.Leads.{lead_pair}
 use Rattle.avro_compare.specs.declared.lead.Lead.{Lead}
 use Rattle.avro_certificate.specs.Closed.{same_pair, is_among_pairs}
-use Rattle.avro_certificate.proofs.public.Tests.{or_from_left, or_from_right}
 use Rattle.avro_certificate.proofs.public.Rising.{both_true}
-use Rattle.avro_least.proofs.public.Keys.{some_same}
 
 pub same_itself : (p : Pair) → same_pair p p ≡ true
 same_itself p = both_true (p.w == p.w) (p.r == p.r) (eq-eqb p.w p.w refl) (eq-eqb p.r p.r refl)
@@ -23,7 +21,5 @@ later_lead first leads lead own = record { index = suc own.index; there = own.th
 
 -- the pair of a lead is among the pairs of all
 pub lead_among : (leads : List Lead) (k : ℕ) (lead : Lead) → slice_get leads k ≡ Some lead → is_among_pairs (map lead_pair leads) (lead_pair lead) ≡ true
-lead_among [] k lead h = absurd (grind arith)
-lead_among (first ∷ leads) zero lead h = or_from_left (same_pair (lead_pair lead) (lead_pair first)) _
-    (subst (λ (l : Lead). same_pair (lead_pair l) (lead_pair first) ≡ true) (some_same first lead h) (same_itself (lead_pair first)))
-lead_among (first ∷ leads) (suc k) lead h = or_from_right (same_pair (lead_pair lead) (lead_pair first)) _ (lead_among leads k lead h)
+lead_among leads k lead h = any_passes_from_place (same_pair (lead_pair lead)) (map lead_pair leads) k (lead_pair lead)
+    (slice_get-map lead_pair leads k ∙ ap (option_map lead_pair) h) (same_itself (lead_pair lead))

@@ -1,7 +1,5 @@
 -- A pair of nodes has details exactly where it has a fault of its own.
-use Rattle.std.proofs.Common.{◌≡◌, ℕ, suc, Bool, true, false, not, cond, ◌||◌, List, [], ◌∷◌, Option, Some, None, refl, sym, ◌∙◌, ap, subst, arith}
-use Rattle.std.proofs.lemmas.Bool.{true≢false}
-use Rattle.std.specs.Prelude.{is_some, is_none, bytes_eq}
+use Rattle.std.proofs.Common.{◌≡◌, ℕ, suc, Bool, true, false, not, cond, ◌||◌, List, [], ◌∷◌, Option, Some, None, refl, sym, ◌∙◌, ap, subst, arith, is_some, is_none, bytes_eq, true≢false}
 use Rattle.std.specs.List.{list_any}
 use Rattle.avro_schema.specs.Node.{Node, FieldNode, branches_of}
 use Rattle.avro_compare.specs.Match.{is_match, first_match}

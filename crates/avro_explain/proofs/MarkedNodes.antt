@@ -1,8 +1,6 @@
--- Marks of nodes that may be dead: which are among them, and what is left when one is taken away.
-use Rattle.std.proofs.Common.{◌≡◌, ℕ, zero, suc, ◌+◌, ◌<◌, ◌≤◌, Bool, true, false, List, [], ◌∷◌, Option, Some, None, length, get_or, map, refl, sym, ◌∙◌, ap, arith}
-use Rattle.std.proofs.lemmas.Bool.{false≢true, eq-eqb, ne_eqb}
-use Rattle.std.proofs.Math.ListN.{set}
-use Rattle.std.specs.Prelude.{◌==◌, is_none}
+-- Marks of nodes that may be dead: which are among them.
+use Rattle.std.proofs.Common.{◌≡◌, ℕ, zero, suc, ◌+◌, ◌<◌, ◌≤◌, Bool, true, false, List, [], ◌∷◌, Option, Some, None, length, get_or, map, refl, sym, ◌∙◌, ap, arith, ◌==◌, is_none}
+use Rattle.std.proofs.lemmas.Bool.{eq-eqb, ne_eqb}
 use Rattle.avro_certificate.specs.Closed.{is_among}
 use Rattle.avro_certificate.proofs.public.Tests.{or_from_left}
 use Rattle.avro_least.specs.SeenLeast.{table_of}
@@ -40,28 +38,6 @@ pub none_past : (ms : List Bool) (k : ℕ) → length ms ≤ k → is_mark ms k 
 none_past [] k h = none_there k
 none_past (m ∷ ms) zero h = absurd (omega (arith, h))
 none_past (m ∷ ms) (suc k) h = none_past ms k (omega (arith, h))
-
--- a mark stands at a node
-pub mark_within : (ms : List Bool) (k : ℕ) → is_mark ms k ≡ true → k < length ms
-mark_within [] k h = absurd (false≢true (sym (none_there k) ∙ h))
-mark_within (m ∷ ms) zero h = omega arith
-mark_within (m ∷ ms) (suc k) h = omega (arith, mark_within ms k h)
-
--- a mark that is taken away
-
-pub mark_stays : (ms : List Bool) (id k : ℕ) → (id ≡ k → ⊥) → is_mark ms k ≡ true → is_mark (set ms id false) k ≡ true
-mark_stays [] id k other h = h
-mark_stays (m ∷ ms) zero zero other h = absurd (other refl)
-mark_stays (m ∷ ms) zero (suc k) other h = h
-mark_stays (m ∷ ms) (suc id) zero other h = h
-mark_stays (m ∷ ms) (suc id) (suc k) other h = mark_stays ms id k (λ e. other (ap suc e)) h
-
-pub one_less : (from : ℕ) (ms : List Bool) (id : ℕ) → is_mark ms id ≡ true → suc (length (marked_from from (set ms id false))) ≡ length (marked_from from ms)
-one_less from [] id h = absurd (false≢true (sym (none_there id) ∙ h))
-one_less from (true ∷ ms) zero h = refl
-one_less from (false ∷ ms) zero h = absurd (false≢true h)
-one_less from (true ∷ ms) (suc id) h = ap suc (one_less (suc from) ms id h)
-one_less from (false ∷ ms) (suc id) h = one_less (suc from) ms id h
 
 -- where a mark stands for each entry that is none, these are the nodes without an entry
 pub none_marked : (es : List (Option KeptLeast)) (ms : List Bool) → ms ≡ map is_none es → (p : ℕ) → is_among (marked ms) p ≡ is_none (table_of es p)

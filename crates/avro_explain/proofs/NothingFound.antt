@@ -1,7 +1,6 @@
 -- Where no fault is found at the pairs that the roots lead to, these show that the schemas are compatible.
-use Rattle.std.proofs.Common.{◌≡◌, ℕ, suc, Bool, true, false, not, ◌&&◌, ◌||◌, List, [], ◌∷◌, ◌++◌, length, inl, inr, refl, sym, ◌∙◌, ap, subst}
+use Rattle.std.proofs.Common.{◌≡◌, ℕ, suc, Bool, true, false, not, ◌&&◌, ◌||◌, List, [], ◌∷◌, ◌++◌, length, inl, inr, refl, sym, ◌∙◌, ap, subst, nat_lt, nat_le, filter_map}
 use Rattle.std.proofs.lemmas.Bool.{false≢true, and_from, not_from_false}
-use Rattle.std.specs.Prelude.{nat_lt, nat_le, filter_map}
 use Rattle.std.specs.List.{list_all}
 use Rattle.avro_name.specs.Name.{same_name}
 use Rattle.avro_schema.specs.Distinct.{are_distinct}

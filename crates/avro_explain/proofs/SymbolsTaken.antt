@@ -1,10 +1,9 @@
 -- The symbols for which none is found are those that the reader lacks, where it has no default.
-use Rattle.std.proofs.Common.{◌≡◌, ◌∙◌, ℕ, suc, ◌+◌, ◌<◌, Bool, true, false, not, cond, List, [], ◌∷◌, ◌++◌, Option, Some, None, drop, length, is_some, refl, sym, ap, subst, arith}
+use Rattle.std.proofs.Common.{◌≡◌, ◌∙◌, ℕ, suc, ◌+◌, ◌<◌, Bool, true, false, not, cond, List, [], ◌∷◌, ◌++◌, Option, Some, None, drop, length, is_some, refl, sym, ap, subst, arith, String, bytes_eq, is_none, unwrap_or}
 use Rattle.std.proofs.Math.Seq.{drop-length}
 use Rattle.std.proofs.lemmas.Bool.{false≢true, true≢false}
 use Rattle.std.proofs.lemmas.List.{append-nil}
 use Rattle.std.proofs.lemmas.Iterator.Adapters.{position_from-zero}
-use Rattle.std.specs.Prelude.{String, bytes_eq, is_none, unwrap_or}
 use Rattle.std.specs.List.{list_any, position_from}
 use Rattle.std.specs.declared.alloc.Global.{Global}
 use Rattle.avro_name.specs.Name.{Name}
@@ -29,13 +28,11 @@ one_same index (Some k) false e = refl
 pub untaken_next : (w q : Node) (i : ℕ) (f : Option ℕ) (symbols : List (List ℕ)) → symbols ≡ unwrap_or (symbols_of w) [] → i < length symbols
     → IsSymbol (enum_as (symbol_at w i) q) f → untaken_from q i (drop i symbols) ≡ untaken_one i f ++ untaken_from q (i + 1) (drop (i + 1) symbols)
 untaken_next w q i f symbols e low h =
+    let more : suc i ≡ i + 1 = omega arith in
     ap (untaken_from q i) (ap (λ (ss : List (List ℕ)). drop i ss) e ∙ symbols_there w i (subst (λ (ss : List (List ℕ)). i < length ss) e low))
     ∙ ap (λ (ds : List Detail). ds ++ untaken_from q (suc i) (drop (i + 1) (unwrap_or (symbols_of w) []))) (one_same i f (lacks q (symbol_at w i)) (lacks_is q (symbol_at w i) f h))
-    ∙ ap (λ (n : ℕ). untaken_one i f ++ untaken_from q n (drop (i + 1) (unwrap_or (symbols_of w) []))) (more i)
+    ∙ ap (λ (n : ℕ). untaken_one i f ++ untaken_from q n (drop (i + 1) (unwrap_or (symbols_of w) []))) more
     ∙ ap (λ (ss : List (List ℕ)). untaken_one i f ++ untaken_from q (i + 1) (drop (i + 1) ss)) (sym e)
-  where
-    more : (i : ℕ) → suc i ≡ i + 1
-    more i = omega arith
 
 pub texts_many : (symbols : List (String Global)) → length (texts_of symbols) ≡ length symbols
 texts_many [] = refl

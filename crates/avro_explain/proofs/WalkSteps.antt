@@ -1,16 +1,15 @@
 -- What holds of the places when one more is added, and when all are that a place leads to.
-use Rattle.std.proofs.Common.{◌≡◌, ℕ, zero, suc, ◌+◌, ◌<◌, ◌≤◌, ◌⊎◌, Bool, true, false, not, cond, ◌||◌, List, [], ◌∷◌, ◌++◌, Option, Some, None, map, length, take, inl, inr, refl, sym, ◌∙◌, ap, subst, append_assoc, arith}
+use Rattle.std.proofs.Common.{◌≡◌, ℕ, zero, suc, ◌+◌, ◌<◌, ◌≤◌, ◌⊎◌, Bool, true, false, not, cond, ◌||◌, List, [], ◌∷◌, ◌++◌, Option, Some, None, map, length, take, inl, inr, refl, sym, ◌∙◌, ap, subst, append_assoc, arith, slice_get, option_map, nat_lt}
 use Rattle.std.proofs.lemmas.Bool.{false≢true, true≢false, and_from, ltb-true, ltb-false, not_from_false}
 use Rattle.std.proofs.lemmas.List.{append-nil, map-append, length-append, length-map}
 use Rattle.std.proofs.lemmas.List.Folds.{list_any-append}
-use Rattle.std.specs.Prelude.{slice_get, nat_lt}
 use Rattle.std.specs.List.{list_any}
 use Rattle.avro_schema.specs.Distinct.{are_distinct}
 use Rattle.avro_schema.specs.Node.{Node, node_at}
 use Rattle.avro_compare.specs.Children.{Pair, children_of}
 use Rattle.avro_certificate.specs.Closed.{same_pair, is_among, is_among_pairs}
 use Rattle.avro_certificate.specs.Evidence.{IsReached, roots, child}
-use Rattle.avro_certificate.proofs.public.Tests.{or_cases, or_from_left, or_from_right, same_pair-true, and_left, and_right, not_true, or_left, or_right}
+use Rattle.avro_certificate.proofs.public.Tests.{or_cases, or_from_left, same_pair-true, and_left, and_right, not_true, or_left, or_right}
 use Rattle.avro_compare.specs.Leads.{leads_at, lead_pair}
 use Rattle.avro_explain.specs.Places.{pair_of, pairs_of, came, round_of, AreReached, AreTooMany, IsFoundBy, findings_at, findings_from}
 use Rattle.avro_explain.specs.Search.{roots_place, with_place, led_from, with_lead, with_leads, leads_of_place, places_after}
@@ -23,7 +22,11 @@ use Rattle.avro_compare.proofs.public.LeadPairs.{lead_children}
 use Rattle.avro_explain.proofs.LeadPairs.{IsLead, later_lead, lead_among, same_itself}
 use Rattle.avro_least.proofs.public.Keys.{some_same}
 use Rattle.avro_compare.proofs.public.Lists.{get_last}
-use Rattle.std.proofs.lemmas.Option.{slice_get_within}
+use Rattle.std.proofs.lemmas.Map.Keys.{any_passes_from_place}
+use Rattle.std.proofs.lemmas.Option.{slice_get-map, slice_get_within}
+
+pub one_more : (k : ℕ) → suc k ≡ k + 1
+one_more k = omega arith
 
 -- what stands at an index, of a list and one more
 
@@ -67,9 +70,6 @@ module _ (writer reader : List Node) where
   findings_more places new rest next q before after is here b a =
       a ∙ ap (λ (fs : List Finding). fs ++ findings_at writer reader next q) b ∙ sym (findings_next 0 places rest next next q here (omega arith))
       ∙ ap (λ (k : ℕ). findings_from writer reader 0 (take k (places ++ rest))) (one_more next) ∙ ap (λ (ps : List Place). findings_from writer reader 0 (take (next + 1) ps)) (sym is)
-    where
-      one_more : (k : ℕ) → suc k ≡ k + 1
-      one_more k = omega arith
 
 -- pairs that stand once, with one that is not there
 distinct_more : (ps : List Pair) (p : Pair) → are_distinct same_pair ps ≡ true → is_among_pairs ps p ≡ false → are_distinct same_pair (ps ++ p ∷ []) ≡ true
@@ -104,10 +104,8 @@ place_of (p ∷ ps) c h = elim (or_cases (same_pair c (pair_of p)) (is_among_pai
 ]
 
 pub pair_there : (places : List Place) (k : ℕ) (p : Place) → slice_get places k ≡ Some p → is_among_pairs (pairs_of places) (pair_of p) ≡ true
-pair_there [] k p h = absurd (grind arith)
-pair_there (q ∷ qs) zero p h = or_from_left (same_pair (pair_of p) (pair_of q)) _
-    (subst (λ (x : Place). same_pair (pair_of x) (pair_of q) ≡ true) (some_same q p h) (same_itself (pair_of q)))
-pair_there (q ∷ qs) (suc k) p h = or_from_right (same_pair (pair_of p) (pair_of q)) _ (pair_there qs k p h)
+pair_there places k p h = any_passes_from_place (same_pair (pair_of p)) (pairs_of places) k (pair_of p)
+    (slice_get-map pair_of places k ∙ ap (option_map pair_of) h) (same_itself (pair_of p))
 
 found_there : (places : List Place) (rounds : ℕ) (c : Pair) → IsFoundBy places rounds c → is_among_pairs (pairs_of places) c ≡ true
 found_there places rounds c own = subst (λ (x : Pair). is_among_pairs (pairs_of places) x ≡ true) own.is (pair_there places own.index own.place own.there)
@@ -321,9 +319,6 @@ module _ (writer reader : List Node) (dead : List ℕ) where
       ∙ ap (λ (o : Option Place). with_leads dead at places (leads_of_place writer reader o)) (sym here)
       ∙ ap (λ (ps : List Place). with_leads dead at ps (leads_of_place writer reader (slice_get ps at))) is
       ∙ ap (λ (k : ℕ). places_after writer reader dead k) (one_more at)
-    where
-      one_more : (k : ℕ) → suc k ≡ k + 1
-      one_more k = omega arith
 
   -- the roots' place alone
   pub walk_start : IsWalk writer reader dead 0 0 (roots_place (is_among dead 0))

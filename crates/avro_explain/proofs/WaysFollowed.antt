@@ -1,8 +1,8 @@
 -- The ways that steps from pair to pair are in each of two schemas.
-use Rattle.std.proofs.Common.{◌≡◌, ◌<◌, ◌∙◌, ℕ, zero, suc, ◌+◌, List, [], ◌∷◌, ◌++◌, Option, Some, None, length, refl, sym, ap, subst, append_assoc, append-nil, arith}
+use Rattle.std.proofs.Common.{◌≡◌, ◌<◌, ◌∙◌, ℕ, zero, suc, ◌+◌, List, [], ◌∷◌, ◌++◌, Option, Some, None, length, refl, sym, ap, subst, append_assoc, append-nil, arith, slice_get, unwrap_or, option_and_then, reverse, bytes_eq}
 use Rattle.std.proofs.lemmas.List.{reverse-append, length-map}
 use Rattle.std.proofs.lemmas.List.Quantifiers.{position-Some}
-use Rattle.std.specs.Prelude.{slice_get, unwrap_or, option_and_then, reverse, bytes_eq}
+use Rattle.std.proofs.lemmas.Option.{slice_get-get_or, unwrap_or-slice_get}
 use Rattle.avro_schema.specs.Node.{Node, FieldNode, node_at, field_ids, branches_of}
 use Rattle.avro_compare.specs.Match.{first_match}
 use Rattle.avro_compare.specs.Source.{field_index, first_index, or_else, source_of}
@@ -43,12 +43,16 @@ first_within fields (name ∷ names) s h = chosen (field_index fields name) refl
     chosen (Some k) e f later = field_within fields name s (e ∙ f)
 
 pub there : (ids : List ℕ) (k : ℕ) → k < length ids → slice_get ids k ≡ Some (unwrap_or (slice_get ids k) 0)
-there [] k h = absurd (omega (arith, h))
-there (id ∷ ids) zero h = refl
-there (id ∷ ids) (suc k) h = there ids k (omega (arith, h))
+there ids k h = slice_get-get_or ids k 0 h ∙ ap Some (sym (unwrap_or-slice_get ids k 0))
 
 none_more : (j : ℕ) → 0 + j ≡ j
 none_more j = omega arith
+
+start : (k : ℕ) → k + 0 ≡ k
+start k = omega arith
+
+later : (k j : ℕ) → k + suc j ≡ suc k + j
+later k j = omega arith
 
 -- the fields of a node, as steps
 abbrev StepsByFields : Node → List FieldNode → Type 0
@@ -72,12 +76,6 @@ module _ (writer reader : List Node) (w r : ℕ) (n q : Node) (from : node_at wr
         in_reader = refl;
       })
       (branches_step all ids (suc index) is (λ j. subst (λ (k : ℕ). slice_get all k ≡ slice_get ids j) (later index j) (same (suc j))))
-    where
-      start : (k : ℕ) → k + 0 ≡ k
-      start k = omega arith
-
-      later : (k j : ℕ) → k + suc j ≡ suc k + j
-      later k j = omega arith
 
   choice_step : (ids : List ℕ) (o : Option ℕ) → q ≡ Node.union ids → first_match writer reader n ids ≡ o → EachLead IsStepOf (choice_leads w ids o)
   choice_step ids None is e = each_none IsStepOf
@@ -97,12 +95,6 @@ module _ (writer reader : List Node) (w r : ℕ) (n q : Node) (from : node_at wr
   fields_step all fields (f ∷ theirs) index is are same = chosen (source_of fields f) refl
       (fields_step all fields theirs (suc index) is are (λ j. subst (λ (k : ℕ). slice_get (field_ids all) k ≡ slice_get (field_ids theirs) j) (later index j) (same (suc j))))
     where
-      start : (k : ℕ) → k + 0 ≡ k
-      start k = omega arith
-
-      later : (k j : ℕ) → k + suc j ≡ suc k + j
-      later k j = omega arith
-
       chosen : (o : Option ℕ) → source_of fields f ≡ o → EachLead IsStepOf (field_leads (suc index) fields theirs)
           → EachLead IsStepOf (field_lead index fields f o ++ field_leads (suc index) fields theirs)
       chosen None e rest = rest
@@ -165,17 +157,11 @@ follow_more nodes id x y (s ∷ steps) more h k =
 
 turned_writer : (s : Step) (done : List PathStep) → reverse (done ++ writer_steps s) ≡ writer_steps s ++ reverse done
 turned_writer (Step.Branch k) done = reverse-append done (PathStep.Branch k ∷ [])
-turned_writer (Step.Choice k) done = reverse-append done []
-turned_writer Step.Items done = reverse-append done (PathStep.Items ∷ [])
-turned_writer Step.Values done = reverse-append done (PathStep.Values ∷ [])
-turned_writer (Step.Field a b) done = reverse-append done (PathStep.Field a ∷ [])
+turned_writer s done = reverse-append done (writer_steps s)
 
 turned_reader : (s : Step) (done : List PathStep) → reverse (done ++ reader_steps s) ≡ reader_steps s ++ reverse done
 turned_reader (Step.Branch k) done = reverse-append done []
-turned_reader (Step.Choice k) done = reverse-append done (PathStep.Branch k ∷ [])
-turned_reader Step.Items done = reverse-append done (PathStep.Items ∷ [])
-turned_reader Step.Values done = reverse-append done (PathStep.Values ∷ [])
-turned_reader (Step.Field a b) done = reverse-append done (PathStep.Field b ∷ [])
+turned_reader s done = reverse-append done (reader_steps s)
 
 -- the steps so far, the last first, lead from a place to the one that was asked for, and any two ways to that place go on by them
 pub record IsWayFrom (writer reader : List Node) (places : List Place) (at here : ℕ) (p : Place) (in_writer in_reader : List PathStep) : Type 0 where

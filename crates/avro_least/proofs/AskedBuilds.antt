@@ -1,33 +1,31 @@
 -- What is built of each thing that a pair may ask for.
-use Rattle.std.proofs.Common.{◌≡◌, ℕ, suc, ◌+◌, ◌≤◌, ◌<◌, Bool, true, false, List, [], ◌∷◌, ◌++◌, Option, Some, None, inl, inr, length, drop, refl, sym, ◌∙◌, ap, subst, arith}
+use Rattle.std.proofs.Common.{◌≡◌, ℕ, suc, ◌+◌, ◌≤◌, ◌<◌, Bool, true, false, List, [], ◌∷◌, ◌++◌, Option, Some, None, inl, inr, length, drop, refl, sym, ◌∙◌, ap, subst, arith, slice_get, is_some, max, option_map, map, ◌==◌}
 use Rattle.std.proofs.lemmas.Bool.{and_from, false≢true, true≢false, eq-eqb, ne_eqb}
 use Rattle.std.proofs.lemmas.Option.{slice_get_within}
-use Rattle.std.specs.Prelude.{slice_get, is_some, max, unwrap_or, option_map, map, ◌==◌}
 use Rattle.avro_schema.specs.Value.{Value, value, size, depth, values_size, values_depth}
 use Rattle.avro_schema.specs.Seen.{values_from}
 use Rattle.avro_schema.specs.Node.{Node, FieldNode, node_at, branches_of, field_ids}
 use Rattle.avro_schema.specs.Fits.{fits, fields_fit}
 use Rattle.avro_schema.proofs.public.Choices.{HasFewChoices-from_is_schema}
-use Rattle.avro_compare.specs.Match.{first_match}
 use Rattle.avro_compare.specs.Source.{reader_field}
-use Rattle.avro_compare.specs.Resolve.{Resolved, matched, into_branch, branch_node, resolve, resolve_sources}
+use Rattle.avro_compare.specs.Resolve.{resolve, resolve_sources}
 use Rattle.avro_compare.specs.Children.{Pair}
 use Rattle.avro_least.specs.Tables.{Least, LeastTable, ErringTable, IsWithin, count_of, around, together, best_of, all_of, no_parts, one}
 use Rattle.avro_least.specs.Asked.{Row, Asked, rows_from, asked, err_of_row, err_of_rows, asked_value}
 use Rattle.avro_least.specs.inside.Built.{Builds}
 use Rattle.avro_least.specs.BuiltErrors.{BuildsLone, part_value, IsErringOf, AreExact, BuildsError, BuildsAsked, BuildsRow, BuildsRows, part_of_row, total_from}
 use Rattle.avro_certificate.proofs.public.Shapes.{plain_branch}
-use Rattle.avro_least.proofs.ShownData.{lesser_either}
+use Rattle.avro_least.proofs.public.ShownData.{lesser_either}
 use Rattle.avro_certificate.proofs.public.Resolving.{slice_get_of_drop, drop_more}
 use Rattle.avro_least.proofs.Building.{around_is, together_is}
 use Rattle.avro_least.proofs.Built.{few_branches}
-use Rattle.avro_least.proofs.BuiltErrors.{lone_errs, part_errs}
+use Rattle.avro_least.proofs.BuiltErrors.{built_errs, into_errs, part_errs}
 use Rattle.avro_least.proofs.RowTotals.{past}
 use Rattle.avro_least.proofs.public.Keys.{some_same}
 use Rattle.avro_least.proofs.AskedKinds.{IsRecords, asks}
 use Rattle.avro_least.specs.inside.Parts.{PartsPass, RowsPass, row_part}
 use Rattle.avro_least.proofs.AtMostParts.{branch_part}
-use Rattle.avro_certificate.proofs.public.FaultyResults.{through_is_matched, IsFault, the_fault, is_fault, fault_inside, fault_map, fault_later, value_of_plain, plain_form, field_faults, record_faults}
+use Rattle.avro_certificate.proofs.public.FaultyResults.{IsFault, the_fault, is_fault, fault_inside, fault_later, field_faults, record_faults}
 
 -- an entry within the limit
 the_entry : (limit : ℕ) (o : Option Least) → IsWithin limit o → (e : Least) × (o ≡ Some e) × (e.nodes ≤ limit)
@@ -71,7 +69,7 @@ module _ (writer reader : List Node) (limit : ℕ) (table : LeastTable) (erring 
   pub lone_builds : (left w r : ℕ) (v : Value) → BuildsLone writer reader w r v → BuildsAsked writer reader limit table erring left w r Asked.lone v
   lone_builds left w r v own ns is known ex kn within few =
       let step : Some one ≡ erring w r = step_of known ex w r Asked.lone is kn within in
-      let errs = lone_errs writer reader (node_at writer w) (node_at reader r) v (HasFewChoices-from_is_schema writer ex.formed w) is (own is) in
+      let errs = built_errs writer reader (node_at writer w) (node_at reader r) v (HasFewChoices-from_is_schema writer ex.formed w) is (own is) in
       record {
         fitting = errs.fitting;
         faulty = the_fault (resolve writer reader (node_at writer w) (node_at reader r) v) errs.faulty;
@@ -128,31 +126,18 @@ module _ (writer reader : List Node) (limit : ℕ) (table : LeastTable) (erring 
         numbers = entry.1 ∙ ap Some (around_numbers entry.0 inner.inner (size v) (depth v) (sym part.numbers ∙ same) inner.nodes inner.depth);
       })
 
-  -- a reader's union
-  into_errs : (n q : Node) (ids : List ℕ) (k b : ℕ) (v : Value) → branches_of n ≡ None → q ≡ Node.union ids → first_match writer reader n ids ≡ Some k → slice_get ids k ≡ Some b
-      → branches_of (node_at reader b) ≡ None → fits writer n v ≡ true → IsFault (resolve writer reader n (node_at reader b) v) → IsFault (resolve writer reader n q v)
-  into_errs n q ids k b v plain is first here their_plain fit f =
-      let form = plain_form writer reader n v (value_of_plain writer n v plain fit) in
-      let own : unwrap_or (slice_get ids k) 0 ≡ b = ap (λ (o : Option ℕ). unwrap_or o 0) here in
-      subst (λ (m : Node). IsFault (resolve writer reader n m v)) (sym is)
-      (subst (λ (x : Resolved). IsFault x) (sym (form.1 (Node.union ids)))
-      (subst (λ (o : Option ℕ). IsFault (into_branch writer reader n ids o form.0)) (sym first)
-      (fault_map (Value.union k) (matched writer reader n (branch_node reader ids k) form.0)
-      (subst (λ (p : ℕ). IsFault (matched writer reader n (node_at reader p) form.0)) (sym own)
-      (subst (λ (x : Resolved). IsFault x) (form.1 (node_at reader b) ∙ through_is_matched writer reader n (node_at reader b) form.0 their_plain) f)))))
-
   pub same_builds : (left w r q : ℕ) (v : Value) → Asked.same q ≡ asked writer reader (node_at writer w) (node_at reader r)
-      → (branches_of (node_at reader q) ≡ None → BuildsError writer reader limit table erring left w q v) → BuildsError writer reader limit table erring left w r v
+      → BuildsError writer reader limit table erring left w q v → BuildsError writer reader limit table erring left w r v
   same_builds left w r q v is h known ex kn within few =
       let step : erring w q ≡ erring w r = step_of known ex w r (Asked.same q) is kn within in
       let into = asks writer reader (node_at writer w) (node_at reader r) (Asked.same q) is in
       let plain : branches_of (node_at reader q) ≡ None = plain_branch reader r into.ids into.branch q ex.theirs into.is into.here in
       let child = closed_of known ex w r (Asked.same q) is kn within 0 (record { w = w; r = q }) refl in
-      let part = h plain known ex child (subst (λ (o : Option Least). IsWithin limit o) (sym step) within) (subst (λ (o : Option Least). count_of o ≤ left) (sym step) few) in
+      let part = h known ex child (subst (λ (o : Option Least). IsWithin limit o) (sym step) within) (subst (λ (o : Option Least). count_of o ≤ left) (sym step) few) in
       record {
         fitting = part.fitting;
         faulty = the_fault (resolve writer reader (node_at writer w) (node_at reader r) v)
-            (into_errs (node_at writer w) (node_at reader r) into.ids into.branch q v into.plain into.is into.first into.here plain part.fitting
+            (into_errs writer reader (node_at writer w) (node_at reader r) into.ids into.branch q v into.plain into.is into.first into.here plain part.fitting
             (is_fault (resolve writer reader (node_at writer w) (node_at reader q) v) part.faulty.0 part.faulty.1));
         numbers = sym step ∙ part.numbers;
       }

@@ -1,6 +1,5 @@
 -- Of which nodes a pair is that asks for each thing.
-use Rattle.std.proofs.Common.{◌≡◌, ℕ, Bool, true, false, cond, List, Option, Some, None, Err, refl, sym, ◌∙◌, ap, subst}
-use Rattle.std.specs.Prelude.{slice_get, unwrap_or, is_some}
+use Rattle.std.proofs.Common.{◌≡◌, ℕ, Bool, true, false, cond, List, Option, Some, None, Err, refl, sym, ◌∙◌, ap, subst, slice_get, unwrap_or, is_some}
 use Rattle.avro_name.specs.Name.{Name}
 use Rattle.avro_schema.specs.Value.{Value}
 use Rattle.avro_schema.specs.Node.{Node, FieldNode, branches_of, field_ids}
@@ -13,7 +12,6 @@ use Rattle.avro_compare.specs.Children.{lacks_symbol}
 use Rattle.avro_compare.proofs.public.NodeKinds.{union_of_branches}
 use Rattle.avro_certificate.proofs.public.Shapes.{first_match_within}
 use Rattle.avro_least.specs.Asked.{Row, Asked, rows_from, asked_inside, asked_branch, asked}
-use Rattle.avro_least.specs.BuiltErrors.{is_same}
 use Rattle.avro_least.proofs.AskedValue.{asked_of_plain, asked_of_union}
 use Rattle.avro_certificate.proofs.public.FaultyResults.{through_is_matched, IsFault, value_of_plain, plain_form, missing_errs}
 
@@ -108,14 +106,3 @@ module _ (writer reader : List Node) where
 
   pub asks : (n q : Node) (a : Asked) → a ≡ asked writer reader n q → Asks n q a
   asks n q a e = subst (λ (x : Asked). Asks n q x) (sym e) (own_asks n q)
-
-  -- where no reader's union is met, no other reader's node is asked for
-  pub not_same : (n q : Node) → branches_of q ≡ None → is_same (asked writer reader n q) ≡ false
-  not_same n q plain = by (asked writer reader n q) (own_asks n q)
-    where
-      by : (a : Asked) → Asks n q a → is_same a ≡ false
-      by (Asked.same p) own = absurd (no_union own.ids (ap branches_of (sym own.is) ∙ plain))
-        where
-          no_union : (ids : List ℕ) → Some ids ≡ None → ⊥
-          no_union ids e = cc
-      by _ own = refl

@@ -1,6 +1,5 @@
 -- The parts of what a pair asks for are pairs that it leads to.
-use Rattle.std.proofs.Common.{◌≡◌, ℕ, zero, suc, Bool, true, false, not, ◌||◌, cond, List, [], ◌∷◌, drop, map, Option, Some, None, refl, sym, subst}
-use Rattle.std.specs.Prelude.{slice_get, unwrap_or, option_map, is_some, is_none}
+use Rattle.std.proofs.Common.{◌≡◌, ℕ, zero, suc, Bool, true, false, not, ◌||◌, cond, List, [], ◌∷◌, drop, map, Option, Some, None, refl, sym, subst, slice_get, unwrap_or, option_map, is_some, is_none}
 use Rattle.std.specs.List.{list_all}
 use Rattle.avro_schema.specs.Node.{Node, FieldNode, branches_of, field_ids}
 use Rattle.avro_compare.specs.Match.{is_match, first_match}

@@ -1,6 +1,5 @@
 -- What a pair asks for comes to what the pair's entry is by the others.
-use Rattle.std.proofs.Common.{◌≡◌, ℕ, suc, Bool, true, false, cond, List, [], ◌∷◌, Option, Some, None, refl, sym, ◌∙◌, ap, arith}
-use Rattle.std.specs.Prelude.{is_some, option_map, map}
+use Rattle.std.proofs.Common.{◌≡◌, ℕ, suc, Bool, true, false, cond, List, [], ◌∷◌, Option, Some, None, refl, sym, ◌∙◌, ap, arith, is_some, option_map, map}
 use Rattle.avro_schema.specs.Node.{Node, FieldNode, branches_of, field_ids}
 use Rattle.avro_compare.specs.Match.{is_match, first_match}
 use Rattle.avro_compare.specs.Source.{reader_field, missing_field}

@@ -1,29 +1,21 @@
 -- What a pair's entry is by the others is what it comes to alone or by one of its parts.
-use Rattle.std.proofs.Common.{◌≡◌, ℕ, suc, ◌+◌, true, List, [], ◌∷◌, Option, Some, None, ◌⊎◌, inl, inr, refl, sym, ◌∙◌, ap, subst, arith}
+use Rattle.std.proofs.Common.{◌≡◌, ℕ, suc, true, List, [], ◌∷◌, Option, Some, None, ◌⊎◌, inl, inr, refl, sym, ◌∙◌, ap, subst, slice_get, unwrap_or, option_map, map, is_some}
 use Rattle.std.proofs.lemmas.Bool.{false≢true}
 use Rattle.std.proofs.lemmas.Option.{slice_get-map}
-use Rattle.std.specs.Prelude.{max, slice_get, unwrap_or, option_map, map, is_some}
 use Rattle.avro_compare.specs.Children.{Pair}
 use Rattle.avro_least.specs.Tables.{Least, LeastTable, ErringTable, AtMost, capped, around, together, best_of, all_of}
 use Rattle.avro_least.specs.Asked.{Row, Asked, err_of_row, err_of_rows, asked_value}
 use Rattle.avro_least.specs.inside.Parts.{least_of_others, row_part, entry_of_part, part_at, value_alone, value_by_part}
-use Rattle.avro_least.proofs.ShownData.{together_some, lesser_either, best_is}
-use Rattle.avro_least.proofs.RowTotals.{together_around}
-
--- what is around something is around an entry
-some_inside : (limit : ℕ) (e : Option Least) (s d : ℕ) → AtMost (around limit e) s d → is_some e ≡ true
-some_inside limit None s d h = absurd h
-some_inside limit (Some e) s d h = refl
+use Rattle.avro_least.proofs.public.ShownData.{around_some, together_some, lesser_either, best_is}
+use Rattle.avro_least.proofs.public.Quiet.{some_below}
+use Rattle.avro_least.proofs.RowTotals.{both_swap, together_around}
 
 -- two stand side by side in either order
 together_swap : (limit : ℕ) (a b : Option Least) → together limit a b ≡ together limit b a
 together_swap limit None None = refl
 together_swap limit None (Some b) = refl
 together_swap limit (Some a) None = refl
-together_swap limit (Some a) (Some b) =
-    let nodes : a.nodes + b.nodes ≡ b.nodes + a.nodes = omega arith in
-    let depth : max a.depth b.depth ≡ max b.depth a.depth = omega arith in
-    λ i. Some (capped limit (record { nodes = nodes i; depth = depth i }))
+together_swap limit (Some a) (Some b) = ap (λ e. Some (capped limit e)) (both_swap a b)
 
 -- of three, too
 pub together_across : (limit : ℕ) (a b c : Option Least) → together limit a (together limit b c) ≡ together limit b (together limit a c)
@@ -59,16 +51,23 @@ module _ (limit : ℕ) (table : LeastTable) (erring : ErringTable) where
       ]
 
   -- what a pair's entry is by the others is what it comes to alone or by one of its parts
+  pub chosen_part : (w r : ℕ) (a : Asked) → is_some (asked_value limit table erring w r a) ≡ true
+      → (asked_value limit table erring w r a ≡ value_alone table w a) ⊎ ((k : ℕ) × (asked_value limit table erring w r a ≡ value_by_part limit table erring w r a k))
+  chosen_part w r Asked.quiet h = absurd (false≢true h)
+  chosen_part w r Asked.whole h = inl refl
+  chosen_part w r Asked.lone h = inl refl
+  chosen_part w r (Asked.same q) h = inr (0, refl)
+  chosen_part w r (Asked.part a b) h = inr (0, refl)
+  chosen_part w r (Asked.branches ids) h =
+      let best = best_is (λ p. erring p r) ids (around_some limit (best_of (λ p. erring p r) ids) h) in
+      inr (best.branch, ap (around limit) (best.is ∙ sym (ap (entry_of_part erring) (branch_part w r ids best.branch best.id best.here))))
+  chosen_part w r (Asked.fields rows) h =
+      let found = row_chosen rows (around_some limit (err_of_rows limit table erring rows) h) in
+      inr (found.0, ap (around limit) found.1)
+
   pub at_most_parts : (w r : ℕ) (a : Asked) (s d : ℕ) → AtMost (asked_value limit table erring w r a) s d
       → AtMost (value_alone table w a) s d ⊎ ((k : ℕ) × AtMost (value_by_part limit table erring w r a k) s d)
-  at_most_parts w r Asked.quiet s d h = absurd h
-  at_most_parts w r Asked.whole s d h = inl h
-  at_most_parts w r Asked.lone s d h = inl h
-  at_most_parts w r (Asked.same q) s d h = inr (0, h)
-  at_most_parts w r (Asked.part a b) s d h = inr (0, h)
-  at_most_parts w r (Asked.branches ids) s d h =
-      let best = best_is (λ p. erring p r) ids (some_inside limit (best_of (λ p. erring p r) ids) s d h) in
-      inr (best.branch, subst (λ (e : Option Least). AtMost (around limit e) s d) (best.is ∙ sym (ap (entry_of_part erring) (branch_part w r ids best.branch best.id best.here))) h)
-  at_most_parts w r (Asked.fields rows) s d h =
-      let found = row_chosen rows (some_inside limit (err_of_rows limit table erring rows) s d h) in
-      inr (found.0, subst (λ (e : Option Least). AtMost (around limit e) s d) found.1 h)
+  at_most_parts w r a s d h = elim (chosen_part w r a (some_below (asked_value limit table erring w r a) s d h)) [
+    | inl alone ↦ inl (subst (λ (e : Option Least). AtMost e s d) alone h)
+    | inr found ↦ inr (found.0, subst (λ (e : Option Least). AtMost e s d) found.1 h)
+  ]

@@ -1,6 +1,5 @@
 -- What the parts of an entry within the limit are.
-use Rattle.std.proofs.Common.{◌≡◌, ℕ, suc, ◌+◌, ◌≤◌, Bool, true, false, cond, Option, Some, None, refl, sym, ap, arith}
-use Rattle.std.specs.Prelude.{max, nat_le}
+use Rattle.std.proofs.Common.{◌≡◌, ℕ, suc, ◌+◌, ◌≤◌, Bool, true, false, cond, Option, Some, None, refl, sym, ap, arith, max, nat_le}
 use Rattle.avro_least.specs.Tables.{Least, capped, around, together, IsAround, IsTogether}
 
 -- an entry within the limit is told apart

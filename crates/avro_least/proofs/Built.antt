@@ -1,7 +1,6 @@
 -- What is built is least.
-use Rattle.std.proofs.Common.{◌≡◌, ℕ, suc, ◌^◌, ◌≤◌, ◌<◌, true, List, [], ◌∷◌, ◌++◌, Option, Some, None, length, refl, sym, ◌∙◌, ap, subst, arith}
-use Rattle.std.proofs.lemmas.Bool.{and_from, eq-eqb}
-use Rattle.std.specs.Prelude.{slice_get, is_some, max, ◌==◌}
+use Rattle.std.proofs.Common.{◌≡◌, ℕ, suc, ◌^◌, ◌≤◌, ◌<◌, true, List, [], ◌∷◌, ◌++◌, Option, Some, None, length, refl, sym, ◌∙◌, ap, subst, arith, slice_get, is_some, max}
+use Rattle.std.proofs.lemmas.Bool.{and_from}
 use Rattle.avro_schema.specs.Value.{Value, size, depth, values_size, values_depth}
 use Rattle.avro_schema.specs.Seen.{values_from, node_of}
 use Rattle.avro_schema.specs.declared.schema.Node.{Node as KeptNode}
@@ -9,21 +8,18 @@ use Rattle.avro_schema.specs.declared.schema.NodeId.{NodeId}
 use Rattle.avro_schema.specs.declared.schema.RecordNode.{RecordNode}
 use Rattle.std.specs.Global.{Vec}
 use Rattle.avro_schema.specs.Node.{Node, FieldNode, node_at, branches_of, fields_of, field_ids}
-use Rattle.avro_schema.specs.Fits.{fits, fields_fit, are_bytes}
+use Rattle.avro_schema.specs.Fits.{fits, fields_fit}
 use Rattle.avro_schema.specs.WellFormed.{is_schema, meets_its_rules}
 use Rattle.avro_least.specs.Tables.{Least, LeastTable, IsLowForData, AreDataShown, IsLeastOf, IsWithin, count_of, Exactly, best_of, all_of, least_datum, no_parts}
 use Rattle.avro_least.specs.inside.Leaf.{leaf_value}
 use Rattle.avro_least.specs.inside.Built.{Builds, BuildsAt, BuildsAll, BuildsRecord}
 use Rattle.avro_certificate.proofs.public.Shapes.{meets_rules_at}
-use Rattle.avro_certificate.proofs.public.Tests.{and_left}
-use Rattle.std.proofs.Math.ListN.{replicate}
-use Rattle.std.proofs.lemmas.List.{length-replicate}
+use Rattle.avro_least.proofs.public.ShownData.{leaf_fits}
 use Rattle.avro_least.proofs.Building.{around_is, together_is}
 use Rattle.avro_schema.proofs.public.Choices.{HasFewChoices, HasFewChoices-from_is_schema}
 use Rattle.std.proofs.lemmas.Option.{slice_get_within}
 use Rattle.avro_least.proofs.Choosing.{leaf_least, branch_least, step_is}
 use Rattle.avro_least.proofs.public.Keys.{some_same}
-use Rattle.avro_certificate.proofs.public.LeafData.{zeros_fit, empty_text}
 use Rattle.avro_schema.proofs.public.Parts.{size-positive}
 
 -- a schema's union has few branches
@@ -36,16 +32,7 @@ module _ (nodes : List Node) (table : LeastTable) (left : ℕ) where
       → IsWithin limit (table p) → node_at nodes p ≡ n → IsLeastOf nodes table p (leaf_value n)
   leaf_at limit p (Node.union ps) plain flat rules low shown within here = absurd (grind arith)
   leaf_at limit p (Node.record_of a xs fs) plain flat rules low shown within here = absurd (grind arith)
-  leaf_at limit p Node.null plain flat rules low shown within here = leaf_least nodes limit table low shown p Node.null Value.null within here refl refl refl refl
-  leaf_at limit p Node.boolean plain flat rules low shown within here = leaf_least nodes limit table low shown p Node.boolean (leaf_value Node.boolean) within here refl refl refl refl
-  leaf_at limit p Node.int plain flat rules low shown within here = leaf_least nodes limit table low shown p Node.int (leaf_value Node.int) within here refl refl refl refl
-  leaf_at limit p Node.long plain flat rules low shown within here = leaf_least nodes limit table low shown p Node.long (leaf_value Node.long) within here refl refl refl refl
-  leaf_at limit p Node.bytes plain flat rules low shown within here = leaf_least nodes limit table low shown p Node.bytes (leaf_value Node.bytes) within here refl refl refl refl
-  leaf_at limit p Node.string plain flat rules low shown within here = leaf_least nodes limit table low shown p Node.string (leaf_value Node.string) within here refl empty_text refl refl
-  leaf_at limit p (Node.array a) plain flat rules low shown within here = leaf_least nodes limit table low shown p (Node.array a) (leaf_value (Node.array a)) within here refl refl refl refl
-  leaf_at limit p (Node.map_of a) plain flat rules low shown within here = leaf_least nodes limit table low shown p (Node.map_of a) (leaf_value (Node.map_of a)) within here refl refl refl refl
-  leaf_at limit p (Node.enum a xs ss d) plain flat rules low shown within here = leaf_least nodes limit table low shown p (Node.enum a xs ss d) (Value.enum 0) within here refl (and_left _ _ (and_left _ _ (and_left _ _ (and_left _ _ rules)))) refl refl
-  leaf_at limit p (Node.fixed a xs n) plain flat rules low shown within here = leaf_least nodes limit table low shown p (Node.fixed a xs n) (leaf_value (Node.fixed a xs n)) within here refl (and_from (are_bytes (replicate n 0)) (length (replicate n 0) == n) (zeros_fit n rules) (eq-eqb (length (replicate n 0)) n (length-replicate {A = ℕ} n 0))) refl refl
+  leaf_at limit p n plain flat rules low shown within here = leaf_least nodes limit table low shown p n (leaf_value n) within here refl (leaf_fits nodes n refl refl rules) refl refl
 
   pub leaf_builds : (n : Node) (v : Value) → branches_of n ≡ None → fields_of n ≡ None → v ≡ leaf_value n → BuildsAt nodes table left n v
   leaf_builds n v plain flat is limit p formed low shown within here few =

@@ -1,6 +1,5 @@
 -- A least datum from those of its parts.
-use Rattle.std.proofs.Common.{◌≡◌, ℕ, suc, ◌≤◌, ◌<◌, true, List, Option, Some, None, refl, sym, ◌∙◌, ap, subst, arith, length, get_or}
-use Rattle.std.specs.Prelude.{slice_get, is_some, option_map}
+use Rattle.std.proofs.Common.{◌≡◌, ℕ, suc, ◌≤◌, ◌<◌, true, List, Option, Some, None, refl, sym, ◌∙◌, ap, subst, arith, length, get_or, slice_get, is_some, option_map}
 use Rattle.avro_schema.specs.Value.{Value, size, depth}
 use Rattle.avro_schema.specs.Node.{Node, node_at}
 use Rattle.avro_schema.specs.Fits.{fits}

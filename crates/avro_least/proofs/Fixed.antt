@@ -5,7 +5,7 @@ use Rattle.avro_schema.specs.Node.{Node, node_at}
 use Rattle.avro_schema.specs.WellFormed.{is_schema}
 use Rattle.avro_compare.specs.Resolve.{Resolved}
 use Rattle.avro_least.specs.Tables.{Least, LeastTable, ErringTable, IsUnder, AtMost, IsLowForData, AreLow, ShowsData, ShowsError, least_datum, err_of}
-use Rattle.avro_least.proofs.Faults.{OnErr}
+use Rattle.avro_least.proofs.public.Faults.{OnErr}
 use Rattle.avro_least.proofs.LeastData.{step_data}
 use Rattle.avro_least.proofs.LeastErrors.{step_errors}
 

@@ -1,6 +1,5 @@
 -- The parts of a pair, by the view of what it asks for.
-use Rattle.std.proofs.Common.{◌≡◌, ◌∙◌, ◌<◌, ◌+◌, ℕ, zero, suc, List, [], ◌∷◌, Option, Some, None, inl, inr, length, get_or, refl, sym, ap, arith}
-use Rattle.std.specs.Prelude.{slice_get, option_map, unwrap_or, map}
+use Rattle.std.proofs.Common.{◌≡◌, ◌∙◌, ◌<◌, ◌+◌, ℕ, zero, suc, List, [], ◌∷◌, Option, Some, None, inl, inr, length, get_or, refl, sym, ap, arith, slice_get, option_map, unwrap_or, map}
 use Rattle.std.proofs.lemmas.Bool.{cases_lt}
 use Rattle.std.proofs.lemmas.List.{length-map}
 use Rattle.std.proofs.lemmas.Option.{slice_get-get_or}
@@ -19,30 +18,20 @@ use Rattle.avro_least.specs.Asked.{Row, Asked, rows_from}
 use Rattle.avro_least.specs.SeenAsk.{rows_by}
 use Rattle.avro_least.specs.KeptAsks.{AreOrdered, AreTaken, IsKept, indexed, kept_count, kept_part, nth_part, pair_for, seen_part, view_of, with_index}
 use Rattle.avro_least.specs.inside.Parts.{nodes_of, part_at, parts_of, row_part}
-use Rattle.avro_least.specs.declared.pairs.keeping.KeptAsk.{KeptAsk}
+use Rattle.avro_least.specs.declared.pairs.keeping.Ask.{Ask}
 use Rattle.avro_least.proofs.AskedLed.{rows_same}
 use Rattle.avro_least.proofs.Entries.{entry_place}
 use Rattle.avro_least.proofs.public.Keys.{some_same}
 use Rattle.avro_least.proofs.Others.{against, part_within}
 
 -- the part at an index is the one that is asked for
-pub kept_is : (w r : ℕ) (ask : KeptAsk) (a : Asked) (k : ℕ) → IsKept ask a → kept_part w r ask k ≡ part_at w r a k
-kept_is w r KeptAsk.Quiet a k h = sym (ap (λ (x : Asked). part_at w r x k) h)
-kept_is w r KeptAsk.Whole a k h = sym (ap (λ (x : Asked). part_at w r x k) h)
-kept_is w r KeptAsk.Lone a k h = sym (ap (λ (x : Asked). part_at w r x k) h)
-kept_is w r (KeptAsk.Same q) a k h = sym (ap (λ (x : Asked). part_at w r x k) h)
-kept_is w r (KeptAsk.Part x y) a k h = sym (ap (λ (x : Asked). part_at w r x k) h)
-kept_is w r (KeptAsk.Branches ids) a k h = sym (ap (λ (x : Asked). part_at w r x k) h)
-kept_is w r (KeptAsk.Fields parts) a k h = h.same k ∙ sym (ap (λ (x : Asked). part_at w r x k) h.is)
+pub kept_is : (w r : ℕ) (ask : Ask) (a : Asked) (k : ℕ) → IsKept ask a → kept_part w r ask k ≡ part_at w r a k
+kept_is w r (Ask.Fields parts) a k h = h.same k ∙ sym (ap (λ (x : Asked). part_at w r x k) h.is)
+kept_is w r ask a k h = sym (ap (λ (x : Asked). part_at w r x k) h)
 
-pub kept_ordered : (ask : KeptAsk) (a : Asked) → IsKept ask a → AreOrdered ask
-kept_ordered KeptAsk.Quiet a h = tt
-kept_ordered KeptAsk.Whole a h = tt
-kept_ordered KeptAsk.Lone a h = tt
-kept_ordered (KeptAsk.Same q) a h = tt
-kept_ordered (KeptAsk.Part x y) a h = tt
-kept_ordered (KeptAsk.Branches ids) a h = tt
-kept_ordered (KeptAsk.Fields parts) a h = h.ascends
+pub kept_ordered : (ask : Ask) (a : Asked) → IsKept ask a → AreOrdered ask
+kept_ordered (Ask.Fields parts) a h = h.ascends
+kept_ordered ask a h = tt
 
 -- the ids of a part with its index
 pub part_given : (o : Option (ℕ × NodeId × NodeId)) (k a b : ℕ) → seen_part o ≡ Some (k, record { w = a; r = b })
@@ -53,22 +42,20 @@ part_given (Some c) k a b e =
     (c.1, (c.2, (ap (λ (i : ℕ). Some (i, c.1, c.2)) (ap (λ (q : ℕ × Pair). q.0) same), ap (λ (q : ℕ × Pair). q.1.w) same, ap (λ (q : ℕ × Pair). q.1.r) same)))
 
 -- each part is one of the parts by their order
-pub nth_found : (w r : ℕ) (ask : KeptAsk) (k : ℕ) (c : Pair) → kept_part w r ask k ≡ Some c → (n : ℕ) × (n < kept_count ask) × (nth_part w r ask n ≡ Some (k, c))
-nth_found w r KeptAsk.Quiet k c is = absurd cc
-nth_found w r KeptAsk.Whole k c is = absurd cc
-nth_found w r KeptAsk.Lone k c is = absurd cc
-nth_found w r (KeptAsk.Same q) k c is = (k, omega (arith, part_within w r (Asked.same q.0) k c is), ap (with_index k) is)
-nth_found w r (KeptAsk.Part a b) k c is = (k, omega (arith, part_within w r (Asked.part a.0 b.0) k c is), ap (with_index k) is)
-nth_found w r (KeptAsk.Branches ids) k c is =
+pub nth_found : (w r : ℕ) (ask : Ask) (k : ℕ) (c : Pair) → kept_part w r ask k ≡ Some c → (n : ℕ) × (n < kept_count ask) × (nth_part w r ask n ≡ Some (k, c))
+nth_found w r (Ask.Same q) k c is = (k, omega (arith, part_within w r (Asked.same q.0) k c is), ap (with_index k) is)
+nth_found w r (Ask.Part a b) k c is = (k, omega (arith, part_within w r (Asked.part a.0 b.0) k c is), ap (with_index k) is)
+nth_found w r (Ask.Branches ids) k c is =
     let count : length (parts_of w r (Asked.branches (ids_of ids.now))) ≡ length ids.now = length-map (ids_of ids.now) (against r) ∙ length-map ids.now (λ (id : NodeId). id.0) in
     (k, omega (arith, part_within w r (Asked.branches (ids_of ids.now)) k c is, count), ap (with_index k) is)
-nth_found w r (KeptAsk.Fields parts) k c is = by (entry_at parts.now k) refl is
+nth_found w r (Ask.Fields parts) k c is = by (entry_at parts.now k) refl is
   where
     by : (o : Option At) → entry_at parts.now k ≡ o → pair_for o ≡ Some c → (n : ℕ) × (n < length parts.now) × (indexed (slice_get parts.now n) ≡ Some (k, c))
     by None e got = absurd cc
     by (Some at) e got =
         let found = entry_place parts.now k at e in
         (found.0, found.1, ap indexed found.2 ∙ ap (with_index k) got)
+nth_found w r _ k c is = absurd cc
 
 -- the pair that a field of a node leads to
 abbrev row_for : Option ℕ → Option FieldNode → Option Pair
@@ -114,16 +101,11 @@ module _ (ws rs : List FieldNode) where
       shown (Some at) = refl
 
 -- a view is what its pair asks for
-pub kept_of_view : (n q : Node) (ask : KeptAsk) (a : Asked) → view_of (nodes_of n) ask ≡ a → AreTaken n q ask → IsKept ask a
-kept_of_view n q KeptAsk.Quiet a e h = sym e
-kept_of_view n q KeptAsk.Whole a e h = sym e
-kept_of_view n q KeptAsk.Lone a e h = sym e
-kept_of_view n q (KeptAsk.Same p) a e h = sym e
-kept_of_view n q (KeptAsk.Part x y) a e h = sym e
-kept_of_view n q (KeptAsk.Branches ids) a e h = sym e
-kept_of_view n q (KeptAsk.Fields parts) a e h = record {
+pub kept_of_view : (n q : Node) (ask : Ask) (a : Asked) → view_of (nodes_of n) ask ≡ a → AreTaken n q ask → IsKept ask a
+kept_of_view n q (Ask.Fields parts) a e h = record {
   rows = rows_by parts.now 0 (nodes_of n);
   is = sym e;
   ascends = h.0;
   same = same_rows (fields_at n) (fields_at q) parts.now h;
 }
+kept_of_view n q ask a e h = sym e

@@ -1,9 +1,9 @@
 -- No datum of a node is below its entry.
-use Rattle.std.proofs.Common.{◌≡◌, ℕ, Bool, true, false, List, [], ◌∷◌, Option, Some, None, refl, arith}
+use Rattle.std.proofs.Common.{◌≡◌, ℕ, Bool, true, false, List, [], ◌∷◌, Option, Some, None, refl, arith, slice_get, option_and_then}
 use Rattle.std.proofs.lemmas.Bool.{false≢true}
-use Rattle.std.specs.Prelude.{slice_get, option_and_then}
+use Rattle.avro_name.specs.Name.{Name}
 use Rattle.avro_schema.specs.Value.{Value, Values, no_values, value, size, depth, values_size, values_depth, values_count}
-use Rattle.avro_schema.specs.Node.{Node, node_at, branches_of, fields_of, field_ids}
+use Rattle.avro_schema.specs.Node.{Node, FieldNode, node_at, branches_of, fields_of, field_ids}
 use Rattle.avro_schema.specs.Fits.{fits, fields_fit, is_some_and, is_count, are_bytes}
 use Rattle.avro_least.specs.Tables.{LeastTable, AtMost, IsLowForData, least_datum, all_of}
 use Rattle.avro_certificate.proofs.public.Tests.{and_left, and_right}
@@ -24,20 +24,18 @@ whole_refused nodes ids (Value.map_of es) whole h = false≢true (and_right _ fa
 whole_refused nodes ids (Value.fixed b) whole h = false≢true (and_right (are_bytes b) false h)
 whole_refused nodes ids _ whole h = false≢true h
 
-whole_no_record : (nodes : List Node) (n : Node) (v : Value) → is_whole v ≡ true → is_some_and (λ f. true) (fields_of n) ≡ true → fits nodes n v ≡ true → ⊥
-whole_no_record nodes (Node.record_of name aliases fields) (Value.union k v) whole r h = false≢true whole
-whole_no_record nodes (Node.record_of name aliases fields) (Value.record_of vs) whole r h = false≢true whole
-whole_no_record nodes (Node.record_of name aliases fields) (Value.array vs) whole r h = false≢true (and_right (is_count (values_count vs)) false h)
-whole_no_record nodes (Node.record_of name aliases fields) (Value.map_of es) whole r h = false≢true (and_right _ false h)
-whole_no_record nodes (Node.record_of name aliases fields) (Value.fixed b) whole r h = false≢true (and_right (are_bytes b) false h)
-whole_no_record nodes (Node.record_of name aliases fields) _ whole r h = false≢true h
-whole_no_record nodes _ v whole r h = false≢true r
+no_record_whole : (nodes : List Node) (name : Name) (aliases : List Name) (fields : List FieldNode) (v : Value) → is_whole v ≡ true → fits nodes (Node.record_of name aliases fields) v ≡ true → ⊥
+no_record_whole nodes name aliases fields (Value.record_of vs) whole h = false≢true whole
+no_record_whole nodes name aliases fields (Value.array vs) whole h = false≢true (and_right (is_count (values_count vs)) false h)
+no_record_whole nodes name aliases fields (Value.map_of es) whole h = false≢true (and_right _ false h)
+no_record_whole nodes name aliases fields (Value.fixed b) whole h = false≢true (and_right (are_bytes b) false h)
+no_record_whole nodes name aliases fields _ whole h = false≢true h
 
 -- the least of its node has one node
 whole_step : (nodes : List Node) (limit : ℕ) (table : LeastTable) (n : Node) (v : Value) → is_whole v ≡ true → fits nodes n v ≡ true
     → AtMost (least_datum limit table n) (size v) (depth v)
 whole_step nodes limit table (Node.union ids) v whole h = absurd (whole_refused nodes ids v whole h)
-whole_step nodes limit table (Node.record_of name aliases fields) v whole h = absurd (whole_no_record nodes (Node.record_of name aliases fields) v whole refl h)
+whole_step nodes limit table (Node.record_of name aliases fields) v whole h = absurd (no_record_whole nodes name aliases fields v whole h)
 whole_step nodes limit table _ v whole h = record { fewer = size-positive v; shallower = λ k. depth-positive v }
 
 -- a union's is no more than its branch's
@@ -63,23 +61,12 @@ record_step nodes limit table (Node.record_of name aliases fields) vs h below =
 record_step nodes limit table _ vs h below = absurd (false≢true h)
 
 module _ (nodes : List Node) (limit : ℕ) (table : LeastTable) (low : IsLowForData nodes limit table) where
-  -- by induction on the datum
+  -- by induction on the datum: nor is any below a step
   mutual
-    pub at_most_data : (v : Value) (p : ℕ) → fits nodes (node_at nodes p) v ≡ true → AtMost (table p) (size v) (depth v)
-    at_most_data (Value.union k v) p h =
-        low p (size (Value.union k v)) (depth (Value.union k v)) (union_step nodes limit table (node_at nodes p) k v h (λ q. at_most_data v q))
-    at_most_data (Value.record_of vs) p h =
-        low p (size (Value.record_of vs)) (depth (Value.record_of vs)) (record_step nodes limit table (node_at nodes p) vs h (λ ps. at_most_fields vs ps))
-    at_most_data Value.null p h = low p _ _ (whole_step nodes limit table (node_at nodes p) Value.null refl h)
-    at_most_data (Value.boolean b) p h = low p _ _ (whole_step nodes limit table (node_at nodes p) (Value.boolean b) refl h)
-    at_most_data (Value.int i) p h = low p _ _ (whole_step nodes limit table (node_at nodes p) (Value.int i) refl h)
-    at_most_data (Value.long i) p h = low p _ _ (whole_step nodes limit table (node_at nodes p) (Value.long i) refl h)
-    at_most_data (Value.bytes b) p h = low p _ _ (whole_step nodes limit table (node_at nodes p) (Value.bytes b) refl h)
-    at_most_data (Value.string b) p h = low p _ _ (whole_step nodes limit table (node_at nodes p) (Value.string b) refl h)
-    at_most_data (Value.array vs) p h = low p _ _ (whole_step nodes limit table (node_at nodes p) (Value.array vs) refl h)
-    at_most_data (Value.map_of es) p h = low p _ _ (whole_step nodes limit table (node_at nodes p) (Value.map_of es) refl h)
-    at_most_data (Value.enum k) p h = low p _ _ (whole_step nodes limit table (node_at nodes p) (Value.enum k) refl h)
-    at_most_data (Value.fixed b) p h = low p _ _ (whole_step nodes limit table (node_at nodes p) (Value.fixed b) refl h)
+    pub step_data : (v : Value) (p : ℕ) → fits nodes (node_at nodes p) v ≡ true → AtMost (least_datum limit table (node_at nodes p)) (size v) (depth v)
+    step_data (Value.union k v) p h = union_step nodes limit table (node_at nodes p) k v h (λ q f. low q (size v) (depth v) (step_data v q f))
+    step_data (Value.record_of vs) p h = record_step nodes limit table (node_at nodes p) vs h (λ ps. at_most_fields vs ps)
+    step_data v p h = whole_step nodes limit table (node_at nodes p) v refl h
 
     pub at_most_fields : (vs : Values) (ps : List ℕ) → fields_fit nodes ps vs ≡ true → AtMost (all_of limit table ps) (values_size vs) (values_depth vs)
     at_most_fields no_values [] h = record { fewer = omega arith; shallower = λ k. omega arith }
@@ -87,20 +74,8 @@ module _ (nodes : List Node) (limit : ℕ) (table : LeastTable) (low : IsLowForD
     at_most_fields (value v vs) [] h = absurd (false≢true h)
     at_most_fields (value v vs) (p ∷ ps) h =
         under_together limit (table p) (all_of limit table ps) (size v) (depth v) (values_size vs) (values_depth vs)
-        (at_most_data v p (and_left (fits nodes (node_at nodes p) v) (fields_fit nodes ps vs) h))
+        (low p (size v) (depth v) (step_data v p (and_left (fits nodes (node_at nodes p) v) (fields_fit nodes ps vs) h)))
         (at_most_fields vs ps (and_right (fits nodes (node_at nodes p) v) (fields_fit nodes ps vs) h))
 
-  -- nor below a step
-  pub step_data : (v : Value) (p : ℕ) → fits nodes (node_at nodes p) v ≡ true → AtMost (least_datum limit table (node_at nodes p)) (size v) (depth v)
-  step_data (Value.union k v) p h = union_step nodes limit table (node_at nodes p) k v h (λ q. at_most_data v q)
-  step_data (Value.record_of vs) p h = record_step nodes limit table (node_at nodes p) vs h (λ ps. at_most_fields vs ps)
-  step_data Value.null p h = whole_step nodes limit table (node_at nodes p) Value.null refl h
-  step_data (Value.boolean b) p h = whole_step nodes limit table (node_at nodes p) (Value.boolean b) refl h
-  step_data (Value.int i) p h = whole_step nodes limit table (node_at nodes p) (Value.int i) refl h
-  step_data (Value.long i) p h = whole_step nodes limit table (node_at nodes p) (Value.long i) refl h
-  step_data (Value.bytes b) p h = whole_step nodes limit table (node_at nodes p) (Value.bytes b) refl h
-  step_data (Value.string b) p h = whole_step nodes limit table (node_at nodes p) (Value.string b) refl h
-  step_data (Value.array vs) p h = whole_step nodes limit table (node_at nodes p) (Value.array vs) refl h
-  step_data (Value.map_of es) p h = whole_step nodes limit table (node_at nodes p) (Value.map_of es) refl h
-  step_data (Value.enum k) p h = whole_step nodes limit table (node_at nodes p) (Value.enum k) refl h
-  step_data (Value.fixed b) p h = whole_step nodes limit table (node_at nodes p) (Value.fixed b) refl h
+  pub at_most_data : (v : Value) (p : ℕ) → fits nodes (node_at nodes p) v ≡ true → AtMost (table p) (size v) (depth v)
+  at_most_data v p h = low p (size v) (depth v) (step_data v p h)

@@ -1,7 +1,6 @@
 -- No datum of a node that errs is below the pair's entry.
-use Rattle.std.proofs.Common.{◌≡◌, ℕ, zero, suc, Bool, true, false, cond, List, [], ◌∷◌, drop, length, Option, Some, None, Result, Ok, Err, refl, sym, subst, arith}
+use Rattle.std.proofs.Common.{◌≡◌, ℕ, zero, suc, Bool, true, false, cond, List, [], ◌∷◌, drop, length, Option, Some, None, Result, Ok, Err, refl, sym, subst, arith, slice_get, unwrap_or, option_and_then, nat_lt, is_some}
 use Rattle.std.proofs.lemmas.Bool.{false≢true}
-use Rattle.std.specs.Prelude.{slice_get, unwrap_or, option_and_then, nat_lt, is_some}
 use Rattle.avro_schema.specs.Value.{Value, Values, Entries, no_values, value, no_entries, entry, size, depth, values_size, values_depth, entries_size, entries_depth, values_count}
 use Rattle.avro_schema.specs.Node.{Node, FieldNode, node_at, branches_of, items_node, values_node, fields_of, symbols_of, field_ids}
 use Rattle.avro_schema.specs.Fits.{fits, each_fits, entries_fit, fields_fit, is_some_and, is_count, are_bytes, is_bytes_node}
@@ -15,11 +14,11 @@ use Rattle.avro_compare.specs.Children.{lacks_symbol}
 use Rattle.avro_certificate.proofs.public.Tests.{and_left, and_right}
 use Rattle.avro_compare.proofs.public.NodeKinds.{is_plain_value, plain_node, union_of_branches}
 use Rattle.avro_certificate.proofs.public.Shapes.{plain_branch, first_match_within}
-use Rattle.avro_certificate.proofs.public.Successes.{Succeeds, succeeds_enum}
+use Rattle.avro_certificate.proofs.public.Successes.{Succeeds, succeeds_enum, succeeds_int, succeeds_string}
 use Rattle.avro_certificate.proofs.public.Resolving.{slice_get_of_drop, drop_more}
 use Rattle.avro_least.proofs.LeastOrder.{under_around, under_together, under_best, under_lesser_left, under_lesser_right, under_more_left, under_more_right}
 use Rattle.avro_least.proofs.LeastData.{at_most_data, at_most_fields}
-use Rattle.avro_least.proofs.Faults.{OnErr, on_err, on_mono, on_inside, on_map, on_both, on_int, on_string, on_sourced}
+use Rattle.avro_least.proofs.public.Faults.{OnErr, blames_both, blames_good, blames_map, on_err, on_inside, on_mono, on_sourced}
 use Rattle.avro_certificate.proofs.public.FaultyResults.{through_is_matched}
 
 -- what two plain nodes that match make of a datum errs only with so many nodes and so deep
@@ -83,7 +82,7 @@ module _ (writer reader : List Node) (limit : ℕ) (table : LeastTable) (erring 
           let found = first_match_within writer reader n ids k e in
           let their_plain = subst (λ (o : Option ℕ). branches_of (node_at reader (unwrap_or o 0)) ≡ None) (sym found.1)
           (plain_branch reader r ids k found.0 formed there found.1) in
-          on_map (Value.union k) (matched writer reader n (branch_node reader ids k) f) _
+          blames_map _ (Value.union k) (matched writer reader n (branch_node reader ids k) f)
           (subst (λ (x : Option Least). OnErr (matched writer reader n (branch_node reader ids k) f) (AtMost x s d))
           (sym (err_of_some writer reader limit table erring w r n ids k plain e))
           (lower w (unwrap_or (slice_get ids k) 0) s d (matched writer reader n (branch_node reader ids k) f) own
@@ -114,19 +113,13 @@ module _ (writer reader : List Node) (limit : ℕ) (table : LeastTable) (erring 
       lacked : (n q : Node) (t : Bool) → (t ≡ false → Succeeds (enum_as (symbol_at n k) q))
           → OnErr (enum_as (symbol_at n k) q) (AtMost (cond t (Some one) None) 1 1)
       lacked n q true f = on_err (enum_as (symbol_at n k) q) _ (record { fewer = omega arith; shallower = λ k. omega arith })
-      lacked n q false f = faultless (enum_as (symbol_at n k) q) (f refl)
-        where
-          faultless : (x : Resolved) → Succeeds x → OnErr x ⊥
-          faultless (Ok v) s = tt
-          faultless (Err e) s = s
+      lacked n q false f = blames_good (λ e. ⊥) (enum_as (symbol_at n k) q) (f refl)
 
       into : (steps : ℕ) (n q : Node) → is_some_and (λ symbols. nat_lt k (length symbols)) (symbols_of n) ≡ true
           → branches_of q ≡ None → match_within steps writer reader n q ≡ true
           → OnErr (enum_as (symbol_at n k) q) (AtMost (err_inside limit table erring w n q) 1 1)
       into steps (Node.enum a xs symbols x) (Node.union ids) h plain m = absurd (grind arith)
-      into zero (Node.enum a xs symbols x) (Node.enum b ys theirs y) h plain m =
-          lacked (Node.enum a xs symbols x) (Node.enum b ys theirs y) (lacks_symbol symbols theirs y) (λ e. succeeds_enum symbols theirs k y h e)
-      into (suc steps) (Node.enum a xs symbols x) (Node.enum b ys theirs y) h plain m =
+      into steps (Node.enum a xs symbols x) (Node.enum b ys theirs y) h plain m =
           lacked (Node.enum a xs symbols x) (Node.enum b ys theirs y) (lacks_symbol symbols theirs y) (λ e. succeeds_enum symbols theirs k y h e)
       into zero (Node.enum a xs symbols x) _ h plain m = absurd (false≢true m)
       into (suc steps) (Node.enum a xs symbols x) _ h plain m = absurd (false≢true m)
@@ -144,7 +137,7 @@ module _ (writer reader : List Node) (limit : ℕ) (table : LeastTable) (erring 
       parts : (a b : ℕ) → each_fits writer (node_at writer a) vs ≡ true
           → OnErr (result_map Value.array (resolve_items writer reader (node_at writer a) (node_at reader b) 0 vs))
           (AtMost (around limit (erring a b)) (suc (values_size vs)) (suc (values_depth vs)))
-      parts a b f = on_map Value.array (resolve_items writer reader (node_at writer a) (node_at reader b) 0 vs) _
+      parts a b f = blames_map _ Value.array (resolve_items writer reader (node_at writer a) (node_at reader b) 0 vs)
           (on_mono (resolve_items writer reader (node_at writer a) (node_at reader b) 0 vs) _ _ (under_around limit (erring a b) (values_size vs) (values_depth vs)) (each a b f))
 
       into : (steps : ℕ) (n q : Node) → is_some_and (λ id. each_fits writer (node_at writer id) vs) (items_node n) ≡ true
@@ -152,8 +145,7 @@ module _ (writer reader : List Node) (limit : ℕ) (table : LeastTable) (erring 
           → OnErr (result_map Value.array (resolve_items writer reader (part_at writer (items_node n)) (part_at reader (items_node q)) 0 vs))
           (AtMost (err_inside limit table erring w n q) (suc (values_size vs)) (suc (values_depth vs)))
       into steps (Node.array a) (Node.union ids) h plain m = absurd (grind arith)
-      into zero (Node.array a) (Node.array b) h plain m = parts a b h
-      into (suc steps) (Node.array a) (Node.array b) h plain m = parts a b h
+      into steps (Node.array a) (Node.array b) h plain m = parts a b h
       into zero (Node.array a) _ h plain m = absurd (false≢true m)
       into (suc steps) (Node.array a) _ h plain m = absurd (false≢true m)
       into steps _ q h plain m = absurd (false≢true h)
@@ -170,7 +162,7 @@ module _ (writer reader : List Node) (limit : ℕ) (table : LeastTable) (erring 
       parts : (a b : ℕ) → entries_fit writer (node_at writer a) es ≡ true
           → OnErr (result_map Value.map_of (resolve_entries writer reader (node_at writer a) (node_at reader b) 0 es))
           (AtMost (around limit (erring a b)) (suc (entries_size es)) (suc (entries_depth es)))
-      parts a b f = on_map Value.map_of (resolve_entries writer reader (node_at writer a) (node_at reader b) 0 es) _
+      parts a b f = blames_map _ Value.map_of (resolve_entries writer reader (node_at writer a) (node_at reader b) 0 es)
           (on_mono (resolve_entries writer reader (node_at writer a) (node_at reader b) 0 es) _ _ (under_around limit (erring a b) (entries_size es) (entries_depth es)) (each a b f))
 
       into : (steps : ℕ) (n q : Node) → is_some_and (λ id. entries_fit writer (node_at writer id) es) (values_node n) ≡ true
@@ -178,8 +170,7 @@ module _ (writer reader : List Node) (limit : ℕ) (table : LeastTable) (erring 
           → OnErr (result_map Value.map_of (resolve_entries writer reader (part_at writer (values_node n)) (part_at reader (values_node q)) 0 es))
           (AtMost (err_inside limit table erring w n q) (suc (entries_size es)) (suc (entries_depth es)))
       into steps (Node.map_of a) (Node.union ids) h plain m = absurd (grind arith)
-      into zero (Node.map_of a) (Node.map_of b) h plain m = parts a b h
-      into (suc steps) (Node.map_of a) (Node.map_of b) h plain m = parts a b h
+      into steps (Node.map_of a) (Node.map_of b) h plain m = parts a b h
       into zero (Node.map_of a) _ h plain m = absurd (false≢true m)
       into (suc steps) (Node.map_of a) _ h plain m = absurd (false≢true m)
       into steps _ q h plain m = absurd (false≢true h)
@@ -199,7 +190,7 @@ module _ (writer reader : List Node) (limit : ℕ) (table : LeastTable) (erring 
       parts : (fields theirs : List FieldNode) (o : Option ℕ) → fields_fit writer (field_ids fields) vs ≡ true
           → OnErr (record_or_missing fields theirs o (resolve_sources writer reader fields theirs 0 vs))
           (AtMost (cond (is_some o) (table w) (around limit (err_of_fields limit table erring fields theirs 0 (field_ids fields)))) (suc (values_size vs)) (suc (values_depth vs)))
-      parts fields theirs None f = on_map _ (resolve_sources writer reader fields theirs 0 vs) _
+      parts fields theirs None f = blames_map _ _ (resolve_sources writer reader fields theirs 0 vs)
           (on_mono (resolve_sources writer reader fields theirs 0 vs) _ _
           (under_around limit (err_of_fields limit table erring fields theirs 0 (field_ids fields)) (values_size vs) (values_depth vs)) (each fields theirs f))
       parts fields theirs (Some index) f = own
@@ -209,8 +200,7 @@ module _ (writer reader : List Node) (limit : ℕ) (table : LeastTable) (erring 
           → OnErr (record_or_missing (fields_at n) (fields_at q) (missing_field (fields_at n) (fields_at q)) (resolve_sources writer reader (fields_at n) (fields_at q) 0 vs))
           (AtMost (err_inside limit table erring w n q) (suc (values_size vs)) (suc (values_depth vs)))
       into steps (Node.record_of a xs fields) (Node.union ids) h plain m = absurd (grind arith)
-      into zero (Node.record_of a xs fields) (Node.record_of b ys theirs) h plain m = parts fields theirs (missing_field fields theirs) h
-      into (suc steps) (Node.record_of a xs fields) (Node.record_of b ys theirs) h plain m = parts fields theirs (missing_field fields theirs) h
+      into steps (Node.record_of a xs fields) (Node.record_of b ys theirs) h plain m = parts fields theirs (missing_field fields theirs) h
       into zero (Node.record_of a xs fields) _ h plain m = absurd (false≢true m)
       into (suc steps) (Node.record_of a xs fields) _ h plain m = absurd (false≢true m)
       into steps _ q h plain m = absurd (false≢true h)
@@ -255,11 +245,11 @@ module _ (writer reader : List Node) (limit : ℕ) (table : LeastTable) (erring 
         (AtMost (err_of writer reader limit table erring w r (node_at writer w) (node_at reader r)) (size v) (depth v))
     step_errors Value.null w r h = plain_step Value.null w r (λ q. Ok Value.null) refl h (λ q plain m. tt)
     step_errors (Value.boolean b) w r h = plain_step (Value.boolean b) w r (λ q. Ok (Value.boolean b)) refl h (λ q plain m. tt)
-    step_errors (Value.int i) w r h = plain_step (Value.int i) w r (int_as i) refl h (λ q plain m. on_int i q _)
+    step_errors (Value.int i) w r h = plain_step (Value.int i) w r (int_as i) refl h (λ q plain m. blames_good (λ e. AtMost (err_inside limit table erring w (node_at writer w) q) 1 1) (int_as i q) (succeeds_int i q))
     step_errors (Value.long i) w r h = plain_step (Value.long i) w r (λ q. Ok (Value.long i)) refl h (λ q plain m. tt)
     step_errors (Value.bytes b) w r h = plain_step (Value.bytes b) w r (bytes_as b) refl h
         (inner_bytes w (node_at writer w) b (and_left (is_bytes_node (node_at writer w)) (are_bytes b) h))
-    step_errors (Value.string t) w r h = plain_step (Value.string t) w r (string_as t) refl h (λ q plain m. on_string t q _)
+    step_errors (Value.string t) w r h = plain_step (Value.string t) w r (string_as t) refl h (λ q plain m. blames_good (λ e. AtMost (err_inside limit table erring w (node_at writer w) q) 1 1) (string_as t q) (succeeds_string t q))
     step_errors (Value.array vs) w r h = plain_step (Value.array vs) w r _ refl h
         (inner_array w (node_at writer w) vs
         (and_right (is_count (values_count vs)) (is_some_and (λ id. each_fits writer (node_at writer id) vs) (items_node (node_at writer w))) h)
@@ -280,8 +270,8 @@ module _ (writer reader : List Node) (limit : ℕ) (table : LeastTable) (erring 
         → OnErr (resolve_items writer reader (node_at writer w) (node_at reader r) index vs) (AtMost (erring w r) (values_size vs) (values_depth vs))
     at_most_items no_values w r index h = tt
     at_most_items (value v vs) w r index h =
-        on_both value (inside index (resolve writer reader (node_at writer w) (node_at reader r) v))
-        (resolve_items writer reader (node_at writer w) (node_at reader r) (suc index) vs) _
+        blames_both _ value (inside index (resolve writer reader (node_at writer w) (node_at reader r) v))
+        (resolve_items writer reader (node_at writer w) (node_at reader r) (suc index) vs)
         (on_inside index (resolve writer reader (node_at writer w) (node_at reader r) v) _
         (on_mono (resolve writer reader (node_at writer w) (node_at reader r) v) (AtMost (erring w r) (size v) (depth v)) _
         (under_more_left (erring w r) (size v) (depth v) (values_size vs) (values_depth vs))
@@ -296,8 +286,8 @@ module _ (writer reader : List Node) (limit : ℕ) (table : LeastTable) (erring 
         → OnErr (resolve_entries writer reader (node_at writer w) (node_at reader r) index es) (AtMost (erring w r) (entries_size es) (entries_depth es))
     at_most_entries no_entries w r index h = tt
     at_most_entries (entry k v es) w r index h =
-        on_both (entry k) (inside index (resolve writer reader (node_at writer w) (node_at reader r) v))
-        (resolve_entries writer reader (node_at writer w) (node_at reader r) (suc index) es) _
+        blames_both _ (entry k) (inside index (resolve writer reader (node_at writer w) (node_at reader r) v))
+        (resolve_entries writer reader (node_at writer w) (node_at reader r) (suc index) es)
         (on_inside index (resolve writer reader (node_at writer w) (node_at reader r) v) _
         (on_mono (resolve writer reader (node_at writer w) (node_at reader r) v) (AtMost (erring w r) (size v) (depth v)) _
         (under_more_left (erring w r) (size v) (depth v) (entries_size es) (entries_depth es))

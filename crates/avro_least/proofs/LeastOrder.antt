@@ -1,9 +1,6 @@
 -- The order of data by nodes, then by depth.
-use Rattle.std.proofs.Common.{◌≡◌, refl, sym, subst, ℕ, zero, suc, ◌+◌, ◌≤◌, Bool, true, false, List, [], ◌∷◌, cond, Option, Some, None, inl, inr, arith}
-use Rattle.std.specs.Prelude.{max, slice_get, nat_lt, nat_le, ◌==◌, ◌&&◌}
-use Rattle.std.proofs.lemmas.Bool.{true≢false, ltb-true, ltb-false, leb-false, eqb-true, eq-eqb}
+use Rattle.std.proofs.Common.{◌≡◌, refl, sym, subst, ℕ, zero, suc, ◌+◌, ◌≤◌, Bool, true, false, List, [], ◌∷◌, cond, Option, Some, None, inl, inr, arith, max, slice_get, nat_lt, nat_le, ◌==◌, ◌&&◌, true≢false, ltb-true, ltb-false, leb-false, eqb-true, eq-eqb}
 use Rattle.avro_certificate.proofs.public.Tests.{and_left, and_right, or_left, or_right, or_cases}
-use Rattle.avro_schema.specs.Value.{depth}
 use Rattle.avro_least.specs.Tables.{Least, IsUnder, AtMost, LeastTable, capped, around, together, lesser, precedes, best_of}
 use Rattle.avro_least.proofs.public.Keys.{some_same}
 

@@ -9,7 +9,6 @@ pub mod Built
 pub mod BuiltErrors
 pub mod Choosing
 pub mod Entries
-pub mod Faults
 pub mod Fixed
 pub mod KeptParts
 pub mod LeastData
@@ -25,9 +24,7 @@ pub mod Rounds
 pub mod RowTotals
 pub mod Searching
 pub mod Settling
-pub mod ShownData
 pub mod ShownErrors
-pub mod ShownParts
 pub mod Starting
 pub mod Taken
 pub mod UseRows

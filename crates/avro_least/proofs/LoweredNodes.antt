@@ -1,9 +1,7 @@
 -- An entry of a node that falls, where one is found for it.
-use Rattle.std.proofs.Common.{◌≡◌, ◌⊎◌, ◌<◌, ℕ, Bool, true, false, cond, List, Option, Some, None, inl, inr, length, refl, sym, ◌∙◌, ap, subst}
-use Rattle.std.proofs.Math.ListN.{set}
+use Rattle.std.proofs.Common.{◌≡◌, ◌⊎◌, ◌<◌, ℕ, Bool, true, false, cond, List, Option, Some, None, inl, inr, length, refl, sym, ◌∙◌, ap, subst, slice_get, is_some, set}
 use Rattle.std.proofs.lemmas.Bool.{false≢true, cases_eq, cases_Bool}
 use Rattle.std.proofs.lemmas.Option.{slice_get-get_or}
-use Rattle.std.specs.Prelude.{slice_get, is_some}
 use Rattle.avro_schema.specs.Node.{Node, node_at}
 use Rattle.avro_least.specs.Tables.{Least, AtMost, AreDataShown, ShowsData}
 use Rattle.avro_least.specs.SeenLeast.{seen, entry_of, table_of, given_entry, improves}
@@ -11,7 +9,6 @@ use Rattle.avro_least.specs.declared.kept.Least.{Least as KeptLeast}
 use Rattle.avro_least.specs.inside.Falling.{lowered}
 use Rattle.avro_least.specs.inside.Settled.{IsNoMore}
 use Rattle.avro_least.proofs.LeastOrder.{under_lesser_left}
-use Rattle.avro_least.proofs.Searching.{lowered_better, lowered_worse}
 use Rattle.avro_least.proofs.Rounds.{set_here, set_other, improves_low}
 use Rattle.avro_least.proofs.Searching.{lowered_better, lowered_worse}
 

@@ -1,11 +1,9 @@
 -- The parts of pairs, as the code finds them.
-use Rattle.std.proofs.Common.{◌≡◌, ℕ, zero, suc, ◌+◌, ◌<◌, true, false, ◌&&◌, ◌||◌, List, [], ◌∷◌, ◌++◌, drop, Option, Some, None, inl, inr, length, get_or, refl, sym, ◌∙◌, ap, arith}
-use Rattle.std.proofs.Math.ListN.{set}
+use Rattle.std.proofs.Common.{◌≡◌, ℕ, zero, suc, ◌+◌, ◌<◌, true, false, ◌&&◌, ◌||◌, List, [], ◌∷◌, ◌++◌, drop, Option, Some, None, inl, inr, length, get_or, refl, sym, ◌∙◌, ap, arith, slice_get, unwrap_or, option_map, map, ◌==◌, set}
 use Rattle.std.proofs.lemmas.Bool.{and_from, cases_eq, eq-eqb}
 use Rattle.std.proofs.lemmas.List.{drop_more, drop-map, length-map}
 use Rattle.std.proofs.lemmas.List.Folds.{list_any-append}
 use Rattle.std.proofs.lemmas.Option.{slice_get-map, slice_get-get_or}
-use Rattle.std.specs.Prelude.{slice_get, unwrap_or, option_map, map, ◌==◌}
 use Rattle.std.specs.Global.{Vec}
 use Rattle.avro_schema.specs.Node.{Node, node_at, field_ids}
 use Rattle.avro_schema.specs.Seen.{ids_of, field_of, seen_fields}

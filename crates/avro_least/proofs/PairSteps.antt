@@ -1,26 +1,20 @@
 -- A step over a table of pairs.
-use Rattle.std.proofs.Common.{◌≡◌, ℕ, ◌+◌, ◌*◌, ◌/◌, ◌%◌, ◌<◌, Bool, true, false, cond, ◌&&◌, ◌||◌, List, [], ◌∷◌, Option, Some, None, inl, inr, ◌⊎◌, length, get_or, refl, sym, ◌∙◌, ap, subst, arith}
-use Rattle.std.proofs.Math.ListN.{set, replicate}
+use Rattle.std.proofs.Common.{◌≡◌, ℕ, ◌+◌, ◌*◌, ◌/◌, ◌%◌, ◌<◌, Bool, true, false, cond, ◌&&◌, ◌||◌, List, [], ◌∷◌, Option, Some, None, inl, inr, ◌⊎◌, length, get_or, refl, sym, ◌∙◌, ap, subst, arith, slice_get, unwrap_or, option_map, position, nat_lt, ◌==◌, is_some, is_none, set, replicate}
 use Rattle.std.proofs.lemmas.Bool.{false≢true, and_from, ltb-true, eqb-true, cases_eq}
 use Rattle.std.proofs.lemmas.Nat.{div-mul-add, mod-mul-add}
 use Rattle.std.proofs.lemmas.Option.{slice_get-get_or, slice_get-map}
 use Rattle.std.proofs.lemmas.Iterator.Adapters.{position_from-zero}
 use Rattle.std.proofs.lemmas.List.Quantifiers.{position-Some}
-use Rattle.std.specs.Prelude.{slice_get, unwrap_or, option_map, position, nat_lt, ◌==◌, is_some, is_none}
 use Rattle.std.specs.List.{list_all, list_any, position_from}
 use Rattle.avro_schema.specs.Node.{Node, node_at}
-use Rattle.avro_schema.specs.WellFormed.{is_schema}
 use Rattle.avro_compare.specs.Children.{Pair}
-use Rattle.avro_least.specs.Tables.{Least, LeastTable, AreDataShown, ShowsError, no_parts, pair_number, reached_entry, erring_of, err_of}
+use Rattle.avro_least.specs.Tables.{Least, LeastTable, ShowsError, no_parts, pair_number, reached_entry, erring_of}
 use Rattle.avro_least.specs.SeenLeast.{seen, seen_all, given_entry}
 use Rattle.avro_least.specs.declared.kept.Least.{Least as KeptLeast}
 use Rattle.avro_least.specs.Reached.{is_key}
-use Rattle.avro_least.specs.Asked.{asked_at, asked_value, children_at, live_numbers, steps_at, is_known, ArePairsShown}
+use Rattle.avro_least.specs.Asked.{live_numbers, is_known, ArePairsShown}
 use Rattle.avro_certificate.proofs.public.Tests.{all_at, and_left, and_right, or_from_left, or_from_right}
 use Rattle.avro_least.proofs.Rounds.{set_here, set_other, slice_get-replicate}
-use Rattle.avro_least.proofs.AskedValue.{value_is}
-use Rattle.avro_least.proofs.public.Stepping.{children_at_within}
-use Rattle.avro_least.proofs.ShownErrors.{step_errs}
 use Rattle.avro_least.proofs.public.Keys.{some_same}
 use Rattle.avro_certificate.proofs.public.Within.{is_within}
 
@@ -56,22 +50,6 @@ module _ (writer reader : List Node) (table : LeastTable) (keys : List ℕ) wher
 -- the key at an index is below the bound of all keys
 pub below_at : (n : ℕ) (ks : List ℕ) (i k : ℕ) → list_all (λ x. nat_lt x n) ks ≡ true → slice_get ks i ≡ Some k → k < n
 below_at n ks i k all here = ltb-true k n (all_at (λ x. nat_lt x n) ks i k all here)
-
--- a step at a key
-module _ (writer reader : List Node) (limit : ℕ) (table : LeastTable) (keys : List ℕ) (entries : List (Option Least))
-    (formed : is_schema writer ≡ true) (theirs : is_schema reader ≡ true) (data_shown : AreDataShown writer limit table) where
-  pub step_shows : (k : ℕ) → k < length writer * length reader → list_all (is_key keys) (steps_at writer reader table k) ≡ true
-      → ArePairsShown writer reader limit table keys entries → (e : Option Least)
-      → e ≡ asked_value limit table (erring_of (length reader) table keys entries) (k / length reader) (k % length reader) (asked_at writer reader k)
-      → is_some e ≡ true → ShowsError writer reader limit (node_at writer (k / length reader)) (node_at reader (k % length reader)) e
-  step_shows k below followed shown e is some =
-      let whole : e ≡ err_of writer reader limit table (erring_of (length reader) table keys entries) (k / length reader) (k % length reader) (node_at writer (k / length reader)) (node_at reader (k % length reader)) =
-      is ∙ value_is limit table (erring_of (length reader) table keys entries) writer reader (k / length reader) (k % length reader) (node_at writer (k / length reader)) (node_at reader (k % length reader)) in
-      subst (λ (o : Option Least). ShowsError writer reader limit (node_at writer (k / length reader)) (node_at reader (k % length reader)) o) (sym whole)
-      (step_errs writer reader limit table (erring_of (length reader) table keys entries) (is_known (length reader) table keys) theirs data_shown shown
-      (k / length reader) (k % length reader)
-      (followed_known writer reader table keys (children_at writer reader k) (children_at_within writer reader table formed theirs k below) followed)
-      (subst (λ (o : Option Least). is_some o ≡ true) whole some))
 
 -- an entry by its index
 pub given_is : (es : List (Option KeptLeast)) (i : ℕ) → unwrap_or (slice_get (seen_all es) i) (Some no_parts) ≡ given_entry (slice_get es i)

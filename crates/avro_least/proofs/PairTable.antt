@@ -1,10 +1,8 @@
 -- The table of the pairs that were reached is low where each of its entries is.
-use Rattle.std.proofs.Common.{◌≡◌, ℕ, ◌+◌, ◌*◌, ◌%◌, ◌<◌, Bool, true, false, cond, List, Option, Some, None, length, get_or, refl, sym, ◌∙◌, ap, subst, arith}
-use Rattle.std.proofs.lemmas.Bool.{ltb-true, eqb-true}
+use Rattle.std.proofs.Common.{◌≡◌, ℕ, ◌+◌, ◌*◌, ◌%◌, ◌<◌, Bool, true, false, cond, List, Option, Some, None, length, get_or, refl, sym, ◌∙◌, ap, subst, arith, slice_get, unwrap_or, position, nat_lt, ◌==◌, ltb-true, eqb-true}
 use Rattle.std.proofs.lemmas.Nat.{div-mul-add, mod-mul-add}
 use Rattle.std.proofs.lemmas.Option.{slice_get-get_or}
 use Rattle.std.proofs.lemmas.List.Quantifiers.{position-Some}
-use Rattle.std.specs.Prelude.{slice_get, unwrap_or, position, nat_lt, ◌==◌}
 use Rattle.avro_schema.specs.Node.{Node, node_at}
 use Rattle.avro_least.specs.Tables.{Least, LeastTable, ErringTable, AtMost, IsLowForData, AreLow, no_parts, pair_number, reached_entry, erring_of, err_of, IsLowPair}
 

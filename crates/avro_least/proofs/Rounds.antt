@@ -1,10 +1,8 @@
 -- Entries that are set, and tables at the start.
-use Rattle.std.proofs.Common.{◌≡◌, ℕ, zero, suc, ◌<◌, true, false, List, [], ◌∷◌, Option, Some, None, inl, inr, length, refl, sym, ◌∙◌, ap, subst, arith}
-use Rattle.std.proofs.Math.ListN.{set, replicate}
+use Rattle.std.proofs.Common.{◌≡◌, ℕ, zero, suc, ◌<◌, true, false, List, [], ◌∷◌, Option, Some, None, inl, inr, length, refl, sym, ◌∙◌, ap, subst, arith, slice_get, unwrap_or, is_some, nat_lt, ◌==◌, ◌&&◌, set, replicate}
 use Rattle.std.proofs.lemmas.Bool.{false≢true, true≢false, ltb-true, eqb-true, cases_lt}
 use Rattle.std.proofs.lemmas.Option.{slice_get_past, slice_get-get_or}
 use Rattle.std.proofs.lemmas.List.{get_or-set_same, length-set, length-replicate}
-use Rattle.std.specs.Prelude.{slice_get, unwrap_or, is_some, nat_lt, ◌==◌, ◌&&◌, is_none}
 use Rattle.avro_schema.specs.Value.{Value}
 use Rattle.avro_schema.specs.Node.{Node, node_at}
 use Rattle.avro_least.specs.Tables.{Least, AtMost, AreDataShown, ShowsData, one}
@@ -44,11 +42,6 @@ pub improves_low : (a b : Option Least) (s d : ℕ) → improves a b ≡ false �
 improves_low None b s d h m = absurd m
 improves_low (Some a) None s d h m = absurd (true≢false h)
 improves_low (Some a) (Some b) s d h m = follows_under b a s d h m
-
--- a test that there is none
-pub none_is : (o : Option Least) → is_none o ≡ true → o ≡ None
-none_is None h = refl
-none_is (Some e) h = absurd (false≢true h)
 
 -- an entry at the start
 pub slice_get-replicate : (n p : ℕ) → p < n → slice_get (replicate {A = Option KeptLeast} n None) p ≡ Some None

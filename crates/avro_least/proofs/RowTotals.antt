@@ -1,6 +1,5 @@
 -- The total of a record's fields, from those before one of them, that one, and those behind it.
-use Rattle.std.proofs.Common.{◌≡◌, ℕ, suc, ◌+◌, ◌≤◌, ◌<◌, Bool, true, false, cond, List, [], ◌∷◌, ◌++◌, Option, Some, None, length, drop, get_or, refl, sym, ◌∙◌, ap, subst, arith, inl, inr}
-use Rattle.std.specs.Prelude.{max, map, nat_le, slice_get, ◌==◌}
+use Rattle.std.proofs.Common.{◌≡◌, ℕ, suc, ◌+◌, ◌≤◌, ◌<◌, Bool, true, false, cond, List, [], ◌∷◌, ◌++◌, Option, Some, None, length, drop, get_or, refl, sym, ◌∙◌, ap, subst, arith, inl, inr, max, map, nat_le, slice_get, ◌==◌}
 use Rattle.std.proofs.lemmas.Bool.{cases_Bool, cases_eq, leb-true, leb-false, le-leb, eq-eqb, ne_eqb}
 use Rattle.std.proofs.lemmas.List.{drop_more}
 use Rattle.avro_least.specs.Tables.{Least, LeastTable, ErringTable, capped, together, all_of, no_parts}
@@ -9,6 +8,15 @@ use Rattle.avro_least.specs.BuiltErrors.{part_of_row, total_from}
 use Rattle.avro_least.specs.SeenAsk.{row_of, rows_of}
 use Rattle.avro_least.specs.declared.pairs.asking.FieldAsk.{FieldAsk}
 use Rattle.avro_compare.proofs.public.Lists.{get_before, get_last}
+
+abbrev both : Least → Least → Least
+both a b = record { nodes = a.nodes + b.nodes; depth = max a.depth b.depth }
+
+same_least : (a b : Least) → a.nodes ≡ b.nodes → a.depth ≡ b.depth → a ≡ b
+same_least a b n d = λ i. record { nodes = n i; depth = d i }
+
+pub both_swap : (a b : Least) → both a b ≡ both b a
+both_swap a b = same_least (both a b) (both b a) (omega arith) (omega arith)
 
 module _ (limit : ℕ) where
   is_few : (e : Least) → e.nodes ≤ limit → capped limit e ≡ e
@@ -20,12 +28,6 @@ module _ (limit : ℕ) where
       chosen : (t : Bool) → nat_le e.nodes limit ≡ t → cond t e (record { nodes = suc limit; depth = 0 }) ≡ record { nodes = suc limit; depth = 0 }
       chosen true m = absurd (omega (arith, h, leb-true e.nodes limit m))
       chosen false m = refl
-
-  abbrev both : Least → Least → Least
-  both a b = record { nodes = a.nodes + b.nodes; depth = max a.depth b.depth }
-
-  same_least : (a b : Least) → a.nodes ≡ b.nodes → a.depth ≡ b.depth → a ≡ b
-  same_least a b n d = λ i. record { nodes = n i; depth = d i }
 
   both_around : (a b c : Least) → both a (both b c) ≡ both (both a b) c
   both_around a b c = same_least (both a (both b c)) (both (both a b) c) (omega arith) (omega arith)
@@ -41,13 +43,7 @@ module _ (limit : ℕ) where
   ]
 
   capped_before : (a b : Least) → capped limit (both (capped limit a) b) ≡ capped limit (both a b)
-  capped_before a b = elim (cases_Bool (nat_le a.nodes limit)) [
-    | inl few ↦ ap (λ e. capped limit (both e b)) (is_few a (leb-true a.nodes limit few))
-    | inr many ↦
-        let over = leb-false a.nodes limit many in
-        ap (λ e. capped limit (both e b)) (is_many a (omega (arith, over)))
-        ∙ is_many (both (record { nodes = suc limit; depth = 0 }) b) (omega arith) ∙ sym (is_many (both a b) (omega (arith, over)))
-  ]
+  capped_before a b = ap (capped limit) (both_swap (capped limit a) b) ∙ capped_behind b a ∙ ap (capped limit) (both_swap b a)
 
   pub together_around : (a b c : Option Least) → together limit a (together limit b c) ≡ together limit (together limit a b) c
   together_around None b c = refl

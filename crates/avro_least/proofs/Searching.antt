@@ -1,17 +1,16 @@
 -- Entries that fall, and marks that are set and cleared.
-use Rattle.std.proofs.Common.{◌≡◌, ◌<◌, ℕ, ◌⊎◌, ◌||◌, Bool, true, false, cond, List, ◌∷◌, Option, None, inl, inr, length, get_or, refl, sym, ◌∙◌, ap, subst, arith}
-use Rattle.std.proofs.Math.ListN.{set}
-use Rattle.std.proofs.lemmas.Bool.{false≢true, true≢false, cases_eq, cases_lt, ne_eqb}
+use Rattle.std.proofs.Common.{◌≡◌, ◌<◌, ℕ, ◌⊎◌, ◌||◌, Bool, true, false, cond, List, ◌∷◌, Option, None, inl, inr, length, get_or, refl, sym, ◌∙◌, ap, subst, arith, slice_get, unwrap_or, ◌==◌, set}
+use Rattle.std.proofs.lemmas.Bool.{false≢true, cases_eq, cases_lt, ne_eqb}
 use Rattle.std.proofs.lemmas.List.{length-set}
 use Rattle.std.proofs.lemmas.List.Sorted.{list_any-IsPermutation}
 use Rattle.std.proofs.lemmas.List.Sums.{sum_by-set}
 use Rattle.std.proofs.lemmas.Option.{slice_get-get_or, slice_get_past}
-use Rattle.std.specs.Prelude.{slice_get, unwrap_or, ◌==◌}
 use Rattle.std.specs.List.{list_any}
 use Rattle.std.specs.List.Sorted.{IsPermutation}
 use Rattle.avro_least.specs.SeenLeast.{seen, given_entry, improves, weight, weights}
 use Rattle.avro_least.specs.declared.kept.Least.{Least as KeptLeast}
 use Rattle.avro_least.specs.inside.Falling.{is_waiting, lowered}
+use Rattle.avro_certificate.proofs.public.Tests.{or_not}
 use Rattle.avro_least.proofs.Rounds.{set_here, set_other, weight_falls}
 
 -- a mark that is set or cleared
@@ -57,11 +56,7 @@ pub queued_more : {A : Type 0} (test : A → Bool) (x : A) (old new : List A) �
 queued_more test x old new p m = sym (list_any-IsPermutation test (x ∷ old) new p) ∙ m
 
 pub queued_less : {A : Type 0} (test : A → Bool) (x : A) (old new : List A) → IsPermutation old (x ∷ new) → test x ≡ false → list_any test old ≡ true → list_any test new ≡ true
-queued_less test x old new p apart m = passed (test x) apart (sym (list_any-IsPermutation test old (x ∷ new) p) ∙ m)
-  where
-    passed : (t : Bool) → t ≡ false → (t || list_any test new) ≡ true → list_any test new ≡ true
-    passed true e h = absurd (true≢false e)
-    passed false e h = h
+queued_less test x old new p apart m = or_not (test x) (list_any test new) (sym (list_any-IsPermutation test old (x ∷ new) p) ∙ m) (λ t. false≢true (sym apart ∙ t))
 
 -- a better entry is set, another one is not
 pub lowered_better : (es : List (Option KeptLeast)) (i : ℕ) (found : Option KeptLeast) → improves (seen found) (given_entry (slice_get es i)) ≡ true → lowered es i found ≡ set es i found

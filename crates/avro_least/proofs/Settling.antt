@@ -1,8 +1,7 @@
 -- What stays settled while entries fall.
-use Rattle.std.proofs.Common.{◌≡◌, ◌⊎◌, ◌≤◌, ℕ, suc, Bool, true, false, cond, ◌||◌, List, [], ◌∷◌, Option, Some, None, inl, inr, length, refl, sym, ◌∙◌, ap, subst, arith}
+use Rattle.std.proofs.Common.{◌≡◌, ◌⊎◌, ◌≤◌, ℕ, suc, Bool, true, false, cond, ◌||◌, List, [], ◌∷◌, Option, Some, None, inl, inr, length, refl, sym, ◌∙◌, ap, subst, arith, slice_get, unwrap_or, is_some, is_none, nat_le, ◌==◌}
 use Rattle.std.proofs.lemmas.Bool.{false≢true, eq-eqb, eqb-true, leb-true, leb-false, cases_Bool}
 use Rattle.std.proofs.lemmas.Option.{slice_get_past}
-use Rattle.std.specs.Prelude.{slice_get, unwrap_or, is_some, is_none, nat_le, ◌==◌}
 use Rattle.std.specs.List.{list_any}
 use Rattle.avro_schema.specs.Value.{Value}
 use Rattle.avro_schema.specs.Node.{Node, node_at, field_ids}
@@ -17,8 +16,10 @@ use Rattle.avro_certificate.proofs.public.Tests.{or_cases, or_left, or_right, or
 use Rattle.avro_certificate.proofs.public.Shapes.{meets_rules_at}
 use Rattle.avro_least.proofs.public.Keys.{key_at}
 use Rattle.avro_least.proofs.LeastOrder.{under_lesser_left, under_lesser_right}
-use Rattle.avro_least.proofs.ShownData.{exact_around, around_some, best_is, step_shown}
-use Rattle.avro_least.proofs.Rounds.{none_is}
+use Rattle.avro_least.proofs.public.ShownData.{exact_around, around_some, best_is, step_shown}
+use Rattle.avro_certificate.proofs.public.FaultyResults.{any_at}
+use Rattle.avro_least.proofs.public.Quiet.{any_pass, some_below}
+use Rattle.avro_least.proofs.public.DeadNodes.{none_of}
 
 -- what is no more than an entry stays so inside one more node
 around_no_more : (limit : ℕ) (a b : Option Least) → IsNoMore a b → IsNoMore (around limit a) (around limit b)
@@ -52,12 +53,8 @@ no_more_best limit table ids e each = elim (cases_Bool (is_some (best_of table i
   | inl some ↦
       let best = best_is table ids some in
       (λ s d m. each best.id (key_at ids best.branch best.id best.here) s d (subst (λ (x : Option Least). AtMost (around limit x) s d) best.is m))
-  | inr none ↦ (λ s d m. absurd (false≢true (sym none ∙ some_under (best_of table ids) s d m)))
+  | inr none ↦ (λ s d m. absurd (false≢true (sym none ∙ around_some limit (best_of table ids) (some_below (around limit (best_of table ids)) s d m))))
 ]
-  where
-    some_under : (x : Option Least) (s d : ℕ) → AtMost (around limit x) s d → is_some x ≡ true
-    some_under None s d m = absurd m
-    some_under (Some x) s d m = refl
 
 -- tables that have the same entries for some ids
 module _ (limit : ℕ) (old new : LeastTable) where
@@ -73,14 +70,6 @@ module _ (limit : ℕ) (old new : LeastTable) where
   step_same (Node.union ids) same = ap (around limit) (best_same ids same)
   step_same (Node.record_of name aliases fields) same = ap (around limit) (all_same (field_ids fields) same)
   step_same _ same = refl
-
--- one of some ids passes a test that it passed before
-any_kept : (before after : ℕ → Bool) (ids : List ℕ) → ((p : ℕ) → before p ≡ true → after p ≡ true) → list_any before ids ≡ true → list_any after ids ≡ true
-any_kept before after [] kept h = h
-any_kept before after (q ∷ qs) kept h = elim (or_cases (before q) (list_any before qs) h) [
-  | inl here ↦ or_from_left (after q) (list_any after qs) (kept q here)
-  | inr later ↦ or_from_right (after q) (list_any after qs) (any_kept before after qs kept later)
-]
 
 module _ (limit : ℕ) (old new : LeastTable) (before after : ℕ → Bool) (fallen : (p : ℕ) → (after p ≡ true) ⊎ (new p ≡ old p)) where
   any_or_same : (ids : List ℕ) → (list_any after ids ≡ true) ⊎ ((p : ℕ) → is_key ids p ≡ true → new p ≡ old p)
@@ -114,22 +103,12 @@ module _ (limit : ℕ) (old new : LeastTable) (before after : ℕ → Bool) (fal
   pub step_settles : (n : Node) (e : Option Least) → IsNoMore e (least_datum limit old n) → IsSettledNode limit new after n e
   step_settles (Node.union ids) e less = λ p h.
       parted p e (λ s d m. less s d (around_no_more limit (best_of old ids) (old p) (best_no_more old ids p h) s d m))
-  step_settles (Node.record_of name aliases fields) e less = stepped (Node.record_of name aliases fields) e less
-  step_settles Node.null e less = inr less
-  step_settles Node.boolean e less = inr less
-  step_settles Node.int e less = inr less
-  step_settles Node.long e less = inr less
-  step_settles Node.bytes e less = inr less
-  step_settles Node.string e less = inr less
-  step_settles (Node.array id) e less = inr less
-  step_settles (Node.map_of id) e less = inr less
-  step_settles (Node.enum name aliases symbols default) e less = inr less
-  step_settles (Node.fixed name aliases count) e less = inr less
+  step_settles n e less = stepped n e less
 
   module _ (kept : (p : ℕ) → before p ≡ true → after p ≡ true) where
     others_kept : (n : Node) (e f : Option Least) → IsNoMore f e → (list_any before (inner_ids n) ≡ true) ⊎ IsNoMore e (least_datum limit old n)
         → (list_any after (inner_ids n) ≡ true) ⊎ IsNoMore f (least_datum limit new n)
-    others_kept n e f less (inl waits) = inl (any_kept before after (inner_ids n) kept waits)
+    others_kept n e f less (inl waits) = inl (any_pass before after (inner_ids n) kept waits)
     others_kept n e f less (inr low) = stepped n f (λ s d m. less s d (low s d m))
 
     -- a settled node stays so while entries fall
@@ -138,17 +117,7 @@ module _ (limit : ℕ) (old new : LeastTable) (before after : ℕ → Bool) (fal
       | inl waits ↦ inl (kept p waits)
       | inr low ↦ parted p f (λ s d m. less s d (low s d m))
     ]
-    settled_kept (Node.record_of name aliases fields) e f less all = others_kept (Node.record_of name aliases fields) e f less all
-    settled_kept Node.null e f less all = others_kept Node.null e f less all
-    settled_kept Node.boolean e f less all = others_kept Node.boolean e f less all
-    settled_kept Node.int e f less all = others_kept Node.int e f less all
-    settled_kept Node.long e f less all = others_kept Node.long e f less all
-    settled_kept Node.bytes e f less all = others_kept Node.bytes e f less all
-    settled_kept Node.string e f less all = others_kept Node.string e f less all
-    settled_kept (Node.array id) e f less all = others_kept (Node.array id) e f less all
-    settled_kept (Node.map_of id) e f less all = others_kept (Node.map_of id) e f less all
-    settled_kept (Node.enum name aliases symbols default) e f less all = others_kept (Node.enum name aliases symbols default) e f less all
-    settled_kept (Node.fixed name aliases count) e f less all = others_kept (Node.fixed name aliases count) e f less all
+    settled_kept n e f less all = others_kept n e f less all
 
     -- a union that is lowered to what stands around a branch is settled for that branch
     pub branch_settles : (ids : List ℕ) (i : ℕ) (e f : Option Least) → IsNoMore f e → IsNoMore f (around limit (old i))
@@ -177,7 +146,7 @@ open_settles limit table waits ids e h = elim (waits_or_none ids h) [
     waits_or_none [] m = absurd (false≢true m)
     waits_or_none (p ∷ ps) m = elim (or_cases (is_none (table p) || waits p) (list_any (λ q. is_none (table q) || waits q) ps) m) [
       | inl here ↦ elim (or_cases (is_none (table p)) (waits p) here) [
-        | inl none ↦ inr (ap (λ x. together limit x (all_of limit table ps)) (none_is (table p) none))
+        | inl none ↦ inr (ap (λ x. together limit x (all_of limit table ps)) (none_of (table p) none))
         | inr waited ↦ inl (or_from_left (waits p) (list_any waits ps) waited)
       ]
       | inr later ↦ elim (waits_or_none ps later) [
@@ -213,17 +182,7 @@ module _ (limit : ℕ) (table : LeastTable) (waits : ℕ → Bool) (i : ℕ) whe
     ]
     | inr low ↦ inr low
   ]
-  settled_unused (Node.record_of name aliases fields) e apart all = others_unused (Node.record_of name aliases fields) e apart all
-  settled_unused Node.null e apart all = others_unused Node.null e apart all
-  settled_unused Node.boolean e apart all = others_unused Node.boolean e apart all
-  settled_unused Node.int e apart all = others_unused Node.int e apart all
-  settled_unused Node.long e apart all = others_unused Node.long e apart all
-  settled_unused Node.bytes e apart all = others_unused Node.bytes e apart all
-  settled_unused Node.string e apart all = others_unused Node.string e apart all
-  settled_unused (Node.array id) e apart all = others_unused (Node.array id) e apart all
-  settled_unused (Node.map_of id) e apart all = others_unused (Node.map_of id) e apart all
-  settled_unused (Node.enum name aliases symbols default) e apart all = others_unused (Node.enum name aliases symbols default) e apart all
-  settled_unused (Node.fixed name aliases count) e apart all = others_unused (Node.fixed name aliases count) e apart all
+  settled_unused n e apart all = others_unused n e apart all
 
 -- where none waits, a settled node is low
 module _ (limit : ℕ) (table : LeastTable) (waits : ℕ → Bool) (none : (p : ℕ) → waits p ≡ false) where
@@ -244,17 +203,7 @@ module _ (limit : ℕ) (table : LeastTable) (waits : ℕ → Bool) (none : (p : 
 
   pub settled_low : (n : Node) (e : Option Least) → IsSettledNode limit table waits n e → IsNoMore e (least_datum limit table n)
   settled_low (Node.union ids) e all = no_more_best limit table ids e (λ p h. branch_low p e (all p h))
-  settled_low (Node.record_of name aliases fields) e all = others_low (Node.record_of name aliases fields) e all
-  settled_low Node.null e all = others_low Node.null e all
-  settled_low Node.boolean e all = others_low Node.boolean e all
-  settled_low Node.int e all = others_low Node.int e all
-  settled_low Node.long e all = others_low Node.long e all
-  settled_low Node.bytes e all = others_low Node.bytes e all
-  settled_low Node.string e all = others_low Node.string e all
-  settled_low (Node.array id) e all = others_low (Node.array id) e all
-  settled_low (Node.map_of id) e all = others_low (Node.map_of id) e all
-  settled_low (Node.enum name aliases symbols default) e all = others_low (Node.enum name aliases symbols default) e all
-  settled_low (Node.fixed name aliases count) e all = others_low (Node.fixed name aliases count) e all
+  settled_low n e all = others_low n e all
 
 -- past the end a node is settled
 pub past_settled : (nodes : List Node) (limit : ℕ) (es : List (Option KeptLeast)) (waits : ℕ → Bool) (w : ℕ) → length es ≡ length nodes → length nodes ≤ w
@@ -263,23 +212,16 @@ past_settled nodes limit es waits w same past =
     subst (λ (o : Option Node). IsSettledNode limit (table_of es) waits (unwrap_or o Node.null) (table_of es w)) (sym (slice_get_past nodes w past))
     (inr (λ s d m. subst (λ (o : Option (Option KeptLeast)). AtMost (entry_of o) s d) (sym (slice_get_past es w (omega (arith, same, past)))) m))
 
--- the place of a key
-key_place : (ids : List ℕ) (p : ℕ) → is_key ids p ≡ true → (k : ℕ) × (slice_get ids k ≡ Some p)
-key_place [] p h = absurd (false≢true h)
-key_place (q ∷ qs) p h = elim (or_cases (p == q) (is_key qs p) h) [
-  | inl same ↦ (0, ap Some (sym (eqb-true p q same)))
-  | inr later ↦ (let found = key_place qs p later in (suc found.0, found.1))
-]
-
 -- what stands around a branch that has a datum
 pub branch_shown : (nodes : List Node) (limit : ℕ) (table : LeastTable) (ids : List ℕ) (i : ℕ) → AreDataShown nodes limit table → is_key ids i ≡ true
     → is_some (around limit (table i)) ≡ true → ShowsData nodes limit (Node.union ids) (around limit (table i))
 branch_shown nodes limit table ids i shown h some =
-    let place = key_place ids i h in
+    let place = any_at (λ k. i == k) ids h in
+    let here : slice_get ids place.0 ≡ Some i = place.1.1 ∙ ap Some (sym (eqb-true i place.1.0 place.1.2)) in
     let part = shown i (around_some limit (table i) some) in
     record {
       datum = Value.union place.0 part.datum;
-      fitting = rw place.1 part.fitting;
+      fitting = rw here part.fitting;
       exact = exact_around limit (table i) _ _ part.exact;
     }
 

@@ -1,12 +1,10 @@
 -- An entry that is set changes what other entries come to only by the parts that are its pair, which waits then.
-use Rattle.std.proofs.Common.{◌≡◌, ◌⊎◌, inl, inr, ℕ, ◌+◌, ◌/◌, ◌%◌, ◌<◌, Bool, true, false, cond, ◌&&◌, List, [], ◌∷◌, Option, Some, None, length, get_or, refl, sym, ◌∙◌, ap, subst, arith}
-use Rattle.std.proofs.Math.ListN.{set}
+use Rattle.std.proofs.Common.{◌≡◌, ◌⊎◌, inl, inr, ℕ, ◌+◌, ◌/◌, ◌%◌, ◌<◌, Bool, true, false, cond, ◌&&◌, List, [], ◌∷◌, Option, Some, None, length, get_or, refl, sym, ◌∙◌, ap, subst, arith, slice_get, unwrap_or, ◌==◌, is_none, nat_eq, position, set}
 use Rattle.std.proofs.lemmas.Bool.{false≢true, true≢false, eq-eqb, eqb-true, cases_eq, cases_lt}
 use Rattle.std.proofs.lemmas.Iterator.Adapters.{position_from-zero}
 use Rattle.std.proofs.lemmas.List.Quantifiers.{position-Some}
 use Rattle.std.proofs.lemmas.Map.Keys.{apart_from_distinct}
 use Rattle.std.proofs.lemmas.Option.{get_or_from_slice_get, slice_get_within}
-use Rattle.std.specs.Prelude.{slice_get, unwrap_or, ◌==◌, is_none, nat_eq, position}
 use Rattle.std.specs.List.{IsDistinct}
 use Rattle.avro_schema.specs.Node.{Node, node_at}
 use Rattle.avro_compare.specs.Children.{Pair}
@@ -20,7 +18,8 @@ use Rattle.avro_least.specs.inside.Parts.{part_at, entry_of_part, around_part, v
 use Rattle.avro_least.specs.inside.Falling.{is_waiting, lowered}
 use Rattle.avro_least.specs.inside.Leading.{is_lead, leads_at, AreLeads, PartWaits, IsTaken, IsTakenAlone, AreTakenBut}
 use Rattle.avro_certificate.proofs.public.Tests.{and_left, and_right, or_cases}
-use Rattle.avro_least.proofs.Rounds.{set_here, set_other, improves_low, none_is}
+use Rattle.avro_least.proofs.Rounds.{set_here, set_other, improves_low}
+use Rattle.avro_least.proofs.public.DeadNodes.{none_of}
 use Rattle.avro_least.proofs.LeastOrder.{precedes_under}
 use Rattle.avro_least.proofs.AskedValue.{value_is}
 use Rattle.avro_least.proofs.AtMostParts.{at_most_parts}
@@ -88,8 +87,8 @@ module _ (writer reader : List Node) (limit : ℕ) (table : LeastTable) (keys : 
         by_node : (t : Bool) → is_none (table c.w) ≡ t → PartWaits writer reader table keys waiting p k
             ⊎ (erring_of (length reader) table keys (seen_all (set es i found)) c.w c.r ≡ erring_of (length reader) table keys (seen_all es) c.w c.r)
         by_node true dead =
-            inr (erring_none (length reader) table keys (seen_all (set es i found)) c.w c.r (none_is (table c.w) dead)
-            ∙ sym (erring_none (length reader) table keys (seen_all es) c.w c.r (none_is (table c.w) dead)))
+            inr (erring_none (length reader) table keys (seen_all (set es i found)) c.w c.r (none_of (table c.w) dead)
+            ∙ sym (erring_none (length reader) table keys (seen_all es) c.w c.r (none_of (table c.w) dead)))
         by_node false live = elim (erring_set (length reader) table keys es i key found within here c.w c.r) [
           | inl same ↦ inr same
           | inr own_entry ↦ inl (record {

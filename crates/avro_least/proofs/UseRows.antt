@@ -1,12 +1,10 @@
 -- Rows of users that grow.
-use Rattle.std.proofs.Common.{◌≡◌, ◌<◌, ◌≤◌, ℕ, true, false, ◌&&◌, ◌||◌, List, [], ◌∷◌, ◌++◌, Option, inl, inr, length, get_or, refl, sym, ◌∙◌, ap, subst}
+use Rattle.std.proofs.Common.{◌≡◌, ◌<◌, ◌≤◌, ℕ, true, false, ◌&&◌, ◌||◌, List, [], ◌∷◌, ◌++◌, Option, inl, inr, length, get_or, refl, sym, ◌∙◌, ap, subst, unwrap_or, ◌==◌, set}
 use Rattle.std.proofs.Math.Bool.{or-false}
-use Rattle.std.proofs.Math.ListN.{set}
 use Rattle.std.proofs.lemmas.Bool.{true≢false, eq-eqb, ne_eqb, cases_eq, cases_lt}
 use Rattle.std.proofs.lemmas.List.Folds.{list_any-append}
 use Rattle.std.proofs.lemmas.Option.{slice_get-get_or, slice_get_past}
 use Rattle.std.specs.Global.{Vec}
-use Rattle.std.specs.Prelude.{unwrap_or, ◌==◌}
 use Rattle.avro_schema.specs.Node.{Node, node_at}
 use Rattle.avro_least.specs.Reached.{is_key}
 use Rattle.avro_least.specs.inside.Uses.{users_at, inner_ids}

@@ -1,6 +1,9 @@
 pub mod DeadNodes
 pub mod Decided
 pub mod Exact
+pub mod Faults
 pub mod Keys
 pub mod Quiet
 pub mod Stepping
+pub mod ShownData
+pub mod ShownParts

@@ -7,7 +7,7 @@ use Rattle.avro_compare.specs.Fault.{ResolutionFault}
 use Rattle.avro_compare.specs.Resolve.{Resolved}
 use Rattle.avro_certificate.specs.Compatible.{ErrsWith, AreCompatible, IsLeastToErr, ErrsOnlyAbove, ErrsLeastDeep}
 use Rattle.avro_least.specs.Tables.{Least, LeastTable, ErringTable, IsUnder, AtMost, AreLow, ShowsError}
-use Rattle.avro_least.proofs.Faults.{OnErr}
+use Rattle.avro_least.proofs.public.Faults.{OnErr}
 use Rattle.avro_least.proofs.LeastErrors.{at_most_errors}
 
 module _ (writer reader : List Node) (limit : ℕ) (table : LeastTable) (erring : ErringTable) (low : AreLow writer reader limit table erring)

@@ -1,8 +1,7 @@
 -- Within the limit each entry of a pair that was reached is what the pair asks for.
-use Rattle.std.proofs.Common.{◌≡◌, ℕ, ◌+◌, ◌*◌, ◌/◌, ◌%◌, ◌≤◌, ◌<◌, Bool, true, ◌&&◌, ◌||◌, List, Option, Some, None, length, refl, sym, ◌∙◌, ap, subst, arith}
+use Rattle.std.proofs.Common.{◌≡◌, ℕ, ◌+◌, ◌*◌, ◌/◌, ◌%◌, ◌≤◌, ◌<◌, Bool, true, ◌&&◌, ◌||◌, List, Option, Some, None, length, refl, sym, ◌∙◌, ap, subst, arith, slice_get, is_some, is_none, nat_lt, ◌==◌}
 use Rattle.std.proofs.lemmas.Nat.{div-mul-add, mod-mul-add}
 use Rattle.std.proofs.lemmas.Bool.{ltb-true, lt-ltb, eqb-true, false≢true}
-use Rattle.std.specs.Prelude.{slice_get, is_some, is_none, nat_lt, ◌==◌}
 use Rattle.std.specs.List.{list_all}
 use Rattle.avro_schema.specs.Value.{size, depth}
 use Rattle.avro_schema.specs.Node.{Node, node_at}
@@ -16,11 +15,12 @@ use Rattle.avro_least.specs.Reached.{is_key}
 use Rattle.avro_certificate.proofs.public.Tests.{and_left, and_right, or_not, all_at}
 use Rattle.avro_least.proofs.AskedValue.{value_is}
 use Rattle.avro_least.proofs.public.Stepping.{children_at_within}
-use Rattle.avro_least.proofs.PairSteps.{step_shows, followed_known}
+use Rattle.avro_least.proofs.PairSteps.{followed_known}
 use Rattle.avro_least.proofs.Fixed.{same_least, exact_errors}
 use Rattle.avro_least.proofs.LeastData.{at_most_data}
 use Rattle.avro_schema.proofs.public.Parts.{size-positive}
 use Rattle.avro_least.proofs.AskedParts.{parts_pass}
+use Rattle.avro_least.proofs.public.ShownParts.{asked_shown}
 use Rattle.avro_certificate.proofs.public.FaultyResults.{any_at}
 
 module _ (writer reader : List Node) (limit : ℕ) (table : LeastTable) (keys : List ℕ) (entries : List (Option Least))
@@ -70,14 +70,13 @@ module _ (writer reader : List Node) (limit : ℕ) (table : LeastTable) (keys : 
       subst (λ (x : ℕ). P x r) (div-mul-add w (length reader) r within)
       (subst (λ (y : ℕ). P ((w * length reader + r) / length reader) y) (mod-mul-add w (length reader) r within) h)
 
-  step_shown : (w r : ℕ) → IsReached w r → is_some (step w r) ≡ true → ShowsError writer reader limit (node_at writer w) (node_at reader r) (step w r)
-  step_shown w r at = at_nodes (λ x y. is_some (step x y) ≡ true → ShowsError writer reader limit (node_at writer x) (node_at reader y) (step x y)) w r at.within
-      (λ some. step_shows writer reader limit table keys entries formed theirs tables.has_data (w * length reader + r) at.below at.followed tables.shown
-      (step ((w * length reader + r) / length reader) ((w * length reader + r) % length reader)) refl some)
-
   children_known : (w r : ℕ) → IsReached w r → list_all (is_known (length reader) table keys) (open_children writer reader w r (node_at writer w) (node_at reader r)) ≡ true
   children_known w r at = at_nodes (λ x y. list_all (is_known (length reader) table keys) (open_children writer reader x y (node_at writer x) (node_at reader y)) ≡ true) w r at.within
       (followed_known writer reader table keys _ (children_at_within writer reader table formed theirs (w * length reader + r) at.below) at.followed)
+
+  step_shown : (w r : ℕ) → IsReached w r → is_some (step w r) ≡ true → ShowsError writer reader limit (node_at writer w) (node_at reader r) (step w r)
+  step_shown w r at = asked_shown writer reader limit table (erring_of (length reader) table keys entries) (is_known (length reader) table keys) theirs tables.has_data tables.shown w r
+      (asked writer reader (node_at writer w) (node_at reader r)) refl (parts_pass writer reader (is_known (length reader) table keys) w r (node_at writer w) (node_at reader r) (children_known w r at))
 
   -- what a key's pair leads to is known
   pub known_children : (w r : ℕ) → r < length reader → is_key keys (w * length reader + r) ≡ true

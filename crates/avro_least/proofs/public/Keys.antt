@@ -1,12 +1,11 @@
 -- Adding a key to some keys.
-use Rattle.std.proofs.Common.{◌≡◌, ◌≤◌, inl, inr, ap, ℕ, ◌+◌, ◌<◌, Bool, true, false, ◌&&◌, ◌||◌, List, [], ◌∷◌, ◌++◌, length, refl, sym, ◌∙◌, subst, arith}
+use Rattle.std.proofs.Common.{◌≡◌, ◌≤◌, inl, inr, ap, ℕ, ◌+◌, ◌<◌, Bool, true, false, ◌&&◌, ◌||◌, List, [], ◌∷◌, ◌++◌, length, refl, sym, ◌∙◌, subst, arith, slice_get, Some, zero, suc, nat_lt, ◌==◌, nat_eq, if◌then◌else◌}
 use Rattle.std.proofs.lemmas.Bool.{false≢true, and_from, eq-eqb, eqb-true, ltb-true, lt-ltb, cases_eq}
 use Rattle.std.proofs.lemmas.List.Folds.{list_all-append, list_any-append}
 use Rattle.std.proofs.lemmas.List.{append-nil}
 use Rattle.std.proofs.lemmas.Map.Steps.{length-le_from_distinct_below}
 use Rattle.std.proofs.lemmas.Option.{slice_get_within}
 use Rattle.std.specs.List.{IsDistinct}
-use Rattle.std.specs.Prelude.{slice_get, Some, zero, suc, nat_lt, ◌==◌, nat_eq, if◌then◌else◌}
 use Rattle.std.specs.List.{list_all}
 use Rattle.indexmap.specs.IndexSet.{insert_key}
 use Rattle.avro_least.specs.Reached.{is_key, AreFollowed}

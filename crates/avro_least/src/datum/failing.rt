@@ -3,18 +3,20 @@
 ghost use Rattle.std.specs.Prelude.{◌+◌, ◌≤◌, ℕ, IfOk};
 ghost use Rattle.avro_schema.specs.Seen.{ids_of, value_of};
 ghost use Rattle.avro_schema.specs.SeenSchema.{schema_nodes};
-ghost use Rattle.avro_compare.specs.Planned.{AreComparisons};
+ghost use Rattle.avro_compare.specs.Planned.{AreComparisons, IsComparison};
 ghost use Rattle.avro_least.specs.Asked.{Asked};
 ghost use Rattle.avro_least.specs.BuiltErrors.{BuildsAsked, BuildsError, BuildsRow};
-ghost use Rattle.avro_least.specs.SeenAsk.{ask_of, row_of, rows_of};
+ghost use Rattle.avro_least.specs.SeenAsk.{row_of, rows_of};
 ghost use Rattle.avro_least.specs.SeenTables.{erring_in, least_in};
 
-use crate::datum::found_pairs::{ask_for, lone_at};
+use crate::datum::found_pairs::{compare_alone, found_of, lone};
 use crate::datum::least::{build, id_at, make_record, wrap};
 use crate::datum::made::around_part;
 use crate::datum::selecting::{best_error_index, best_row};
 use crate::datum::tables::Tables;
-use crate::pairs::asking::{Ask, FieldAsk};
+use crate::pairs::asking::{FieldAsk, ask_of_pair, rows_of_node};
+use crate::pairs::keeping::Ask;
+use avro_compare::Comparison;
 use avro_schema::{Datum, Memory, NodeId};
 use std::alloc::Global;
 
@@ -35,59 +37,61 @@ pub fn build_error(
     requires found { AreComparisons (schema_nodes tables.now.writer.now) (schema_nodes tables.now.reader.now) tables.now.reached.now.found.items }
     ensures { IfOk result (λ d. BuildsError (schema_nodes tables.now.writer.now) (schema_nodes tables.now.reader.now) tables.now.limit (least_in tables.now) (erring_in tables.now) left w.0 r.0 (value_of d)) }
 {
-    let ask = ask_for(alloc, tables, w, r)?;
-    match &ask {
-        Ask::Same(q) => {
-            let again = ask_for(alloc, tables, w, *q)?;
-            let value = build_asked(alloc, tables, w, *q, &again, left)?;
+    match found_of(tables, w, r) {
+        Some(pair) => {
+            let value = build_asked(alloc, tables, pair, left)?;
             Ok(value)
         }
-        _ => {
-            let value = build_asked(alloc, tables, w, r, &ask, left)?;
+        None => {
+            let pair = compare_alone(alloc, tables, w, r)?;
+            let value = build_asked(alloc, tables, &pair, left)?;
             Ok(value)
         }
     }
 }
 
-/// The same, given what the pair asks for. [`Ask::Same`] is left to the caller.
+/// The same, given the comparison of the pair.
 #[cycle(build_error)]
 fn build_asked(
     alloc: Global,
     tables: &Tables,
-    w: NodeId,
-    r: NodeId,
-    ask: &Ask,
+    pair: &Comparison,
     left: u32,
 ) -> Result<Datum, Memory>
     requires few { tables.now.limit ≤ 16777216 }
     requires found { AreComparisons (schema_nodes tables.now.writer.now) (schema_nodes tables.now.reader.now) tables.now.reached.now.found.items }
-    ensures { IfOk result (λ d. BuildsAsked (schema_nodes tables.now.writer.now) (schema_nodes tables.now.reader.now) tables.now.limit (least_in tables.now) (erring_in tables.now) left w.0 r.0 (ask_of ask.now) (value_of d)) }
+    requires pair { IsComparison (schema_nodes tables.now.writer.now) (schema_nodes tables.now.reader.now) pair.now }
+    ensures { IfOk result (λ d. BuildsError (schema_nodes tables.now.writer.now) (schema_nodes tables.now.reader.now) tables.now.limit (least_in tables.now) (erring_in tables.now) left pair.now.w.0 pair.now.r.0 (value_of d)) }
 {
     if left == 0 {
         return Ok(Datum::Null);
     }
-    match ask {
+    match ask_of_pair(tables.writer, tables.reader, pair) {
         Ask::Quiet => Ok(Datum::Null),
-        Ask::Same(_) => Ok(Datum::Null),
         Ask::Whole => {
-            let value = build(alloc, tables.writer, tables.table, w, left)?;
+            let value = build(alloc, tables.writer, tables.table, pair.w, left)?;
             Ok(value)
         }
         Ask::Lone => {
-            let value = lone_at(alloc, tables, w, r)?;
+            let value = lone(alloc, tables, pair)?;
+            Ok(value)
+        }
+        Ask::Same(q) => {
+            let value = build_error(alloc, tables, pair.w, q, left)?;
             Ok(value)
         }
         Ask::Part(a, b) => {
-            let part = build_error(alloc, tables, *a, *b, left - 1)?;
-            let value = around_part(alloc, tables.writer, w, part)?;
+            let part = build_error(alloc, tables, a, b, left - 1)?;
+            let value = around_part(alloc, tables.writer, pair.w, part)?;
             Ok(value)
         }
         Ask::Branches(ids) => {
-            let value = build_branches(alloc, tables, ids, r, left - 1)?;
+            let value = build_branches(alloc, tables, ids, pair.r, left - 1)?;
             Ok(value)
         }
-        Ask::Fields(rows) => {
-            let value = build_rows(alloc, tables, rows, left - 1)?;
+        Ask::Fields(parts) => {
+            let rows = rows_of_node(alloc, tables.writer.get(pair.w), parts)?;
+            let value = build_rows(alloc, tables, &rows, left - 1)?;
             Ok(value)
         }
     }

@@ -3,22 +3,71 @@
 ghost use Rattle.std.specs.Prelude.{◌≡◌, ◌<◌, ◌≤◌, ℕ, true, length, slice_get, Some, is_some, IfOk};
 ghost use Rattle.std.proofs.Math.ListN.{drop};
 ghost use Rattle.avro_schema.specs.Seen.{ids_of};
-ghost use Rattle.avro_least.specs.Asked.{err_of_rows};
+ghost use Rattle.avro_least.specs.Asked.{err_of_row, err_of_rows};
 ghost use Rattle.avro_least.specs.BuiltErrors.{total_from};
-ghost use Rattle.avro_least.specs.SeenAsk.{rows_of};
-ghost use Rattle.avro_least.specs.SeenLeast.{given_entry};
+ghost use Rattle.avro_least.specs.SeenAsk.{row_of, rows_of};
+ghost use Rattle.avro_least.specs.SeenLeast.{given_entry, seen};
 ghost use Rattle.avro_least.specs.SeenTables.{erring_in, least_in};
 ghost use Rattle.avro_least.specs.Tables.{best_of, together};
 
 use crate::datum::least::are_same;
 use crate::datum::tables::Tables;
 use crate::kept::Least;
-use crate::nodes::least::{entry, together};
+use crate::nodes::least::{entry, lesser, together};
 use crate::pairs::asking::FieldAsk;
-use crate::pairs::erring::{best_branch, best_field, pair_entry, row_entry};
+use crate::pairs::erring::pair_entry;
 use crate::queue::entry_at;
 use avro_schema::{Memory, NodeId};
 use std::alloc::Global;
+
+/// The entry of a pair.
+fn erring_entry(tables: &Tables, w: NodeId, r: NodeId) -> Option<Least>
+    ensures { seen result ≡ erring_in tables.now w.0 r.0 }
+{
+    let known = &tables.reached.known;
+    pair_entry(tables.table, tables.count, known, tables.entries, w, r)
+}
+
+/// The best entry of the branches of a writer's union.
+fn best_branch(tables: &Tables, ids: &[NodeId], r: NodeId) -> Option<Least>
+    ensures { seen result ≡ best_of (λ p. erring_in tables.now p r.0) (ids_of ids.now) }
+{
+    let mut best = None;
+    let mut i = ids.len();
+    while i > 0 {
+        i -= 1;
+        best = lesser(erring_entry(tables, ids[i], r), best);
+    }
+    best
+}
+
+/// The entry of a writer's field, or `None` if no reader's field takes its value.
+fn row_entry(tables: &Tables, row: FieldAsk) -> Option<Least>
+    ensures { seen result ≡ err_of_row (erring_in tables.now) (row_of row) }
+{
+    match row.theirs {
+        None => None,
+        Some(theirs) => erring_entry(tables, row.node, theirs),
+    }
+}
+
+/// The best entry of a record in which one field fails, beside the least data of the others.
+fn best_field(tables: &Tables, rows: &[FieldAsk]) -> Option<Least>
+    requires { tables.now.limit ≤ 16777216 }
+    ensures { seen result ≡ err_of_rows tables.now.limit (least_in tables.now) (erring_in tables.now) (rows_of rows.now) }
+{
+    let mut all = Some(Least { nodes: 0, depth: 0 });
+    let mut best = None;
+    let mut i = rows.len();
+    while i > 0 {
+        i -= 1;
+        let own = entry(tables.table, rows[i].node);
+        let first = together(tables.limit, row_entry(tables, rows[i]), all);
+        best = lesser(first, together(tables.limit, own, best));
+        all = together(tables.limit, own, all);
+    }
+    best
+}
 
 /// The index of the branch with the best entry against a reader's node.
 pub(crate) fn best_error_index(tables: &Tables, ids: &[NodeId], r: NodeId) -> usize
@@ -26,26 +75,9 @@ pub(crate) fn best_error_index(tables: &Tables, ids: &[NodeId], r: NodeId) -> us
         → (p : ℕ) × (slice_get (ids_of ids.now) result ≡ Some p)
         × (erring_in tables.now p r.0 ≡ best_of (λ p. erring_in tables.now p r.0) (ids_of ids.now)) }
 {
-    let best = best_branch(
-        tables.table,
-        tables.count,
-        &tables.reached.known,
-        tables.entries,
-        ids,
-        r,
-    );
+    let best = best_branch(tables, ids, r);
     for i in 0..ids.len() {
-        if are_same(
-            pair_entry(
-                tables.table,
-                tables.count,
-                &tables.reached.known,
-                tables.entries,
-                ids[i],
-                r,
-            ),
-            best,
-        ) {
+        if are_same(erring_entry(tables, ids[i], r), best) {
             return i;
         }
     }
@@ -87,27 +119,14 @@ pub(crate) fn best_row(alloc: Global, tables: &Tables, rows: &[FieldAsk]) -> Res
         × (total_from tables.now.limit (least_in tables.now) (erring_in tables.now) n 0 (rows_of rows.now)
         ≡ err_of_rows tables.now.limit (least_in tables.now) (erring_in tables.now) (rows_of rows.now))) }
 {
-    let best = best_field(
-        tables.limit,
-        tables.table,
-        tables.count,
-        &tables.reached.known,
-        tables.entries,
-        rows,
-    );
+    let best = best_field(tables, rows);
     let before = totals_before(alloc, tables, rows)?;
     let mut chosen = 0;
     let mut behind = Some(Least { nodes: 0, depth: 0 });
     let mut i = rows.len();
     while i > 0 {
         i -= 1;
-        let own = row_entry(
-            tables.table,
-            tables.count,
-            &tables.reached.known,
-            tables.entries,
-            rows[i],
-        );
+        let own = row_entry(tables, rows[i]);
         let fails = together(tables.limit, own, behind);
         let all = together(tables.limit, entry_at(&before, i), fails);
         behind = together(tables.limit, entry(tables.table, rows[i].node), behind);

@@ -1,17 +1,18 @@
 //! What a datum needs to fail at a pair of nodes, from the comparison of the pair.
 
-ghost use Rattle.std.specs.Prelude.{◌≡◌, ℕ, List, IfOk, is_some, cond, option_map};
+ghost use Rattle.std.specs.Prelude.{◌≡◌, ℕ, List, IfOk, is_some, cond, option_map, true};
 ghost use Rattle.avro_schema.specs.Node.{Node as SeenNode, node_at, field_ids};
 ghost use Rattle.avro_schema.specs.Seen.{node_of, seen_fields};
 ghost use Rattle.avro_schema.specs.SeenSchema.{schema_nodes};
+ghost use Rattle.avro_schema.specs.WellFormed.{is_schema};
 ghost use Rattle.avro_compare.specs.Planned.{AreFor, AreInside, IsComparison};
 ghost use Rattle.avro_compare.specs.Resolve.{fields_at};
 ghost use Rattle.avro_least.specs.Asked.{Asked, asked, asked_inside};
 ghost use Rattle.avro_least.specs.KeptAsks.{AreTaken, IsKept, view_of};
-ghost use Rattle.avro_least.specs.SeenAsk.{ask_of, rows_by, rows_of, theirs_in};
+ghost use Rattle.avro_least.specs.SeenAsk.{rows_by, rows_of, theirs_in};
 ghost use Rattle.avro_least.specs.inside.Parts.{nodes_of};
 
-use crate::pairs::keeping::KeptAsk;
+use crate::pairs::keeping::Ask;
 use avro_compare::{Aim, At, Comparison, first_entry, rest_entries};
 use avro_schema::{Field, Memory, Node, NodeId, Schema};
 use std::alloc::Global;
@@ -23,25 +24,6 @@ pub(crate) struct FieldAsk {
     pub(crate) node: NodeId,
     /// The node of the reader's field, if there is one.
     pub(crate) theirs: Option<NodeId>,
-}
-
-/// What a pair of nodes asks of a datum that fails there, with all of the writer's fields, to build the datum from.
-#[derive(Drop)]
-pub(crate) enum Ask {
-    /// Nothing: no datum fails.
-    Quiet,
-    /// The writer's least datum: each datum fails.
-    Whole,
-    /// A datum of one node: a symbol that the reader lacks, or bytes that are not UTF-8.
-    Lone,
-    /// What the writer's node and this node of the reader's ask for.
-    Same(NodeId),
-    /// An item or a value that fails at these two nodes.
-    Part(NodeId, NodeId),
-    /// A value that fails in one of the branches of the writer's union.
-    Branches(Vec<NodeId>),
-    /// One field that fails, beside the least data of the others.
-    Fields(Vec<FieldAsk>),
 }
 
 /// The node of the reader's field that a part is for, if there is one.
@@ -73,71 +55,68 @@ fn rows(alloc: Global, writer: &[Field], parts: &[(usize, At)]) -> Result<Vec<Fi
 }
 
 /// What two records ask for.
-fn ask_fields(pair: &Comparison) -> KeptAsk<'_>
+fn ask_fields(pair: &Comparison) -> Ask<'_>
     ensures shown { (ids : List ℕ) → view_of ids result ≡ cond (is_some pair.now.missing) Asked.whole (Asked.fields (rows_by pair.now.fields.items 0 ids)) }
     ensures taken { (n q : SeenNode) → AreFor (fields_at n) (fields_at q) pair.now.fields.items → AreTaken n q result }
 {
     if pair.missing.is_some() {
-        return KeptAsk::Whole;
+        return Ask::Whole;
     }
-    KeptAsk::Fields(&pair.fields)
+    Ask::Fields(&pair.fields)
 }
 
 /// What two enums ask for.
-fn ask_symbols(pair: &Comparison) -> KeptAsk<'_>
+fn ask_symbols(pair: &Comparison) -> Ask<'_>
     ensures shown { (ids : List ℕ) → view_of ids result ≡ cond (is_some pair.now.lacking) Asked.lone Asked.quiet }
     ensures taken { (n q : SeenNode) → AreTaken n q result }
 {
     if pair.lacks_symbol() {
-        KeptAsk::Lone
+        Ask::Lone
     } else {
-        KeptAsk::Quiet
+        Ask::Quiet
     }
 }
 
 /// What two matching nodes ask for, neither of which is a union.
-fn ask_inside<'a>(w: &Node, r: &Node, pair: &'a Comparison) -> KeptAsk<'a>
+fn ask_inside<'a>(w: &Node, r: &Node, pair: &'a Comparison) -> Ask<'a>
     requires { AreInside (node_of w.now) (node_of r.now) pair.now }
     ensures shown { view_of (nodes_of (node_of w.now)) result ≡ asked_inside (node_of w.now) (node_of r.now) }
     ensures taken { AreTaken (node_of w.now) (node_of r.now) result }
 {
     match w {
         Node::Bytes => if matches!(r, Node::Str) {
-            KeptAsk::Lone
+            Ask::Lone
         } else {
-            KeptAsk::Quiet
+            Ask::Quiet
         },
         Node::Array(a) => match r {
-            Node::Array(b) => KeptAsk::Part(*a, *b),
-            _ => KeptAsk::Quiet,
+            Node::Array(b) => Ask::Part(*a, *b),
+            _ => Ask::Quiet,
         },
         Node::Map(a) => match r {
-            Node::Map(b) => KeptAsk::Part(*a, *b),
-            _ => KeptAsk::Quiet,
+            Node::Map(b) => Ask::Part(*a, *b),
+            _ => Ask::Quiet,
         },
         Node::Record(_) => match r {
             Node::Record(_) => ask_fields(pair),
-            _ => KeptAsk::Quiet,
+            _ => Ask::Quiet,
         },
         Node::Enum(_) => match r {
             Node::Enum(_) => ask_symbols(pair),
-            _ => KeptAsk::Quiet,
+            _ => Ask::Quiet,
         },
-        _ => KeptAsk::Quiet,
+        _ => Ask::Quiet,
     }
 }
 
 /// What a pair of nodes asks for, from its comparison; no name is compared here. An id that a schema does not
 /// have counts as a null.
-pub(crate) fn ask_of_pair<'a>(
-    writer: &'a Schema,
-    reader: &Schema,
-    pair: &'a Comparison,
-) -> KeptAsk<'a>
+pub(crate) fn ask_of_pair<'a>(writer: &'a Schema, reader: &Schema, pair: &'a Comparison) -> Ask<'a>
     requires { IsComparison (schema_nodes writer.now) (schema_nodes reader.now) pair.now }
     ensures shown { view_of (nodes_of (node_at (schema_nodes writer.now) pair.now.w.0)) result
         ≡ asked (schema_nodes writer.now) (schema_nodes reader.now) (node_at (schema_nodes writer.now) pair.now.w.0) (node_at (schema_nodes reader.now) pair.now.r.0) }
     ensures kept { IsKept result (asked (schema_nodes writer.now) (schema_nodes reader.now) (node_at (schema_nodes writer.now) pair.now.w.0) (node_at (schema_nodes reader.now) pair.now.r.0)) }
+    ensures formed { is_schema (schema_nodes reader.now) ≡ true }
 {
     let from = writer.get(pair.w);
     let to = reader.get(pair.r);
@@ -151,7 +130,7 @@ fn ask_nodes<'a>(
     from: &'a Node,
     to: &Node,
     pair: &'a Comparison,
-) -> KeptAsk<'a>
+) -> Ask<'a>
     requires pair { IsComparison (schema_nodes writer.now) (schema_nodes reader.now) pair.now }
     requires from { node_of from.now ≡ node_at (schema_nodes writer.now) pair.now.w.0 }
     requires to { node_of to.now ≡ node_at (schema_nodes reader.now) pair.now.r.0 }
@@ -159,45 +138,25 @@ fn ask_nodes<'a>(
     ensures taken { AreTaken (node_of from.now) (node_of to.now) result }
 {
     match from {
-        Node::Union(ids) => KeptAsk::Branches(ids),
+        Node::Union(ids) => Ask::Branches(ids),
         _ => match pair.aim {
-            Aim::Fault(_) => KeptAsk::Whole,
-            Aim::To(Some(_), q) => KeptAsk::Same(q),
+            Aim::Fault(_) => Ask::Whole,
+            Aim::To(Some(_), q) => Ask::Same(q),
             Aim::To(None, _) => ask_inside(from, to, pair),
         },
     }
 }
 
 /// Each of the fields of a writer's node, with the reader's field that takes its value. Only a record has fields.
-fn rows_of_node(alloc: Global, node: &Node, parts: &[(usize, At)]) -> Result<Vec<FieldAsk>, Memory>
+pub(crate) fn rows_of_node(
+    alloc: Global,
+    node: &Node,
+    parts: &[(usize, At)],
+) -> Result<Vec<FieldAsk>, Memory>
     ensures { IfOk result (λ rows. rows_of rows.items ≡ rows_by parts.now 0 (nodes_of (node_of node.now))) }
 {
     match node {
         Node::Record(record) => rows(alloc, &record.fields, parts),
         _ => Ok(Vec::new(alloc)),
-    }
-}
-
-/// What a pair of nodes asks for, with all of the writer's fields.
-pub(crate) fn ask_with_rows(
-    alloc: Global,
-    writer: &Schema,
-    reader: &Schema,
-    pair: &Comparison,
-) -> Result<Ask, Memory>
-    requires { IsComparison (schema_nodes writer.now) (schema_nodes reader.now) pair.now }
-    ensures { IfOk result (λ a. ask_of a ≡ asked (schema_nodes writer.now) (schema_nodes reader.now) (node_at (schema_nodes writer.now) pair.now.w.0) (node_at (schema_nodes reader.now) pair.now.r.0)) }
-{
-    match ask_of_pair(writer, reader, pair) {
-        KeptAsk::Quiet => Ok(Ask::Quiet),
-        KeptAsk::Whole => Ok(Ask::Whole),
-        KeptAsk::Lone => Ok(Ask::Lone),
-        KeptAsk::Same(q) => Ok(Ask::Same(q)),
-        KeptAsk::Part(a, b) => Ok(Ask::Part(a, b)),
-        KeptAsk::Branches(ids) => Ok(Ask::Branches(ids.to_vec(alloc)?)),
-        KeptAsk::Fields(parts) => {
-            let rows = rows_of_node(alloc, writer.get(pair.w), parts)?;
-            Ok(Ask::Fields(rows))
-        }
     }
 }

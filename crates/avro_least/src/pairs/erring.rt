@@ -1,16 +1,12 @@
 //! The entries of the least data that fail at pairs of nodes.
 
-ghost use Rattle.std.specs.Prelude.{◌≡◌, ◌≤◌, ◌==◌, cond, Option, nat_lt, Some, position};
+ghost use Rattle.std.specs.Prelude.{◌≡◌, ◌==◌, cond, Option, nat_lt, Some, position};
 ghost use Rattle.indexmap.specs.IndexSet.{keys};
-ghost use Rattle.avro_schema.specs.Seen.{ids_of};
-ghost use Rattle.avro_least.specs.Tables.{erring_of, reached_entry, pair_number, no_parts, best_of};
+ghost use Rattle.avro_least.specs.Tables.{erring_of, reached_entry, pair_number, no_parts};
 ghost use Rattle.avro_least.specs.SeenLeast.{seen, seen_all, table_of};
-ghost use Rattle.avro_least.specs.Asked.{err_of_row, err_of_rows};
-ghost use Rattle.avro_least.specs.SeenAsk.{row_of, rows_of};
 
 use crate::kept::Least;
-use crate::nodes::least::{entry, lesser, together};
-use crate::pairs::asking::FieldAsk;
+use crate::nodes::least::entry;
 use crate::pairs::near::index_near;
 use crate::pairs::reaching::number;
 use crate::queue::entry_at;
@@ -81,65 +77,4 @@ pub(crate) fn pair_entry_near(
         None => None,
         Some(_) => live_entry(count, known, entries, w, r, near),
     }
-}
-
-/// The best entry of the branches of a writer's union.
-pub(crate) fn best_branch(
-    table: &[Option<Least>],
-    count: u32,
-    known: &IndexSet<u64>,
-    entries: &[Option<Least>],
-    ids: &[NodeId],
-    r: NodeId,
-) -> Option<Least>
-    ensures { seen result ≡ best_of (λ p. erring_of count (table_of table.now) (keys known.now) (seen_all entries.now) p r.0) (ids_of ids.now) }
-{
-    let mut best = None;
-    let mut i = ids.len();
-    while i > 0 {
-        i -= 1;
-        best = lesser(pair_entry(table, count, known, entries, ids[i], r), best);
-    }
-    best
-}
-
-/// The entry of a writer's field, or `None` if no reader's field takes its value.
-pub(crate) fn row_entry(
-    table: &[Option<Least>],
-    count: u32,
-    known: &IndexSet<u64>,
-    entries: &[Option<Least>],
-    row: FieldAsk,
-) -> Option<Least>
-    ensures { seen result ≡ err_of_row (erring_of count (table_of table.now) (keys known.now) (seen_all entries.now)) (row_of row) }
-{
-    match row.theirs {
-        None => None,
-        Some(theirs) => pair_entry(table, count, known, entries, row.node, theirs),
-    }
-}
-
-/// The best entry of a record in which one field fails, beside the least data of the others.
-pub(crate) fn best_field(
-    limit: u32,
-    table: &[Option<Least>],
-    count: u32,
-    known: &IndexSet<u64>,
-    entries: &[Option<Least>],
-    rows: &[FieldAsk],
-) -> Option<Least>
-    requires { limit ≤ 16777216 }
-    ensures { seen result ≡ err_of_rows limit (table_of table.now) (erring_of count (table_of table.now) (keys known.now) (seen_all entries.now)) (rows_of rows.now) }
-{
-    let mut all = Some(Least { nodes: 0, depth: 0 });
-    let mut best = None;
-    let mut i = rows.len();
-    while i > 0 {
-        i -= 1;
-        let own = entry(table, rows[i].node);
-        let first = together(limit, row_entry(table, count, known, entries, rows[i]), all);
-        best = lesser(first, together(limit, own, best));
-        all = together(limit, own, all);
-    }
-    best
 }

@@ -9,7 +9,7 @@ use avro_schema::NodeId;
 /// What a pair of nodes asks of a datum that fails there, as its comparison and the writer's node say it. Nothing is
 /// copied for it.
 #[derive(Clone, Copy)]
-pub(crate) enum KeptAsk<'a> {
+pub(crate) enum Ask<'a> {
     /// Nothing: no datum fails.
     Quiet,
     /// The writer's least datum: each datum fails.

@@ -14,24 +14,24 @@ ghost use Rattle.avro_least.specs.inside.Parts.{around_part, least_of_others, no
 use crate::filled::filled;
 use crate::kept::Least;
 use crate::nodes::least::{around, count, entry, together};
-use crate::pairs::keeping::{KeptAsk, find_entry};
+use crate::pairs::keeping::{Ask, find_entry};
 use crate::queue::entry_at;
 use avro_compare::At;
 use avro_schema::{Field, Memory, Node, NodeId, Schema};
 use std::alloc::Global;
 
 /// The number of parts that are kept of a pair.
-pub(crate) fn part_count(ask: KeptAsk) -> usize
+pub(crate) fn part_count(ask: Ask) -> usize
     ensures { result ≡ kept_count ask.entry }
 {
     match ask {
-        KeptAsk::Quiet => 0,
-        KeptAsk::Whole => 0,
-        KeptAsk::Lone => 0,
-        KeptAsk::Same(_) => 1,
-        KeptAsk::Part(_, _) => 1,
-        KeptAsk::Branches(ids) => ids.len(),
-        KeptAsk::Fields(parts) => parts.len(),
+        Ask::Quiet => 0,
+        Ask::Whole => 0,
+        Ask::Lone => 0,
+        Ask::Same(_) => 1,
+        Ask::Part(_, _) => 1,
+        Ask::Branches(ids) => ids.len(),
+        Ask::Fields(parts) => parts.len(),
     }
 }
 
@@ -71,18 +71,18 @@ fn pair_for(part: Option<At>) -> Option<(NodeId, NodeId)>
 }
 
 /// The nodes of the part at an index. There are none past the last part, and of a field that no reader's field takes.
-pub(crate) fn part_at(w: NodeId, r: NodeId, ask: KeptAsk, k: usize) -> Option<(NodeId, NodeId)>
+pub(crate) fn part_at(w: NodeId, r: NodeId, ask: Ask, k: usize) -> Option<(NodeId, NodeId)>
     requires { AreOrdered ask }
     ensures { seen_pair result ≡ kept_part w.0 r.0 ask.entry k }
 {
     match ask {
-        KeptAsk::Quiet => None,
-        KeptAsk::Whole => None,
-        KeptAsk::Lone => None,
-        KeptAsk::Same(q) => (k == 0).then_some((w, q)),
-        KeptAsk::Part(a, b) => (k == 0).then_some((a, b)),
-        KeptAsk::Branches(ids) => branch_at(ids, r, k),
-        KeptAsk::Fields(parts) => pair_for(find_entry(parts, k)),
+        Ask::Quiet => None,
+        Ask::Whole => None,
+        Ask::Lone => None,
+        Ask::Same(q) => (k == 0).then_some((w, q)),
+        Ask::Part(a, b) => (k == 0).then_some((a, b)),
+        Ask::Branches(ids) => branch_at(ids, r, k),
+        Ask::Fields(parts) => pair_for(find_entry(parts, k)),
     }
 }
 
@@ -97,22 +97,17 @@ fn at_index(k: usize, pair: Option<(NodeId, NodeId)>) -> Option<(usize, NodeId, 
 }
 
 /// The index of one of the parts that are kept, with its nodes.
-pub(crate) fn nth_part(
-    w: NodeId,
-    r: NodeId,
-    ask: KeptAsk,
-    n: usize,
-) -> Option<(usize, NodeId, NodeId)>
+pub(crate) fn nth_part(w: NodeId, r: NodeId, ask: Ask, n: usize) -> Option<(usize, NodeId, NodeId)>
     ensures { seen_part result ≡ nth_part w.0 r.0 ask.entry n }
 {
     match ask {
-        KeptAsk::Quiet => None,
-        KeptAsk::Whole => None,
-        KeptAsk::Lone => None,
-        KeptAsk::Same(q) => at_index(n, (n == 0).then_some((w, q))),
-        KeptAsk::Part(a, b) => at_index(n, (n == 0).then_some((a, b))),
-        KeptAsk::Branches(ids) => at_index(n, branch_at(ids, r, n)),
-        KeptAsk::Fields(parts) => match entry_in(parts, n) {
+        Ask::Quiet => None,
+        Ask::Whole => None,
+        Ask::Lone => None,
+        Ask::Same(q) => at_index(n, (n == 0).then_some((w, q))),
+        Ask::Part(a, b) => at_index(n, (n == 0).then_some((a, b))),
+        Ask::Branches(ids) => at_index(n, branch_at(ids, r, n)),
+        Ask::Fields(parts) => match entry_in(parts, n) {
             None => None,
             Some((k, part)) => at_index(k, pair_for(Some(part))),
         },
@@ -124,7 +119,7 @@ pub(crate) fn around_part(
     limit: u32,
     table: &[Option<Least>],
     others: &[Option<Least>],
-    ask: KeptAsk,
+    ask: Ask,
     k: usize,
     part: Option<Least>,
 ) -> Option<Least>
@@ -134,23 +129,23 @@ pub(crate) fn around_part(
         → seen result ≡ around_part limit (table_of table.now) a k (seen part) }
 {
     match ask {
-        KeptAsk::Quiet => None,
-        KeptAsk::Whole => None,
-        KeptAsk::Lone => None,
-        KeptAsk::Same(_) => part,
-        KeptAsk::Part(_, _) => around(limit, part),
-        KeptAsk::Branches(_) => around(limit, part),
-        KeptAsk::Fields(_) => around(limit, together(limit, part, entry_at(others, k))),
+        Ask::Quiet => None,
+        Ask::Whole => None,
+        Ask::Lone => None,
+        Ask::Same(_) => part,
+        Ask::Part(_, _) => around(limit, part),
+        Ask::Branches(_) => around(limit, part),
+        Ask::Fields(_) => around(limit, together(limit, part, entry_at(others, k))),
     }
 }
 
 /// The entry of a pair that needs no part.
-pub(crate) fn value_alone(table: &[Option<Least>], w: NodeId, ask: KeptAsk) -> Option<Least>
+pub(crate) fn value_alone(table: &[Option<Least>], w: NodeId, ask: Ask) -> Option<Least>
     ensures { (a : Asked) → IsKept ask.entry a → seen result ≡ value_alone (table_of table.now) w.0 a }
 {
     match ask {
-        KeptAsk::Whole => entry(table, w),
-        KeptAsk::Lone => Some(Least { nodes: 1, depth: 1 }),
+        Ask::Whole => entry(table, w),
+        Ask::Lone => Some(Least { nodes: 1, depth: 1 }),
         _ => None,
     }
 }

@@ -16,7 +16,7 @@ ghost use Rattle.avro_least.specs.KeptAsks.{AreFound, IsFound, IsKept};
 use crate::kept::Least;
 use crate::nodes::least::{count, entry};
 use crate::pairs::asking::ask_of_pair;
-use crate::pairs::keeping::KeptAsk;
+use crate::pairs::keeping::Ask;
 use crate::pairs::near::add_next;
 use avro_compare::{Comparison, Lead, Names, compare, has_fault, leads};
 use avro_schema::{Memory, NodeId, Schema};
@@ -158,7 +158,7 @@ pub(crate) fn ask_at_index<'a>(
     reader: &Schema,
     reached: &'a Reached,
     i: usize,
-) -> KeptAsk<'a>
+) -> Ask<'a>
     requires within { i < length reached.now.found.items }
     requires one_each { length reached.now.found.items ≡ length (keys reached.now.known) }
     requires of_keys { AreFound (schema_nodes writer.now) (schema_nodes reader.now) (keys reached.now.known) reached.now.found.items }

@@ -1,5 +1,4 @@
-use Rattle.std.proofs.Common.{◌≡◌, ◌++◌, drop, map}
-use Rattle.std.specs.Prelude.{is_none}
+use Rattle.std.proofs.Common.{◌≡◌, ◌++◌, drop, map, is_none}
 use Rattle.avro_explain.proofs.dying.marks_of.Given as goal
 
 abbrev pub invariant-loop-entry : goal.invariant-loop-entry

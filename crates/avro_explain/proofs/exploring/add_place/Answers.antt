@@ -1,5 +1,4 @@
-use Rattle.std.proofs.Common.{◌≡◌, ◌∙◌, ℕ, ◌&&◌, Bool, true, false, not, refl, ap, sym, rules}
-use Rattle.std.specs.Prelude.{◌==◌}
+use Rattle.std.proofs.Common.{◌≡◌, ◌∙◌, ℕ, ◌&&◌, Bool, true, false, not, refl, ap, sym, rules, ◌==◌}
 use Rattle.std.specs.List.{list_any}
 use Rattle.avro_certificate.specs.Closed.{is_among_pairs}
 use Rattle.avro_explain.specs.Places.{pair_of, pairs_of}

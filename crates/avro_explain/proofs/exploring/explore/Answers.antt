@@ -1,14 +1,11 @@
-use Rattle.std.proofs.Common.{◌≡◌, ◌∙◌, ◌+◌, ◌<◌, ℕ, suc, List, length, sym, subst, arith}
+use Rattle.std.proofs.Common.{◌∙◌, ◌<◌, ℕ, suc, List, length, sym, subst, arith}
 use Rattle.avro_schema.specs.SeenSchema.{schema_nodes}
 use Rattle.avro_explain.specs.Places.{marked}
 use Rattle.avro_explain.specs.inside.Walks.{IsWalk}
 use Rattle.avro_compare.specs.Leads.{leads_at}
 use Rattle.avro_explain.specs.declared.found.Place.{Place}
-use Rattle.avro_explain.proofs.WalkSteps.{walk_start, walk_visit, searched_more, too_many, extended, findings_more, get_there}
+use Rattle.avro_explain.proofs.WalkSteps.{walk_start, walk_visit, one_more, searched_more, too_many, extended, findings_more, get_there}
 use Rattle.avro_explain.proofs.exploring.explore.Goals as goal
-
-one_more : (n : ℕ) → suc n ≡ n + 1
-one_more n = omega arith
 
 pub returns-then-len-max_pairs-clause-above : goal.returns-then-len-max_pairs-clause-above
 returns-then-len-max_pairs-clause-above c = λ e.

@@ -1,5 +1,4 @@
-use Rattle.std.proofs.Common.{◌∙◌, List, sym, ap, subst}
-use Rattle.std.specs.Prelude.{reverse}
+use Rattle.std.proofs.Common.{◌∙◌, List, sym, ap, subst, reverse}
 use Rattle.avro_explain.specs.Ways.{follow, IsWayTo}
 use Rattle.avro_explain.specs.declared.found.PathStep.{PathStep}
 use Rattle.avro_explain.proofs.WaysFollowed.{way_none, way_next, way_whole}

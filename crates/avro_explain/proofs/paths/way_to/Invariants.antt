@@ -1,5 +1,4 @@
-use Rattle.std.proofs.Common.{◌≡◌, List, Some}
-use Rattle.std.specs.Prelude.{slice_get}
+use Rattle.std.proofs.Common.{◌≡◌, List, Some, slice_get}
 use Rattle.avro_schema.specs.Node.{Node}
 use Rattle.avro_explain.specs.Places.{ArePlaced}
 use Rattle.avro_explain.specs.declared.found.Place.{Place}

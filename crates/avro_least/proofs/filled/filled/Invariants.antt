@@ -1,5 +1,4 @@
-use Rattle.std.proofs.Common.{◌≡◌}
-use Rattle.std.proofs.Math.ListN.{replicate}
+use Rattle.std.proofs.Common.{◌≡◌, replicate}
 use Rattle.avro_least.proofs.filled.filled.Given as goal
 
 abbrev pub invariant-loop-done : goal.invariant-loop-done

@@ -2,7 +2,7 @@ use Rattle.std.proofs.Common.{subst}
 use Rattle.avro_schema.specs.Value.{size, depth}
 use Rattle.avro_least.specs.Tables.{AtMost}
 use Rattle.avro_compare.specs.Resolve.{Resolved}
-use Rattle.avro_least.proofs.Faults.{OnErr}
+use Rattle.avro_least.proofs.public.Faults.{OnErr}
 use Rattle.avro_least.proofs.LeastErrors.{at_most_errors}
 use Rattle.avro_least.proofs.laws.least_errors.Goals as goal
 

@@ -1,67 +1,76 @@
-use Rattle.std.proofs.Common.{◌≡◌, ℕ, zero, suc, ◌+◌, ◌-◌, ◌<◌, ◌≤◌, false, List, [], ◌∷◌, ◌++◌, Some, take, length, get_or, refl, sym, ◌∙◌, ap, subst, arith}
+use Rattle.std.proofs.Common.{◌≡◌, ℕ, zero, suc, ◌+◌, ◌-◌, ◌<◌, ◌≤◌, true, List, [], ◌∷◌, ◌++◌, Some, take, length, get_or, refl, sym, ◌∙◌, ap, subst, arith, map, ◌==◌}
 use Rattle.std.proofs.lemmas.List.{take_more, map-append, length-map, take_all}
-use Rattle.std.specs.Prelude.{map, ◌==◌}
 use Rattle.avro_schema.specs.Value.{Value}
 use Rattle.avro_schema.specs.Seen.{ids_of, value_of}
 use Rattle.avro_schema.specs.SeenSchema.{schema_nodes}
 use Rattle.avro_schema.specs.Node.{Node as SeenNode, node_at}
 use Rattle.avro_schema.specs.declared.datum.Datum.{Datum}
 use Rattle.avro_schema.specs.declared.schema.NodeId.{NodeId}
-use Rattle.avro_least.specs.declared.pairs.asking.Ask.{Ask}
+use Rattle.avro_least.specs.declared.pairs.keeping.Ask.{Ask}
 use Rattle.avro_least.specs.declared.pairs.asking.FieldAsk.{FieldAsk}
-use Rattle.avro_least.specs.Asked.{Asked, Row}
+use Rattle.avro_least.specs.Asked.{Asked, Row, asked}
 use Rattle.avro_least.specs.Tables.{LeastTable, ErringTable}
-use Rattle.avro_least.specs.SeenAsk.{ask_of, row_of, rows_of}
-use Rattle.avro_least.specs.BuiltErrors.{BuildsError, is_same, BuildsAsked, BuildsRow, BuildsRows}
-use Rattle.avro_least.proofs.AskedKinds.{not_same}
+use Rattle.avro_least.specs.SeenAsk.{row_of, rows_by, rows_of}
+use Rattle.avro_least.specs.BuiltErrors.{BuildsError, BuildsAsked, BuildsRow, BuildsRows}
+use Rattle.avro_least.specs.KeptAsks.{view_of}
+use Rattle.avro_least.specs.inside.Parts.{nodes_of}
 use Rattle.avro_least.proofs.AskedBuilds.{whole_builds, lone_builds, part_builds, branches_builds, fields_builds, same_builds, rows_more}
+use Rattle.avro_schema.specs.WellFormed.{is_schema}
+use Rattle.avro_certificate.proofs.public.Shapes.{plain_branch}
+use Rattle.avro_least.proofs.AskedKinds.{asks}
+use Rattle.avro_least.proofs.datum.failing.+build_error.Invariants.{behind}
 use Rattle.avro_least.specs.SeenTables.{erring_in, least_in}
 use Rattle.avro_least.proofs.datum.failing.+build_error.Goals as goal
 
-asked_is : (writer reader : List SeenNode) (limit : ℕ) (table : LeastTable) (erring : ErringTable) (left w r : ℕ) (a b : Ask) (v : Value) → b ≡ a
-    → BuildsAsked writer reader limit table erring left w r (ask_of a) v → BuildsAsked writer reader limit table erring left w r (ask_of b) v
-asked_is writer reader limit table erring left w r a b v is h = subst (λ (x : Ask). BuildsAsked writer reader limit table erring left w r (ask_of x) v) (sym is) h
-
-other_ask : (a : Ask) → ((q : NodeId) → a ≡ Ask.Same q → ⊥) → is_same (ask_of a) ≡ false
-other_ask (Ask.Same q) h = absurd (h q refl)
-other_ask _ h = refl
+-- what a pair asks for is what its view says
+view_is : (ids : List ℕ) (ask own : Ask) (a : Asked) → ask ≡ own → view_of ids ask ≡ a → view_of ids own ≡ a
+view_is ids ask own a is shown = ap (view_of ids) (sym is) ∙ shown
 
 pub build_asked-returns-in_ok-value-in-Whole : goal.build_asked-returns-in_ok-value-in-Whole
 build_asked-returns-in_ok-value-in-Whole t c =
-    asked_is (schema_nodes c.args.tables.now.writer.now) (schema_nodes c.args.tables.now.reader.now) c.args.tables.now.limit (least_in c.args.tables.now) (erring_in c.args.tables.now) c.args.left c.args.w.0 c.args.r.0 Ask.Whole c.args.ask.now (value_of c.in_ok-value-in-Whole.value) c.in-Whole.is
-    (whole_builds (schema_nodes c.args.tables.now.writer.now) (schema_nodes c.args.tables.now.reader.now) c.args.tables.now.limit (least_in c.args.tables.now) (erring_in c.args.tables.now) c.args.left c.args.w.0 c.args.r.0 (value_of c.in_ok-value-in-Whole.value) c.in_ok-value-in-Whole.ensures)
+    whole_builds (schema_nodes c.args.tables.now.writer.now) (schema_nodes c.args.tables.now.reader.now) c.args.tables.now.limit (least_in c.args.tables.now) (erring_in c.args.tables.now) c.args.left c.args.pair.now.w.0 c.args.pair.now.r.0 (value_of c.in_ok-value-in-Whole.value) c.in_ok-value-in-Whole.ensures refl (view_is _ c.ask_of_pair.result _ _ c.in-Whole.is c.ask_of_pair.ensures.shown)
 
 pub build_asked-returns-in_ok-value-in-Lone : goal.build_asked-returns-in_ok-value-in-Lone
 build_asked-returns-in_ok-value-in-Lone t c =
-    asked_is (schema_nodes c.args.tables.now.writer.now) (schema_nodes c.args.tables.now.reader.now) c.args.tables.now.limit (least_in c.args.tables.now) (erring_in c.args.tables.now) c.args.left c.args.w.0 c.args.r.0 Ask.Lone c.args.ask.now (value_of c.in_ok-value-in-Lone.value) c.in-Lone.is
-    (lone_builds (schema_nodes c.args.tables.now.writer.now) (schema_nodes c.args.tables.now.reader.now) c.args.tables.now.limit (least_in c.args.tables.now) (erring_in c.args.tables.now) c.args.left c.args.w.0 c.args.r.0 (value_of c.in_ok-value-in-Lone.value) c.in_ok-value-in-Lone.ensures)
+    lone_builds (schema_nodes c.args.tables.now.writer.now) (schema_nodes c.args.tables.now.reader.now) c.args.tables.now.limit (least_in c.args.tables.now) (erring_in c.args.tables.now) c.args.left c.args.pair.now.w.0 c.args.pair.now.r.0 (value_of c.in_ok-value-in-Lone.value) c.in_ok-value-in-Lone.ensures refl (view_is _ c.ask_of_pair.result _ _ c.in-Lone.is c.ask_of_pair.ensures.shown)
+
+pub build_asked-returns-in_ok-value-in-Same : goal.build_asked-returns-in_ok-value-in-Same
+build_asked-returns-in_ok-value-in-Same t c =
+    same_builds (schema_nodes c.args.tables.now.writer.now) (schema_nodes c.args.tables.now.reader.now) c.args.tables.now.limit (least_in c.args.tables.now) (erring_in c.args.tables.now) c.args.left c.args.pair.now.w.0 c.args.pair.now.r.0 c.in-Same.q.0 (value_of c.in_ok-value-in-Same.value) (view_is _ c.ask_of_pair.result _ _ c.in-Same.is c.ask_of_pair.ensures.shown) c.in_ok-value-in-Same.ensures
 
 pub build_asked-returns-in_ok-value-in-Part : goal.build_asked-returns-in_ok-value-in-Part
 build_asked-returns-in_ok-value-in-Part t c =
-    asked_is (schema_nodes c.args.tables.now.writer.now) (schema_nodes c.args.tables.now.reader.now) c.args.tables.now.limit (least_in c.args.tables.now) (erring_in c.args.tables.now) c.args.left c.args.w.0 c.args.r.0 (Ask.Part _ _) c.args.ask.now (value_of c.in_ok-value-in-Part.value) c.in-Part.is
-    (subst (λ (v : Value). BuildsAsked (schema_nodes c.args.tables.now.writer.now) (schema_nodes c.args.tables.now.reader.now) c.args.tables.now.limit (least_in c.args.tables.now) (erring_in c.args.tables.now) c.args.left c.args.w.0 c.args.r.0 (Asked.part c.in-Part.a.0 c.in-Part.b.0) v) (sym c.in_ok-value-in-Part.ensures)
-    (part_builds (schema_nodes c.args.tables.now.writer.now) (schema_nodes c.args.tables.now.reader.now) c.args.tables.now.limit (least_in c.args.tables.now) (erring_in c.args.tables.now) c.args.left (c.args.left - 1) c.args.w.0 c.args.r.0 c.in-Part.a.0 c.in-Part.b.0 (value_of c.in_ok-part-in-Part.part) (omega arith) c.in_ok-part-in-Part.ensures))
+    subst (λ (v : Value). BuildsError (schema_nodes c.args.tables.now.writer.now) (schema_nodes c.args.tables.now.reader.now) c.args.tables.now.limit (least_in c.args.tables.now) (erring_in c.args.tables.now) c.args.left c.args.pair.now.w.0 c.args.pair.now.r.0 v) (sym c.in_ok-value-in-Part.ensures)
+    (part_builds (schema_nodes c.args.tables.now.writer.now) (schema_nodes c.args.tables.now.reader.now) c.args.tables.now.limit (least_in c.args.tables.now) (erring_in c.args.tables.now) c.args.left (c.args.left - 1) c.args.pair.now.w.0 c.args.pair.now.r.0 c.in-Part.a.0 c.in-Part.b.0 (value_of c.in_ok-part-in-Part.part) (omega arith) c.in_ok-part-in-Part.ensures refl (view_is _ c.ask_of_pair.result _ _ c.in-Part.is c.ask_of_pair.ensures.shown))
 
 pub build_asked-returns-in_ok-value-in-Branches : goal.build_asked-returns-in_ok-value-in-Branches
 build_asked-returns-in_ok-value-in-Branches t c =
-    asked_is (schema_nodes c.args.tables.now.writer.now) (schema_nodes c.args.tables.now.reader.now) c.args.tables.now.limit (least_in c.args.tables.now) (erring_in c.args.tables.now) c.args.left c.args.w.0 c.args.r.0 (Ask.Branches _) c.args.ask.now (value_of c.in_ok-value-in-Branches.value) c.in-Branches.is
-    (subst (λ (ids : List NodeId). BuildsAsked (schema_nodes c.args.tables.now.writer.now) (schema_nodes c.args.tables.now.reader.now) c.args.tables.now.limit (least_in c.args.tables.now) (erring_in c.args.tables.now) c.args.left c.args.w.0 c.args.r.0 (Asked.branches (ids_of ids)) (value_of c.in_ok-value-in-Branches.value)) c.deref.ensures.value
-    (c.in_ok-value-in-Branches.ensures c.args.w.0 c.args.left (omega arith)))
+    c.in_ok-value-in-Branches.ensures c.args.pair.now.w.0 c.args.left (omega arith) refl (view_is _ c.ask_of_pair.result _ _ c.in-Branches.is c.ask_of_pair.ensures.shown)
 
 pub build_asked-returns-in_ok-value-in-Fields : goal.build_asked-returns-in_ok-value-in-Fields
 build_asked-returns-in_ok-value-in-Fields t c =
-    asked_is (schema_nodes c.args.tables.now.writer.now) (schema_nodes c.args.tables.now.reader.now) c.args.tables.now.limit (least_in c.args.tables.now) (erring_in c.args.tables.now) c.args.left c.args.w.0 c.args.r.0 (Ask.Fields _) c.args.ask.now (value_of c.in_ok-value-in-Fields.value) c.in-Fields.is
-    (subst (λ (rows : List FieldAsk). BuildsAsked (schema_nodes c.args.tables.now.writer.now) (schema_nodes c.args.tables.now.reader.now) c.args.tables.now.limit (least_in c.args.tables.now) (erring_in c.args.tables.now) c.args.left c.args.w.0 c.args.r.0 (Asked.fields (rows_of rows)) (value_of c.in_ok-value-in-Fields.value)) c.deref-in-Fields.ensures.value
-    (c.in_ok-value-in-Fields.ensures c.args.w.0 c.args.r.0 c.args.left (omega arith)))
+    c.in_ok-value-in-Fields.ensures c.args.pair.now.w.0 c.args.pair.now.r.0 c.args.left (omega arith) refl
+    (ap Asked.fields (ap rows_of c.deref.ensures.value ∙ c.in_ok-rows-in-Fields.ensures ∙ ap (λ (n : SeenNode). rows_by c.in-Fields.parts.now 0 (nodes_of n)) c.get.ensures.node)
+    ∙ view_is _ c.ask_of_pair.result _ _ c.in-Fields.is c.ask_of_pair.ensures.shown)
 
-pub build_error-returns-in-Same : goal.build_error-returns-in-Same
-build_error-returns-in-Same t c =
-    same_builds (schema_nodes c.args.tables.now.writer.now) (schema_nodes c.args.tables.now.reader.now) c.args.tables.now.limit (least_in c.args.tables.now) (erring_in c.args.tables.now) c.args.left c.args.w.0 c.args.r.0 c.in-Same.q.0 (value_of c.in_ok-value-in-Same.value)
-    (sym (ap ask_of c.in-Same.is) ∙ c.in_ok-ask.ensures)
-    (λ plain. c.in_ok-value-in-Same.ensures (ap is_same c.in_ok-again-in-Same.ensures ∙ not_same (schema_nodes c.args.tables.now.writer.now) (schema_nodes c.args.tables.now.reader.now) (node_at (schema_nodes c.args.tables.now.writer.now) c.args.w.0) (node_at (schema_nodes c.args.tables.now.reader.now) c.in-Same.q.0) plain) c.in_ok-again-in-Same.ensures)
+-- the pair of a union's branch comes after the union's
+comes_after : (writer reader : List SeenNode) (w r q : ℕ) → is_schema reader ≡ true → Asked.same q ≡ asked writer reader (node_at writer w) (node_at reader r)
+    → behind reader q + 1 < behind reader r
+comes_after writer reader w r q formed is =
+    let into = asks writer reader (node_at writer w) (node_at reader r) (Asked.same q) is in
+    rw (into.is, plain_branch reader r into.ids into.branch q formed into.is into.here) (omega arith)
 
-pub build_error-returns : goal.build_error-returns
-build_error-returns t c = c.in_ok-value-in_default.ensures (other_ask c.in_ok-ask.ask c.in_default.not-Same) c.in_ok-ask.ensures
+pub build_asked-build_error-requires : goal.build_asked-build_error-requires
+build_asked-build_error-requires t c =
+    let after = comes_after (schema_nodes c.args.tables.now.writer.now) (schema_nodes c.args.tables.now.reader.now) c.args.pair.now.w.0 c.args.pair.now.r.0 c.in-Same.q.0 c.ask_of_pair.ensures.formed
+    (view_is _ c.ask_of_pair.result _ _ c.in-Same.is c.ask_of_pair.ensures.shown) in
+    (omega (arith, c.decreases, after), (c.requires.few, c.requires.found))
+
+pub build_error-returns-in_ok-value-in-Some : goal.build_error-returns-in_ok-value-in-Some
+build_error-returns-in_ok-value-in-Some t c = rw (sym c.in-Some.ensures.1, sym c.in-Some.ensures.2) c.in_ok-value-in-Some.ensures
+
+pub build_error-returns-in_ok-value-in-None : goal.build_error-returns-in_ok-value-in-None
+build_error-returns-in_ok-value-in-None t c = rw (sym c.in_ok-pair-in-None.ensures.1, sym c.in_ok-pair-in-None.ensures.2) c.in_ok-value-in-None.ensures
 
 pub build_branches-returns : goal.build_branches-returns
 build_branches-returns t c w more few =

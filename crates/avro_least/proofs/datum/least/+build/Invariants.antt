@@ -1,5 +1,4 @@
-use Rattle.std.proofs.Common.{◌*◌, ◌+◌, take}
-use Rattle.std.specs.Prelude.{map}
+use Rattle.std.proofs.Common.{◌*◌, ◌+◌, take, map}
 use Rattle.avro_schema.specs.Node.{field_ids}
 use Rattle.avro_schema.specs.Seen.{seen_fields, value_of}
 use Rattle.avro_schema.specs.SeenSchema.{schema_nodes}

@@ -1,11 +1,10 @@
-use Rattle.std.proofs.Common.{◌≡◌, ℕ, Some, inl, inr, sym, ◌∙◌, ap, subst, arith}
+use Rattle.std.proofs.Common.{◌≡◌, ℕ, Some, inl, inr, sym, ◌∙◌, ap, subst, arith, slice_get}
 use Rattle.std.proofs.lemmas.Bool.{true≢false, cases_eq}
 use Rattle.std.proofs.lemmas.List.{length-map}
 use Rattle.std.proofs.lemmas.Option.{slice_get_within}
-use Rattle.std.specs.Prelude.{slice_get}
 use Rattle.avro_schema.specs.Seen.{ids_of}
 use Rattle.avro_least.specs.SeenLeast.{table_of}
-use Rattle.avro_least.proofs.ShownData.{best_is}
+use Rattle.avro_least.proofs.public.ShownData.{best_is}
 use Rattle.avro_least.proofs.datum.least.best_index.Goals as goal
 use Rattle.avro_least.proofs.Choosing.{id_here}
 

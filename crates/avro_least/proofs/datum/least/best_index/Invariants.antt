@@ -1,5 +1,4 @@
-use Rattle.std.proofs.Common.{◌≡◌, ◌<◌, ℕ, Some}
-use Rattle.std.specs.Prelude.{slice_get}
+use Rattle.std.proofs.Common.{◌≡◌, ◌<◌, ℕ, Some, slice_get}
 use Rattle.avro_schema.specs.Seen.{ids_of}
 use Rattle.avro_least.specs.SeenLeast.{seen, table_of}
 use Rattle.avro_least.proofs.datum.least.best_index.Given as goal

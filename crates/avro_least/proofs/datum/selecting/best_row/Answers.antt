@@ -1,5 +1,4 @@
-use Rattle.std.proofs.Common.{◌≡◌, ℕ, ◌+◌, ◌-◌, ◌<◌, List, Option, drop, length, inl, inr, sym, ◌∙◌, ap, ap₂, subst, arith}
-use Rattle.std.specs.Prelude.{map, slice_get}
+use Rattle.std.proofs.Common.{◌≡◌, ℕ, ◌+◌, ◌-◌, ◌<◌, List, Option, drop, length, inl, inr, sym, ◌∙◌, ap, ap₂, subst, arith, map, slice_get}
 use Rattle.std.proofs.lemmas.Bool.{true≢false, cases_eq}
 use Rattle.avro_least.specs.Tables.{together, all_of}
 use Rattle.avro_least.specs.SeenLeast.{seen, given_entry}

@@ -1,5 +1,4 @@
-use Rattle.std.proofs.Common.{◌≡◌, ◌≤◌, ◌<◌, ℕ, drop, length}
-use Rattle.std.specs.Prelude.{map}
+use Rattle.std.proofs.Common.{◌≡◌, ◌≤◌, ◌<◌, ℕ, drop, length, map}
 use Rattle.avro_least.specs.Tables.{all_of}
 use Rattle.avro_least.specs.SeenLeast.{seen}
 use Rattle.avro_least.specs.SeenAsk.{rows_of}

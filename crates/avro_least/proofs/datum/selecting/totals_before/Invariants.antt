@@ -1,5 +1,4 @@
-use Rattle.std.proofs.Common.{◌≡◌, ◌≤◌, ◌<◌, ℕ, drop, length}
-use Rattle.std.specs.Prelude.{slice_get}
+use Rattle.std.proofs.Common.{◌≡◌, ◌≤◌, ◌<◌, ℕ, drop, length, slice_get}
 use Rattle.avro_least.specs.Tables.{together}
 use Rattle.avro_least.specs.SeenLeast.{seen, given_entry}
 use Rattle.avro_least.specs.SeenAsk.{rows_of}

@@ -1,5 +1,4 @@
-use Rattle.std.proofs.Common.{◌≡◌, ◌<◌, ◌≤◌, ◌&&◌, ◌||◌, ℕ, length, drop}
-use Rattle.std.specs.Prelude.{◌==◌}
+use Rattle.std.proofs.Common.{◌≡◌, ◌<◌, ◌≤◌, ◌&&◌, ◌||◌, ℕ, length, drop, ◌==◌}
 use Rattle.avro_schema.specs.Seen.{ids_of}
 use Rattle.avro_least.specs.Reached.{is_key}
 use Rattle.avro_least.specs.inside.Uses.{users_at}

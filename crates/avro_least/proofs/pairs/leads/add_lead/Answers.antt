@@ -1,5 +1,4 @@
-use Rattle.std.proofs.Common.{◌≡◌, ℕ, true, Some, ◌∙◌, subst, arith}
-use Rattle.std.proofs.Math.ListN.{set}
+use Rattle.std.proofs.Common.{◌≡◌, ℕ, true, Some, ◌∙◌, subst, arith, set}
 use Rattle.avro_least.specs.inside.Leading.{is_lead, leads_at}
 use Rattle.avro_least.proofs.Others.{lead_added, leads_kept}
 use Rattle.avro_least.proofs.pairs.leads.add_lead.Goals as goal

@@ -1,5 +1,4 @@
-use Rattle.std.proofs.Common.{◌≡◌, ◌<◌, ℕ, true, false, Some, length}
-use Rattle.std.specs.Prelude.{is_none, position, ◌==◌}
+use Rattle.std.proofs.Common.{◌≡◌, ◌<◌, ℕ, true, false, Some, length, is_none, position, ◌==◌}
 use Rattle.indexmap.specs.IndexSet.{keys}
 use Rattle.avro_least.specs.Tables.{pair_number}
 use Rattle.avro_least.specs.KeptAsks.{nth_part}

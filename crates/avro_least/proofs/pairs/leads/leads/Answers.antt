@@ -1,6 +1,5 @@
-use Rattle.std.proofs.Common.{◌≡◌, ◌*◌, ◌+◌, ◌/◌, ◌%◌, ℕ, true, false, Some, List, length, arith, sym, ◌∙◌, ap, subst}
+use Rattle.std.proofs.Common.{◌≡◌, ◌*◌, ◌+◌, ◌/◌, ◌%◌, ℕ, true, false, Some, List, length, arith, sym, ◌∙◌, ap, subst, slice_get, is_none, position, ◌==◌}
 use Rattle.std.proofs.lemmas.List.{with_items_is}
-use Rattle.std.specs.Prelude.{slice_get, is_none, position, ◌==◌}
 use Rattle.indexmap.specs.IndexSet.{keys}
 use Rattle.avro_schema.specs.Node.{Node}
 use Rattle.avro_schema.specs.SeenSchema.{schema_nodes}
@@ -8,7 +7,7 @@ use Rattle.avro_least.specs.Tables.{pair_number}
 use Rattle.avro_least.specs.Asked.{asked_at}
 use Rattle.avro_least.specs.KeptAsks.{kept_part}
 use Rattle.avro_least.specs.SeenLeast.{table_of}
-use Rattle.avro_least.specs.declared.pairs.keeping.KeptAsk.{KeptAsk}
+use Rattle.avro_least.specs.declared.pairs.keeping.Ask.{Ask}
 use Rattle.avro_least.specs.declared.pairs.leads.LeadRow.{LeadRow}
 use Rattle.avro_least.specs.inside.Parts.{part_at}
 use Rattle.avro_least.specs.inside.Leading.{is_lead, leads_at, AreLeads}
@@ -36,7 +35,7 @@ loop-i-preserved c =
     let written = with_items_is c.loop-i.rows rows (as_many ∙ sym c.loop-i.rows.ok.0) in
     let kept : (j p n : ℕ) → is_lead (leads_at c.loop-i.rows.items j) p n ≡ true → is_lead (leads_at rows j) p n ≡ true =
     subst (λ (old : List LeadRow). (j p n : ℕ) → is_lead (leads_at old j) p n ≡ true → is_lead (leads_at rows j) p n ≡ true) c.deref_mut.ensures.value new.kept in
-    let ask : KeptAsk = c.ask_at_index-ask.result in
+    let ask : Ask = c.ask_at_index-ask.result in
     let added : (j n a b : ℕ) → part_at (key / length qs) (key % length qs) (asked_at ns qs key) n ≡ Some (record { w = a; r = b }) → is_none (table_of c.args.table.now a) ≡ false
     → position (λ q. pair_number (length qs) a b == q) ks ≡ Some j → is_lead (leads_at rows j) i n ≡ true =
     λ j n a b is live there. new.added j n a b

@@ -1,8 +1,6 @@
-use Rattle.std.proofs.Common.{◌≡◌, ◌<◌, ◌+◌, ◌-◌, ℕ, suc, List, Option, Some, drop, length, inl, inr, sym, ◌∙◌, ap, arith}
-use Rattle.std.proofs.Math.ListN.{set}
+use Rattle.std.proofs.Common.{◌≡◌, ◌<◌, ◌+◌, ◌-◌, ℕ, suc, List, Option, Some, drop, length, inl, inr, sym, ◌∙◌, ap, arith, slice_get, set}
 use Rattle.std.proofs.lemmas.Bool.{cases_eq}
 use Rattle.std.proofs.lemmas.List.{length-set}
-use Rattle.std.specs.Prelude.{slice_get}
 use Rattle.avro_schema.specs.Node.{field_ids}
 use Rattle.avro_schema.specs.Seen.{seen_fields}
 use Rattle.avro_least.specs.Tables.{Least, LeastTable, no_parts, together}

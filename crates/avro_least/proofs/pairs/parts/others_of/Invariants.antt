@@ -1,5 +1,4 @@
-use Rattle.std.proofs.Common.{◌≡◌, ◌≤◌, ◌<◌, ◌+◌, ◌-◌, ℕ, length, drop}
-use Rattle.std.specs.Prelude.{slice_get}
+use Rattle.std.proofs.Common.{◌≡◌, ◌≤◌, ◌<◌, ◌+◌, ◌-◌, ℕ, length, drop, slice_get}
 use Rattle.avro_schema.specs.Node.{field_ids}
 use Rattle.avro_schema.specs.Seen.{seen_fields}
 use Rattle.avro_least.specs.Tables.{all_of, together}

@@ -1,6 +1,4 @@
-use Rattle.std.proofs.Common.{length-append, ◌||◌, inl, inr, ◌≡◌, ◌≤◌, ◌<◌, ℕ, ◌+◌, ◌-◌, ◌*◌, true, List, [], ◌∷◌, ◌++◌, Some, length, sym, ◌∙◌, ap, subst, arith}
-use Rattle.std.proofs.lemmas.Bool.{lt-ltb, ltb-true}
-use Rattle.std.specs.Prelude.{nat_lt, slice_get}
+use Rattle.std.proofs.Common.{length-append, ◌||◌, inl, inr, ◌≡◌, ◌≤◌, ◌<◌, ℕ, ◌+◌, ◌-◌, ◌*◌, true, List, [], ◌∷◌, ◌++◌, Some, length, sym, ◌∙◌, ap, subst, arith, nat_lt, slice_get, lt-ltb, ltb-true}
 use Rattle.std.specs.List.{list_all}
 use Rattle.indexmap.specs.IndexSet.{keys}
 use Rattle.avro_schema.specs.SeenSchema.{schema_nodes}

@@ -1,8 +1,7 @@
-use Rattle.std.proofs.Common.{◌≡◌, ◌<◌, ◌*◌, ℕ, [], Some, None, List, Option, length, inl, inr, arith, sym, ◌∙◌, ap, subst}
+use Rattle.std.proofs.Common.{◌≡◌, ◌<◌, ◌*◌, ℕ, [], Some, None, List, Option, length, inl, inr, arith, sym, ◌∙◌, ap, subst, slice_get, unwrap_or, get_or}
 use Rattle.std.proofs.lemmas.Bool.{lt-ltb, cases_eq}
 use Rattle.std.proofs.lemmas.List.{length-replicate}
 use Rattle.std.proofs.lemmas.Option.{slice_get_within, slice_get-get_or}
-use Rattle.std.specs.Prelude.{slice_get, unwrap_or, get_or}
 use Rattle.indexmap.specs.IndexSet.{keys}
 use Rattle.avro_schema.specs.Node.{Node}
 use Rattle.avro_schema.specs.SeenSchema.{schema_nodes}
@@ -13,7 +12,7 @@ use Rattle.avro_least.specs.declared.kept.Least.{Least as KeptLeast}
 use Rattle.avro_least.specs.inside.Falling.{lowered}
 use Rattle.avro_least.specs.inside.Leading.{AreTakenBut}
 use Rattle.avro_least.proofs.PairSteps.{below_at, start_pairs}
-use Rattle.avro_least.proofs.ShownParts.{alone_shows}
+use Rattle.avro_least.proofs.public.ShownParts.{alone_shows}
 use Rattle.avro_least.proofs.Starting.{lowered_search, unknown_taken}
 use Rattle.avro_least.proofs.Taken.{lower_taken, lowered_fallen, lowered_at}
 use Rattle.avro_least.proofs.pairs.search.start.Goals as goal

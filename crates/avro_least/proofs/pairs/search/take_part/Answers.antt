@@ -1,7 +1,5 @@
-use Rattle.std.proofs.Common.{◌≡◌, ◌<◌, ◌*◌, ℕ, Some, List, Option, length, arith, sym, ◌∙◌, ap, subst}
-use Rattle.std.proofs.lemmas.Bool.{lt-ltb}
+use Rattle.std.proofs.Common.{◌≡◌, ◌<◌, ◌*◌, ℕ, Some, List, Option, length, arith, sym, ◌∙◌, ap, subst, slice_get, unwrap_or, lt-ltb}
 use Rattle.std.proofs.lemmas.Option.{slice_get_within}
-use Rattle.std.specs.Prelude.{slice_get, unwrap_or}
 use Rattle.indexmap.specs.IndexSet.{keys}
 use Rattle.avro_schema.specs.Node.{Node}
 use Rattle.avro_schema.specs.SeenSchema.{schema_nodes}
@@ -9,7 +7,7 @@ use Rattle.avro_least.specs.Tables.{AtMost, no_parts}
 use Rattle.avro_least.specs.SeenLeast.{seen, seen_all, table_of}
 use Rattle.avro_least.specs.declared.kept.Least.{Least as KeptLeast}
 use Rattle.avro_least.proofs.PairSteps.{below_at}
-use Rattle.avro_least.proofs.ShownParts.{part_shows}
+use Rattle.avro_least.proofs.public.ShownParts.{part_shows}
 use Rattle.avro_least.proofs.Starting.{lowered_search}
 use Rattle.avro_least.proofs.Taken.{value_in, take_lowered, lowered_fallen}
 use Rattle.avro_least.proofs.pairs.search.take_part.Goals as goal

@@ -1,7 +1,6 @@
-use Rattle.std.proofs.Common.{◌≡◌, ◌<◌, ◌*◌, ◌/◌, ◌%◌, ℕ, List, Option, Some, None, length, arith, refl, sym, ◌∙◌, ap, subst}
+use Rattle.std.proofs.Common.{◌≡◌, ◌<◌, ◌*◌, ◌/◌, ◌%◌, ℕ, List, Option, Some, None, length, arith, refl, sym, ◌∙◌, ap, subst, slice_get, map}
 use Rattle.std.proofs.lemmas.Option.{slice_get_within}
 use Rattle.std.proofs.lemmas.List.{length-map}
-use Rattle.std.specs.Prelude.{slice_get, map}
 use Rattle.indexmap.specs.IndexSet.{keys}
 use Rattle.avro_schema.specs.Node.{Node, node_at}
 use Rattle.avro_schema.specs.SeenSchema.{schema_nodes}
@@ -13,7 +12,7 @@ use Rattle.avro_least.specs.declared.kept.Least.{Least as KeptLeast}
 use Rattle.avro_least.specs.inside.Parts.{least_of_others, nodes_of, part_at, row_part, seen_pair}
 use Rattle.avro_least.proofs.Others.{part_within, rows_nodes}
 use Rattle.avro_least.proofs.PairSteps.{below_at}
-use Rattle.avro_least.specs.declared.pairs.keeping.KeptAsk.{KeptAsk}
+use Rattle.avro_least.specs.declared.pairs.keeping.Ask.{Ask}
 use Rattle.avro_compare.specs.Children.{Pair}
 use Rattle.avro_least.proofs.KeptParts.{kept_is, kept_ordered}
 use Rattle.avro_least.proofs.Starting.{around_none, by_part_is}
@@ -35,7 +34,7 @@ returns-in-None c =
     let ns : List Node = schema_nodes c.args.graph.now.writer.now in
     let qs : List Node = schema_nodes c.args.graph.now.reader.now in
     let ks : List ℕ = keys c.args.graph.now.reached.now.known in
-    let ask : KeptAsk = c.ask_at_index-ask.result in
+    let ask : Ask = c.ask_at_index-ask.result in
     let asked : Asked = asked_at ns qs c.args.key in
     let own : IsKept ask asked = c.ask_at_index-ask.ensures c.args.key c.requires.here in
     by_part_is c.args.graph.now.limit (table_of c.args.graph.now.table.now) (erring_of (length qs) (table_of c.args.graph.now.table.now) ks (seen_all c.args.entries.now))
@@ -54,7 +53,7 @@ returns-in-Some c =
     let limit : ℕ = c.args.graph.now.limit in
     let table : LeastTable = table_of c.args.graph.now.table.now in
     let erring : ErringTable = erring_of (length qs) table ks (seen_all c.args.entries.now) in
-    let ask : KeptAsk = c.ask_at_index-ask.result in
+    let ask : Ask = c.ask_at_index-ask.result in
     let asked : Asked = asked_at ns qs c.args.key in
     let own : IsKept ask asked = c.ask_at_index-ask.ensures c.args.key c.requires.here in
     let pair : Pair = record { w = c.in-Some.a.0; r = c.in-Some.b.0 } in

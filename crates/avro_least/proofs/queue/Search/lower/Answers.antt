@@ -1,7 +1,5 @@
-use Rattle.std.proofs.Common.{◌≡◌, true, List, Option, inl, inr, Some, arith, sym, ◌∙◌, ap}
-use Rattle.std.proofs.lemmas.Bool.{eq-eqb}
+use Rattle.std.proofs.Common.{◌≡◌, true, List, Option, inl, inr, Some, arith, sym, ◌∙◌, ap, slice_get, ◌==◌, eq-eqb}
 use Rattle.std.proofs.lemmas.List.{length-set}
-use Rattle.std.specs.Prelude.{slice_get, ◌==◌}
 use Rattle.std.specs.BinaryHeap.{heap_items}
 use Rattle.avro_least.specs.SeenLeast.{seen, given_entry, improves}
 use Rattle.avro_least.specs.declared.kept.Least.{Least as KeptLeast}

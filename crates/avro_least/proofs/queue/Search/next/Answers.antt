@@ -1,7 +1,6 @@
-use Rattle.std.proofs.Common.{ℕ, false, arith, sym, ◌∙◌, ap}
+use Rattle.std.proofs.Common.{ℕ, false, arith, sym, ◌∙◌, ap, ◌==◌}
 use Rattle.std.proofs.lemmas.List.{length-set}
 use Rattle.std.specs.BinaryHeap.{heap_items}
-use Rattle.std.specs.Prelude.{◌==◌}
 use Rattle.avro_least.specs.inside.Falling.{is_waiting}
 use Rattle.avro_least.proofs.Searching.{marked_within, mark_cleared, mark_left, marked_apart, queued_less}
 use Rattle.avro_least.proofs.queue.Search.next.Goals as goal

@@ -1,13 +1,12 @@
 -- A step over entries that have data has a datum.
-use Rattle.std.proofs.Common.{◌≡◌, ℕ, suc, ◌+◌, ◌≤◌, Bool, true, false, cond, pos, List, [], ◌∷◌, Option, Some, None, ◌⊎◌, inl, inr, length, refl, sym, ◌∙◌, subst, arith}
+use Rattle.std.proofs.Common.{◌≡◌, ℕ, suc, ◌+◌, ◌≤◌, Bool, true, false, cond, List, [], ◌∷◌, Option, Some, None, ◌⊎◌, inl, inr, length, refl, sym, ◌∙◌, subst, arith, max, slice_get, is_some, nat_le, ◌==◌, replicate}
 use Rattle.std.proofs.lemmas.Bool.{false≢true, eq-eqb, and_from}
 use Rattle.std.proofs.lemmas.List.{length-replicate}
-use Rattle.std.proofs.Math.ListN.{replicate}
-use Rattle.std.specs.Prelude.{max, slice_get, is_some, nat_le, ◌==◌}
-use Rattle.avro_schema.specs.Value.{Value, Values, no_values, value, no_entries, size, depth, values_size, values_depth}
-use Rattle.avro_schema.specs.Node.{Node, node_at, field_ids}
+use Rattle.avro_schema.specs.Value.{Value, Values, no_values, value, size, depth, values_size, values_depth}
+use Rattle.avro_schema.specs.Node.{Node, node_at, branches_of, fields_of, field_ids}
 use Rattle.avro_schema.specs.Fits.{fits, fields_fit, are_bytes}
 use Rattle.avro_schema.specs.WellFormed.{meets_its_rules}
+use Rattle.avro_least.specs.inside.Leaf.{leaf_value}
 use Rattle.avro_least.specs.Tables.{Least, LeastTable, Exactly, ShowsData, AreDataShown, capped, around, together, lesser, precedes, best_of, all_of, least_datum}
 use Rattle.avro_certificate.proofs.public.Tests.{and_left}
 use Rattle.avro_certificate.proofs.public.LeafData.{empty_text, zeros_fit}
@@ -70,6 +69,16 @@ best_is table (p ∷ ps) h = elim (lesser_either (table p) (best_of table ps) h)
   | inr later ↦ (let found = best_is table ps later.0 in record { branch = suc found.branch; id = found.id; here = found.here; is = later.1 ∙ found.is })
 ]
 
+-- the datum of a node without parts
+pub leaf_fits : (nodes : List Node) (n : Node) → branches_of n ≡ None → fields_of n ≡ None → meets_its_rules nodes n ≡ true → fits nodes n (leaf_value n) ≡ true
+leaf_fits nodes (Node.union ids) plain flat rules = absurd (grind arith)
+leaf_fits nodes (Node.record_of name aliases fields) plain flat rules = absurd (grind arith)
+leaf_fits nodes Node.string plain flat rules = empty_text
+leaf_fits nodes (Node.enum name aliases symbols default) plain flat rules = and_left _ _ (and_left _ _ (and_left _ _ (and_left _ _ rules)))
+leaf_fits nodes (Node.fixed name aliases count) plain flat rules =
+    and_from (are_bytes (replicate count 0)) (length (replicate count 0) == count) (zeros_fit count rules) (eq-eqb (length (replicate count 0)) count (length-replicate {A = ℕ} count 0))
+leaf_fits nodes _ plain flat rules = refl
+
 -- values for some ids
 pub record ShowsFields (writer : List Node) (limit : ℕ) (ids : List ℕ) (e : Option Least) : Type 0 where
   pub values : Values
@@ -114,17 +123,4 @@ module _ (writer : List Node) (limit : ℕ) (table : LeastTable) (shown : AreDat
         fitting = parts.fitting;
         exact = exact_around limit (all_of limit table (field_ids fields)) (values_size parts.values) (values_depth parts.values) parts.exact;
       }
-  step_shown Node.null rules h = record { datum = Value.null; fitting = refl; exact = λ k. (refl, refl) }
-  step_shown Node.boolean rules h = record { datum = Value.boolean false; fitting = refl; exact = λ k. (refl, refl) }
-  step_shown Node.int rules h = record { datum = Value.int (pos 0); fitting = refl; exact = λ k. (refl, refl) }
-  step_shown Node.long rules h = record { datum = Value.long (pos 0); fitting = refl; exact = λ k. (refl, refl) }
-  step_shown Node.bytes rules h = record { datum = Value.bytes []; fitting = refl; exact = λ k. (refl, refl) }
-  step_shown Node.string rules h = record { datum = Value.string []; fitting = empty_text; exact = λ k. (refl, refl) }
-  step_shown (Node.array id) rules h = record { datum = Value.array no_values; fitting = refl; exact = λ k. (refl, refl) }
-  step_shown (Node.map_of id) rules h = record { datum = Value.map_of no_entries; fitting = refl; exact = λ k. (refl, refl) }
-  step_shown (Node.enum name aliases symbols default) rules h = record { datum = Value.enum 0; fitting = and_left _ _ (and_left _ _ (and_left _ _ (and_left _ _ rules))); exact = λ k. (refl, refl) }
-  step_shown (Node.fixed name aliases count) rules h = record {
-    datum = Value.fixed (replicate count 0);
-    fitting = and_from (are_bytes (replicate count 0)) (length (replicate count 0) == count) (zeros_fit count rules) (eq-eqb (length (replicate count 0)) count (length-replicate {A = ℕ} count 0));
-    exact = λ k. (refl, refl);
-  }
+  step_shown n rules h = record { datum = leaf_value n; fitting = leaf_fits writer n refl refl rules; exact = λ k. (refl, refl) }
