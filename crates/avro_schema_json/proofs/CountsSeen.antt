@@ -64,10 +64,7 @@ key-name q (key ∷ keys) fields h k = by (bytes_eq q key) refl (λ r s. key-nam
 
     by : (b : Bool) → bytes_eq q key ≡ b → (names_only keys fields ≡ true → list_any (bytes_eq q) keys ≡ true → list_any (λ f. bytes_eq q f.name) fields ≡ true)
         → list_any (λ f. bytes_eq q f.name) fields ≡ true
-    by true e others =
-        let same : q ≡ key = (bytes_eq-Decides q key).0 e in
-        subst (λ (x : List ℕ). list_any (λ f. bytes_eq x f.name) fields ≡ true) (sym same) two.0
-    by false e others = others two.1 (rw e at k)
+    by b e others = grind (arith, bytes_eq-Decides)
 
 pub as-many : (nodes : List Node) (ms : Members) (fields : List FieldNode) → IsDistinct bytes_eq (names_of fields) → IsDistinct bytes_eq (member_keys ms)
     → is_some (default_of_fields nodes ms fields) ≡ true → length (names_of fields) ≡ length (member_keys ms)

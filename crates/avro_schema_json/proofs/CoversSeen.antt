@@ -76,11 +76,7 @@ entry-fits nodes (member k d ms) key e n at h = by_order (slice_cmp nat_cmp key 
     by_order : (o : Ordering) → slice_cmp nat_cmp key k ≡ o
         → (get_member key ms ≡ Some e → is_some (entries_default nodes ms n) ≡ true → is_some (default_of nodes e n) ≡ true)
         → is_some (default_of nodes e n) ≡ true
-    by_order Ordering.Equal is others =
-        let found : Some d ≡ Some e = rw is at at in
-        let same : d ≡ e = cc in
-        subst (λ (x : Data). is_some (default_of nodes x n) ≡ true) same two.0
-    by_order _ is others = others (rw is at at) two.1
+    by_order o is others = grind arith
 
 field-fits : (nodes : List Node) (ms : Members) (fields : List FieldNode) (i : ℕ) (f : FieldNode) (e : Data) → slice_get fields i ≡ Some f
     → get_member f.name ms ≡ Some e → is_some (fields_default nodes (λ key. default_under nodes key ms) fields) ≡ true

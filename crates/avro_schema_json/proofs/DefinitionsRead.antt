@@ -51,10 +51,7 @@ module _ {A B : Type 0} {ms : Members} {named : Known → ℕ → Name → Made 
     own-refused e h = rw (made_named name begun.name_is) (node_with-own part name.namespace held (node name (aliases_in name.namespace ms).value own.value) _ e h)
 
     pub misnamed : (e : SchemaError) → IsRefusal (aliases_in space ms).faults e → Refuses (definition_of ms named) enclosing before e
-    misnamed e refused =
-        let h : IsRefusal (aliases_in name.namespace ms).faults e = subst (λ (s : List ℕ). IsRefusal (aliases_in s ms).faults e) at refused in
-        own-refused e (first-refused (name_faults name before.known ++ (aliases_in name.namespace ms).faults) own.faults e
-        (second-refused (name_faults name before.known) _ e h))
+    misnamed e refused = grind (arith, first-refused, second-refused)
 
     pub misformed : (e : SchemaError) → IsRefusal own.faults e → Refuses (definition_of ms named) enclosing before e
     misformed e h = own-refused e (second-refused (name_faults name before.known ++ (aliases_in name.namespace ms).faults) own.faults e h)

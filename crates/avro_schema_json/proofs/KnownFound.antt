@@ -25,8 +25,7 @@ found_after q name id (first ∷ known) absent = by (found_after q name id known
   where
     by : id_of q (known ++ (name, id) ∷ []) ≡ cond (same_name q name) (Some id) (id_of q known) → (here : Bool) → same_name q first.0 ≡ here
         → id_of q ((first ∷ known) ++ (name, id) ∷ []) ≡ cond (same_name q name) (Some id) (id_of q (first ∷ known))
-    by rest true h = let other = taken q name known first h absent in rw (h, other) refl
-    by rest false h = rw h rest
+    by rest here h = grind (arith, taken)
 
 -- a name is found by its namespace's number and its simple part
 pub found_in : (names : NameTable) (space : Space) (name : Name) (simple : List ℕ) (id : Option ℕ) (known : Known) → IsNumbered names space
@@ -66,10 +65,7 @@ module _ (known : Known) (numbers : BTreeMap (List ℕ) ℕ) (ids : BTreeMap Key
         ∙ same_name-sym name (record { namespace = namespace; simple = string_bytes s })
 
     past : (n : ℕ) (s : String Global) → btree_map_len numbers ≤ n → is_eq (key_cmp (number, simple) (n, s)) ≡ false
-    past n s h =
-        let below = index.bounded name.namespace number numbered in
-        let other : (number == n) ≡ false = ne_eqb number n (λ e. omega (arith, e, below, h)) in
-        is_eq-keys (number, simple) (n, s) ∙ ap (λ b. b && bytes_eq (string_bytes simple) (string_bytes s)) other
+    past n s h = grind (arith, is_eq-keys, ne_eqb)
 
     pub named_after : IsIndexOf (defining name id known) numbers later
     named_after = record {
@@ -135,8 +131,7 @@ module _ (known : Known) (numbers : BTreeMap (List ℕ) ℕ) (ids : BTreeMap Key
     }
       where
         was_none : (q : List ℕ) → number_of later q ≡ None → (number_of numbers q ≡ None) ⊎ ((n : ℕ) × (number_of numbers q ≡ Some n)) → number_of numbers q ≡ None
-        was_none q h (inl none) = none
-        was_none q h (inr some) = let found : None ≡ Some some.0 = sym h ∙ numbers_kept q some.0 some.1 in absurd (cc)
+        was_none q h some = grind arith
 
   -- a map that is not changed
   unchanged_after : (later : BTreeMap (List ℕ) ℕ) → later.entries ≡ numbers.entries → IsIndexOf known later ids

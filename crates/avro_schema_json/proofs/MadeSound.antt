@@ -44,14 +44,12 @@ name-of_tree enclosing namespace (Some text) =
     (inner-of_tree (has_dot text) (namespace_from enclosing namespace) (namespace-of_tree enclosing namespace))
   where
     named : (space : List ℕ) (o : Option Name) → name_of text space ≡ o → is_of_tree_or_ok (ok_or (name_of text space) SchemaError.InvalidName) ≡ true
-    named space None h = rw h refl
-    named space (Some name) h = rw h refl
+    named space o h = grind arith
 
     within : (r : Result (List ℕ) SchemaError) → (if has_dot text then Ok [] else namespace_from enclosing namespace) ≡ r
         → is_of_tree_or_ok (if has_dot text then Ok [] else namespace_from enclosing namespace) ≡ true
         → is_of_tree_or_ok (name_from enclosing namespace (Some text)) ≡ true
-    within (Err e) h k = let m = rw h at k in rw h m
-    within (Ok space) h k = rw h (named space (name_of text space) refl)
+    within r h k = grind arith
 
 alias_texts-of_tree : (d : Option Data) → AreOfTree (alias_texts_from d).faults
 alias_texts-of_tree d = grind (arith, needed-of_tree, of_none)
@@ -108,26 +106,17 @@ reference-sound word = record { at = λ enclosing known next. by_name enclosing 
   where
     by_id : (enclosing : List ℕ) (known : Known) (next : ℕ) (name : Name) (id : Option ℕ) → name_of word enclosing ≡ Some name → id_of name known ≡ id
         → AreOfTree (reference word enclosing known next).faults
-    by_id enclosing known next name None h k = rw (h, k) (of_one SchemaError.UnknownName refl)
-    by_id enclosing known next name (Some id) h k = rw (h, k) of_none
+    by_id enclosing known next name id h k = grind (arith, of_none, of_one)
 
     by_name : (enclosing : List ℕ) (known : Known) (next : ℕ) (name : Option Name) → name_of word enclosing ≡ name
         → AreOfTree (reference word enclosing known next).faults
-    by_name enclosing known next None h = rw h (of_one SchemaError.InvalidName refl)
-    by_name enclosing known next (Some name) h = by_id enclosing known next name (id_of name known) h refl
+    by_name enclosing known next name h = grind (arith, of_one)
 
 word-sound : (word : List ℕ) → IsSoundMeaning (type_of_word word)
 word-sound word = by_word (word_of word) refl
   where
     by_word : (w : Word) → word_of word ≡ w → IsSoundMeaning (type_of_word word)
-    by_word null_word h = rw h (use-sound Node.null)
-    by_word boolean_word h = rw h (use-sound Node.boolean)
-    by_word int_word h = rw h (use-sound Node.int)
-    by_word long_word h = rw h (use-sound Node.long)
-    by_word bytes_word h = rw h (use-sound Node.bytes)
-    by_word string_word h = rw h (use-sound Node.string)
-    by_word unsupported_word h = rw h (faulty-sound 0 SchemaError.UnsupportedType refl)
-    by_word type_name h = rw h (reference-sound word)
+    by_word w h = grind (arith, faulty-sound, reference-sound, use-sound)
 
 union-sound : (branches : List (Meaning ℕ)) → AreSound branches → IsSoundMeaning (union_of branches)
 union-sound branches s = record { at = λ enclosing known next. above next of_none (in_turn-sound branches s enclosing known (suc next)) }
@@ -159,8 +148,7 @@ definition-sound ms named s = record {
   where
     by_name : (enclosing : List ℕ) (known : Known) (next : ℕ) (r : Result Name SchemaError) → name_in enclosing ms ≡ r
         → is_of_tree_or_ok (name_in enclosing ms) ≡ true → AreOfTree (definition_of ms named enclosing known next).faults
-    by_name enclosing known next (Err e) h k = let m = rw h at k in rw h (of_one e m)
-    by_name enclosing known next (Ok name) h k = rw h (s known next name)
+    by_name enclosing known next r h k = grind (arith, of_one)
 
 form-sound : (ms : Members) (items values : Option (Meaning ℕ)) (fields : Option (List (Meaning RawField))) (form : Form) → IfSound items → IfSound values
     → IfAllSound fields → IsSoundMeaning (type_of_form ms items values fields form)

@@ -211,8 +211,7 @@ apart old new name i put (word ∷ words) fresh =
     ((first.0, rest.0), (first.1, rest.1))
   where
     by : (b : Bool) → bytes_eq name word ≡ b → (bytes_eq name word ≡ false) × (label_of old word ≡ None)
-    by false e = (e, rw e at (sym (put word) ∙ fresh.0))
-    by true e = let kept : Some i ≡ None = rw e at (sym (put word) ∙ fresh.0) in absurd cc
+    by b e = grind arith
 
 pub new-next : (fields : List FieldNode) (old new : BTreeMap (Bor (List ℕ)) ℕ) (i : ℕ) (f : FieldNode) (name : List ℕ) → slice_get fields i ≡ Some f → name ≡ f.name
     → label_of old name ≡ None → ((word : List ℕ) → label_of new word ≡ cond (bytes_eq name word) (Some i) (label_of old word))

@@ -48,12 +48,7 @@ put-within row w bits below = within-words row _ (λ k i inside there. by k i th
   where
     by : (k i : ℕ) → (bit_at (get_or row k 0) i == 1) ≡ true → (b : Bool) → (k == w) ≡ b
         → (bit_at (get_or (set row w (bit_or (get_or row w 0) bits)) k 0) i == 1) ≡ true
-    by k i there true h =
-        let same : k ≡ w = (Decides-eqb k w).0 h in
-        rw (same, get_or-set_same row w (bit_or (get_or row w 0) bits) 0 below) (or-left (get_or row w 0) bits i (rw (← same) there))
-    by k i there false h =
-        let other : k ≢ w = λ e. grind (arith, h, e) in
-        rw (get_or-set_other row w k (bit_or (get_or row w 0) bits) 0 other) there
+    by k i there b h = grind (arith, get_or-set_other, get_or-set_same, or-left)
 
 pub put-added : (row : List ℕ) (w bits p : ℕ) → w < length row → p / 64 ≡ w → bit_at bits (p % 64) ≡ 1 → has_place (set row w (bit_or (get_or row w 0) bits)) p ≡ true
 put-added row w bits p below here there = grind (arith, get_or-set_same, is_one, or-right)
@@ -91,13 +86,10 @@ pub words-within : (old words row : List ℕ) (i : ℕ) → ((k : ℕ) → k < 6
 words-within old words row i past put = (within-words old row (λ k j below there. kept k j there (nat_lt k i) refl), λ p has. added p (bit-of words p has) (nat_lt (p / 64) 64) refl)
   where
     kept : (k j : ℕ) → (bit_at (get_or old k 0) j == 1) ≡ true → (b : Bool) → nat_lt k i ≡ b → (bit_at (get_or row k 0) j == 1) ≡ true
-    kept k j there true h = rw ((put k).0 (grind (arith, h))) (or-left (get_or old k 0) (get_or words k 0) j there)
-    kept k j there false h = rw ((put k).1 (grind (arith, h))) there
+    kept k j there b h = grind (arith, or-left)
 
     here : (p : ℕ) → bit_at (get_or words (p / 64) 0) (p % 64) ≡ 1 → p / 64 < 64 → (b : Bool) → nat_lt (p / 64) i ≡ b → (bit_at (get_or row (p / 64) 0) (p % 64) == 1) ≡ true
-    here p has below true h = rw ((put (p / 64)).0 (grind (arith, h))) (is_one _ (more-right (get_or old (p / 64) 0) (get_or words (p / 64) 0) (p % 64) has))
-    here p has below false h =
-        absurd (no-bit (p % 64) (get_or words (p / 64) 0) (get_or_past words (p / 64) 0 (past (p / 64) below (grind (arith, h)))) has)
+    here p has below b h = grind (arith, get_or_past, is_one, more-right, no-bit)
 
     added : (p : ℕ) → bit_at (get_or words (p / 64) 0) (p % 64) ≡ 1 → (b : Bool) → nat_lt (p / 64) 64 ≡ b → has_place row p ≡ true
     added p has false h = rw h refl

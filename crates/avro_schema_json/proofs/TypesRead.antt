@@ -80,9 +80,7 @@ module _ {A : Type 0} (meaning : Value → Meaning A) (meanings : List Value →
     (reading : IsReading whole (made_at (in_turn (meanings (drop i items))) enclosing now) before now results) where
   module _ (item : Value) (within : i < length items) (is : item ≡ get_or items i item) where
     at_item : IsReading whole (made_at (in_turn (meaning item ∷ meanings (drop (i + 1) items))) enclosing now) before now results
-    at_item =
-        subst (λ (ms : List (Meaning A)). IsReading whole (made_at (in_turn ms) enclosing now) before now results)
-        (ap meanings (drop_more items i item within) ∙ ap (λ x. meanings (x ∷ drop (i + 1) items)) (sym is) ∙ of_next item (drop (i + 1) items)) reading
+    at_item = grind (arith, drop_more)
 
     pub item-read : (later : State) (result : A) → Reads (meaning item) enclosing now later result
         → IsReading whole (made_at (in_turn (meanings (drop (i + 1) items))) enclosing later) before later (results ++ result ∷ [])
