@@ -8,9 +8,6 @@ use Rattle.avro_schema_json.proofs.defaults.steps.step.Goals as goal
 pub returns-in-Some-clause-found : goal.returns-in-Some-clause-found
 returns-in-Some-clause-found c = c.requires.steps c.args.label c.args.set _ (sym c.in-Some.ensures.value)
 
-pub returns-clause-found : goal.returns-clause-found
-returns-clause-found c = grind arith
-
 pub returns-clause-steps : goal.returns-clause-steps
 returns-clause-steps c =
     let parents = c.args.parents.now in
