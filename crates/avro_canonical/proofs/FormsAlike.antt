@@ -1,5 +1,5 @@
 -- Data that fit nodes of one form are the same.
-use Rattle.std.proofs.Common.{◌≡◌, ◌⊎◌, inl, inr, ⊎_elim, ℕ, Bool, true, false, ◌||◌, List, [], ◌∷◌, Some, None, refl, sym, ◌∙◌, subst}
+use Rattle.std.proofs.Common.{◌≡◌, ◌⊎◌, inl, inr, ⊎_elim, ℕ, Bool, true, false, List, [], ◌∷◌, Some, None, refl, sym, ◌∙◌, subst}
 use Rattle.std.proofs.lemmas.Bool.{false≢true, or_cases, or_right}
 use Rattle.avro_name.specs.Name.{Name, same_name}
 use Rattle.avro_schema.specs.Value.{Value}
@@ -42,14 +42,13 @@ record Defined (a b : List Node) (all : List Name) (name : Name) : Type 0 where
 
 mutual
   pub grows : (name : Name) (w : List Name) (f : Form) → is_among name w ≡ true → is_among name (written_after w f) ≡ true
-  grows name w (Form.primitive word) h = h
   grows name w (Form.array f) h = grows name w f h
   grows name w (Form.map_of f) h = grows name w f h
   grows name w (Form.union fs) h = grows_all name w fs h
   grows name w (Form.record_of own fs) h = grows_fields name (own ∷ w) fs (or_right (same_name name own) (is_among name w) h)
   grows name w (Form.enum own symbols) h = or_right (same_name name own) (is_among name w) h
   grows name w (Form.fixed own count) h = or_right (same_name name own) (is_among name w) h
-  grows name w (Form.reference own) h = h
+  grows name w _ h = h
 
   grows_all : (name : Name) (w : List Name) (fs : Forms) → is_among name w ≡ true → is_among name (written_after_all w fs) ≡ true
   grows_all name w no_forms h = h
@@ -64,121 +63,30 @@ word_matches {P = P} = by_word (λ n word. Matching P n n) (leaf Node.null refl 
     (leaf Node.long refl refl refl refl) (leaf Node.bytes refl refl refl refl) (leaf Node.string refl refl refl refl)
   where
     leaf : (n : Node) → items_node n ≡ None → values_node n ≡ None → branches_of n ≡ None → fields_of n ≡ None → Matching P n n
-    leaf n itemless valueless branchless fieldless = record {
-      null = refl;
-      boolean = refl;
-      int = refl;
-      long = refl;
-      bytes = refl;
-      string = refl;
-      symbols = refl;
-      count = refl;
-      items = rw itemless neither;
-      values = rw valueless neither;
-      branches = rw branchless none_each;
-      fields = rw fieldless none_each;
-    }
+    leaf n itemless valueless branchless fieldless = record { same = refl; items = rw itemless neither; values = rw valueless neither; branches = rw branchless none_each; fields = rw fieldless none_each }
 
 matching : {a b : List Node} {all w : List Name} {m n : Node} {f : Form} → IsForm a w m f → IsForm b w n f → is_reference f ≡ false → AreAmong (written_after w f) all
     → Matching (λ p q. Alike a b all (node_at a p) (node_at b q)) m n
 matching {a = a} {b = b} {all = all} {m = m} {n = n} (IsForm.primitive {word = word} h) (IsForm.primitive k) none within =
     subst (λ x. Matching (λ p q. Alike a b all (node_at a p) (node_at b q)) m x) (sym (word_node m word h) ∙ word_node n word k) (word_matches m word h)
-matching (IsForm.array d) (IsForm.array e) none within = record {
-  null = refl;
-  boolean = refl;
-  int = refl;
-  long = refl;
-  bytes = refl;
-  string = refl;
-  symbols = refl;
-  count = refl;
-  items = both (record { written = _; form = _; first = d; second = e; within = within });
-  values = neither;
-  branches = none_each;
-  fields = none_each;
-}
-matching (IsForm.map_of d) (IsForm.map_of e) none within = record {
-  null = refl;
-  boolean = refl;
-  int = refl;
-  long = refl;
-  bytes = refl;
-  string = refl;
-  symbols = refl;
-  count = refl;
-  items = neither;
-  values = both (record { written = _; form = _; first = d; second = e; within = within });
-  branches = none_each;
-  fields = none_each;
-}
-matching {a = a} {b = b} {all = all} (IsForm.union ds) (IsForm.union es) none within = record {
-  null = refl;
-  boolean = refl;
-  int = refl;
-  long = refl;
-  bytes = refl;
-  string = refl;
-  symbols = refl;
-  count = refl;
-  items = neither;
-  values = neither;
-  branches = each (each_branch ds es within);
-  fields = none_each;
-}
+matching (IsForm.array d) (IsForm.array e) none within = record { same = refl; items = both (record { written = _; form = _; first = d; second = e; within = within }); values = neither; branches = none_each; fields = none_each }
+matching (IsForm.map_of d) (IsForm.map_of e) none within = record { same = refl; items = neither; values = both (record { written = _; form = _; first = d; second = e; within = within }); branches = none_each; fields = none_each }
+matching {a = a} {b = b} {all = all} (IsForm.union ds) (IsForm.union es) none within = record { same = refl; items = neither; values = neither; branches = each (each_branch ds es within); fields = none_each }
   where
     each_branch : {w : List Name} {ps qs : List ℕ} {fs : Forms} → AreForms a w ps fs → AreForms b w qs fs → AreAmong (written_after_all w fs) all
         → Each (λ p q. Alike a b all (node_at a p) (node_at b q)) ps qs
     each_branch no_branch no_branch within = no_pairs
     each_branch {w = w} (branch {f = f} {fs = fs} d ds) (branch e es) within =
         pairs (record { written = w; form = f; first = d; second = e; within = λ name h. within name (grows_all name (written_after w f) fs h) }) (each_branch ds es within)
-matching {a = a} {b = b} {all = all} (IsForm.record_of h ds) (IsForm.record_of k es) none within = record {
-  null = refl;
-  boolean = refl;
-  int = refl;
-  long = refl;
-  bytes = refl;
-  string = refl;
-  symbols = refl;
-  count = refl;
-  items = neither;
-  values = neither;
-  branches = none_each;
-  fields = each (each_field ds es within);
-}
+matching {a = a} {b = b} {all = all} (IsForm.record_of h ds) (IsForm.record_of k es) none within = record { same = refl; items = neither; values = neither; branches = none_each; fields = each (each_field ds es within) }
   where
     each_field : {w : List Name} {xs ys : List FieldNode} {fs : FieldForms} → AreFieldForms a w xs fs → AreFieldForms b w ys fs → AreAmong (written_after_fields w fs) all
         → Each (λ p q. Alike a b all (node_at a p) (node_at b q)) (field_ids xs) (field_ids ys)
     each_field no_field no_field within = no_pairs
     each_field {w = w} (next_field {f = f} {fs = fs} d ds) (next_field e es) within =
         pairs (record { written = w; form = f; first = d; second = e; within = λ name h. within name (grows_fields name (written_after w f) fs h) }) (each_field ds es within)
-matching (IsForm.enum h) (IsForm.enum k) none within = record {
-  null = refl;
-  boolean = refl;
-  int = refl;
-  long = refl;
-  bytes = refl;
-  string = refl;
-  symbols = refl;
-  count = refl;
-  items = neither;
-  values = neither;
-  branches = none_each;
-  fields = none_each;
-}
-matching (IsForm.fixed h) (IsForm.fixed k) none within = record {
-  null = refl;
-  boolean = refl;
-  int = refl;
-  long = refl;
-  bytes = refl;
-  string = refl;
-  symbols = refl;
-  count = refl;
-  items = neither;
-  values = neither;
-  branches = none_each;
-  fields = none_each;
-}
+matching (IsForm.enum h) (IsForm.enum k) none within = record { same = refl; items = neither; values = neither; branches = none_each; fields = none_each }
+matching (IsForm.fixed h) (IsForm.fixed k) none within = record { same = refl; items = neither; values = neither; branches = none_each; fields = none_each }
 matching (IsForm.again h old) (IsForm.again k more) none within = absurd (false≢true (sym none))
 
 defined : {a b : List Node} {all w : List Name} {m n : Node} {f : Form} (p q : ℕ) (own name : Name) → IsForm a w m f → IsForm b w n f → AreAmong (written_after w f) all
@@ -243,14 +151,8 @@ alike_closed a b all first second known p q alike = by_form alike.first alike.se
 
     by_form : {w : List Name} {f : Form} → IsForm a w (node_at a p) f → IsForm b w (node_at b q) f → AreAmong (written_after w f) all
         → Matching (λ x y. Alike a b all (node_at a x) (node_at b y)) (node_at a p) (node_at b q)
-    by_form {f = Form.primitive word} d e within = matching d e refl within
-    by_form {f = Form.array f} d e within = matching d e refl within
-    by_form {f = Form.map_of f} d e within = matching d e refl within
-    by_form {f = Form.union fs} d e within = matching d e refl within
-    by_form {f = Form.record_of name fs} d e within = matching d e refl within
-    by_form {f = Form.enum name symbols} d e within = matching d e refl within
-    by_form {f = Form.fixed name count} d e within = matching d e refl within
-    by_form {w = w} {f = Form.reference name} d e within = elsewhere d e within refl refl
+    by_form {f = Form.reference name} d e within = elsewhere d e within refl refl
+    by_form {f = f} d e within = matching d e refl within
 
 pub same_at_roots : (a b : List Node) (f : Form) → is_schema a ≡ true → is_schema b ≡ true → IsForm a [] (root_of a) f → IsForm b [] (root_of b) f
     → (v : Value) → fits a (root_of a) v ≡ fits b (root_of b) v

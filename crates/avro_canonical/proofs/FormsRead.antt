@@ -1,17 +1,17 @@
 -- The tree of a well made form is read without a fault.
-use Rattle.std.proofs.Common.{◌≡◌, ◌≤◌, ℕ, suc, ◌+◌, true, false, List, [], ◌∷◌, Some, None, refl, sym, ◌∙◌, ap, arith, map, length, nat_lt, nat_le}
+use Rattle.std.proofs.Common.{◌≡◌, ◌≤◌, ℕ, suc, ◌+◌, true, false, List, [], ◌∷◌, Some, None, refl, ◌∙◌, ap, arith, length, nat_lt, nat_le}
 use Rattle.std.proofs.lemmas.Bool.{and_parts, lt-ltb}
 use Rattle.std.proofs.lemmas.List.{map-append}
 use Rattle.avro_name.specs.Name.{Name, is_full_name}
 use Rattle.avro_schema.specs.WellFormed.{max_nodes, max_count}
 use Rattle.avro_schema.specs.Node.{Node}
 use Rattle.avro_schema_json.specs.DeclaredAttributes.{texts_of}
-use Rattle.avro_schema_json.specs.Declares.{RawNode, RawField, Known, Made, node_with, followed_by, first_and_rest, in_turn, defining, name_faults, meaning_of, branches_of, field_meanings}
+use Rattle.avro_schema_json.specs.Declares.{RawNode, RawField, Known, Made, node_with, followed_by, in_turn, defining, name_faults, meaning_of, branches_of, field_meanings}
 use Rattle.avro_canonical.specs.Form.{Form, Forms, FieldForms, no_forms, form, no_fields, field, written_after}
 use Rattle.avro_canonical.specs.Canonical.{is_among}
 use Rattle.avro_canonical.specs.CanonicalTree.{text_items, form_tree, form_trees, field_trees, nodes_in, nodes_in_all, nodes_in_fields, is_kept, keeps_names, all_keep_names, fields_keep_names}
 use Rattle.avro_canonical.specs.inside.WellMade.{WellMade, AreWellMade, FieldsWellMade}
-use Rattle.avro_canonical.specs.inside.Laid.{known_after, known_after_all, known_after_fields, laid_ids, laid_fields, laid, laid_all, laid_in_fields, raw_field, raw_node}
+use Rattle.avro_canonical.specs.inside.Laid.{known_after}
 use Rattle.avro_canonical.proofs.LaidRead.{raw_count, IsKnown, known_more, known_then, made, made_all, made_fields, above_clean, word_read, reference_read, name_given}
 
 texts_given : (texts : List (List ℕ)) → texts_of (text_items texts) ≡ Some texts
@@ -25,13 +25,7 @@ fresh_name written known name is new = rw (is name, new) refl
 next_made : (first : Made ℕ) (f : Form) (fs : Forms) (known : Known) (next : ℕ) (rest : Known → ℕ → Made (List ℕ)) → first ≡ made known next f
     → rest (known_after known next f) (next + nodes_in f) ≡ made_all (known_after known next f) (next + nodes_in f) fs
     → followed_by first (λ it. rest it.known (next + length it.nodes)) ≡ made_all known next (form f fs)
-next_made first f fs known next rest one others =
-    let later = known_after known next f in
-    ap (λ it. followed_by it (λ m. rest m.known (next + length m.nodes))) one
-    ∙ ap (λ n. first_and_rest (made known next f) (rest later (next + n))) (raw_count known next f)
-    ∙ ap (λ r. first_and_rest (made known next f) r) others
-    ∙ ap (λ nodes. record { result = laid_ids known next (form f fs); nodes = nodes; known = known_after_all known next (form f fs); faults = [] })
-    (sym (map-append raw_node (laid known next f) (laid_all later (next + nodes_in f) fs)))
+next_made first f fs known next rest one others = grind (arith, made, map-append, raw_count)
 
 -- a field, from its type
 abbrev typed : List ℕ → Made ℕ → Made RawField
@@ -40,33 +34,24 @@ typed name it = record { result = record { name = name; aliases = []; node = it.
 next_field_made : (first : Made ℕ) (name : List ℕ) (f : Form) (fs : FieldForms) (known : Known) (next : ℕ) (rest : Known → ℕ → Made (List RawField)) → first ≡ made known next f
     → rest (known_after known next f) (next + nodes_in f) ≡ made_fields (known_after known next f) (next + nodes_in f) fs
     → followed_by (typed name first) (λ it. rest it.known (next + length it.nodes)) ≡ made_fields known next (field name f fs)
-next_field_made first name f fs known next rest one others =
-    let later = known_after known next f in
-    ap (λ it. followed_by (typed name it) (λ m. rest m.known (next + length m.nodes))) one
-    ∙ ap (λ n. first_and_rest (typed name (made known next f)) (rest later (next + n))) (raw_count known next f)
-    ∙ ap (λ r. first_and_rest (typed name (made known next f)) r) others
-    ∙ ap (λ nodes. record { result = map raw_field (laid_fields known next (field name f fs)); nodes = nodes; known = known_after_fields known next (field name f fs); faults = [] })
-    (sym (map-append raw_node (laid known next f) (laid_in_fields later (next + nodes_in f) fs)))
+next_field_made first name f fs known next rest one others = grind (arith, made, map-append, raw_count)
 
 -- definitions, once their names are read
 record_read : (name : Name) (fs : FieldForms) (known : Known) (next : ℕ) (enclosing : List ℕ)
     → is_full_name name ≡ true → is_kept enclosing name ≡ true → name_faults name known ≡ [] → nat_lt next max_nodes ≡ true
     → in_turn (field_meanings (field_trees fs)) name.namespace (defining name next known) (suc next) ≡ made_fields (defining name next known) (suc next) fs
     → meaning_of (form_tree (Form.record_of name fs)) enclosing known next ≡ made known next (Form.record_of name fs)
-record_read name fs known next enclosing full kept new within parts =
-    rw (name_given name enclosing full kept, new, parts, within) refl
+record_read name fs known next enclosing full kept new within parts = grind (arith, name_given)
 
 enum_read : (name : Name) (symbols : List (List ℕ)) (known : Known) (next : ℕ) (enclosing : List ℕ)
     → is_full_name name ≡ true → is_kept enclosing name ≡ true → name_faults name known ≡ [] → nat_lt next max_nodes ≡ true
     → meaning_of (form_tree (Form.enum name symbols)) enclosing known next ≡ made known next (Form.enum name symbols)
-enum_read name symbols known next enclosing full kept new within =
-    rw (name_given name enclosing full kept, new, texts_given symbols, within) refl
+enum_read name symbols known next enclosing full kept new within = grind (arith, name_given, texts_given)
 
 fixed_read : (name : Name) (count : ℕ) (known : Known) (next : ℕ) (enclosing : List ℕ)
     → is_full_name name ≡ true → is_kept enclosing name ≡ true → name_faults name known ≡ [] → nat_lt next max_nodes ≡ true → nat_le count max_count ≡ true
     → meaning_of (form_tree (Form.fixed name count)) enclosing known next ≡ made known next (Form.fixed name count)
-fixed_read name count known next enclosing full kept new within small =
-    rw (name_given name enclosing full kept, new, small, within) refl
+fixed_read name count known next enclosing full kept new within small = grind (arith, name_given)
 
 room : (next first later : ℕ) → next + (first + later) ≤ max_nodes → next + first ≤ max_nodes
 room next first later h = omega (arith, h)

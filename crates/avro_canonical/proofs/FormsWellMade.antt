@@ -1,13 +1,13 @@
 -- The form of a node of a schema is well made.
-use Rattle.std.proofs.Common.{◌≡◌, ℕ, zero, suc, Bool, true, false, not, ◌&&◌, List, [], ◌∷◌, ◌++◌, Option, Some, None, refl, sym, ◌∙◌, ap, map, flat_map, filter_map, length, unwrap_or, slice_get, bytes_eq, nat_lt, nat_le, is_some}
+use Rattle.std.proofs.Common.{arith, ◌≡◌, ℕ, Bool, true, false, not, ◌&&◌, List, [], ◌∷◌, ◌++◌, Option, Some, None, refl, sym, ◌∙◌, ap, map, flat_map, filter_map}
 use Rattle.std.specs.List.{list_all, list_any}
 use Rattle.std.proofs.lemmas.Bool.{and_parts, and_from, or_parts, not-true, not_from_false}
 use Rattle.std.proofs.lemmas.List.{length-map}
 use Rattle.std.proofs.lemmas.List.Folds.{list_all-append, list_any-append, list_all-map}
-use Rattle.avro_name.specs.Name.{Name, is_full_name, is_simple_name}
+use Rattle.avro_name.specs.Name.{Name, is_full_name}
 use Rattle.avro_schema.specs.Node.{Node, FieldNode, node_at, node_name}
 use Rattle.avro_schema.specs.Distinct.{are_distinct}
-use Rattle.avro_schema.specs.WellFormed.{is_schema, has_good_names, max_count, BranchKind, named, branch_kind, is_union, is_enum, is_default, are_fields, has_good_default, field_names}
+use Rattle.avro_schema.specs.WellFormed.{is_schema, has_good_names, BranchKind, named, branch_kind, is_union, is_enum, are_fields, field_names}
 use Rattle.avro_schema.proofs.public.GoodNodes.{IsGood, good_at}
 use Rattle.avro_canonical.specs.Form.{Form, Forms, FieldForms}
 use Rattle.avro_canonical.specs.Canonical.{IsForm, AreForms, AreFieldForms, primitive_word, no_branch, branch, no_field, next_field}
@@ -23,13 +23,8 @@ named_kind = by_name (λ n name. branch_kind n ≡ Some (named name)) (λ name a
 
 pub kind_same : {nodes : List Node} {written : List Name} {n : Node} {f : Form} → IsForm nodes written n f → branch_kind n ≡ form_kind f
 kind_same {n = n} (IsForm.primitive {word = word} h) = sym (ap branch_kind (word_node n word h))
-kind_same (IsForm.array d) = refl
-kind_same (IsForm.map_of d) = refl
-kind_same (IsForm.union ds) = refl
-kind_same (IsForm.record_of h ds) = refl
-kind_same (IsForm.enum h) = refl
-kind_same (IsForm.fixed h) = refl
 kind_same {n = n} (IsForm.again {name = name} h old) = named_kind n name h
+kind_same _ = refl
 
 abbrev pub kinds_at : List Node → List ℕ → List (Option BranchKind)
 kinds_at nodes ids = map (λ id. branch_kind (node_at nodes id)) ids
@@ -44,9 +39,7 @@ filter_seen f (x ∷ xs) = rw (filter_seen f xs) refl
 
 -- whether ids are the branches of a union is said by their kinds
 pub union_seen : (nodes : List Node) (ids : List ℕ) → is_union nodes ids ≡ are_branches (kinds_at nodes ids)
-union_seen nodes ids =
-    let kind : ℕ → Option BranchKind = λ id. branch_kind (node_at nodes id) in
-    rw (length-map ids kind, list_all-map is_some kind ids, filter_seen kind ids) refl
+union_seen nodes ids = grind (arith, filter_seen, length-map, list_all-map)
 
 -- the names of fields, without their aliases
 all_names : (p : List ℕ → Bool) (xs : List FieldNode) → list_all p (flat_map field_names xs) ≡ true → list_all p (map (λ x. x.name) xs) ≡ true
@@ -81,24 +74,16 @@ names_seen no_field = refl
 names_seen (next_field {x = x} d ds) = ap (λ names. x.name ∷ names) (names_seen ds)
 
 good_names : (nodes : List Node) (xs : List FieldNode) → are_fields nodes xs ≡ true → are_names (map (λ x. x.name) xs) ≡ true
-good_names nodes xs h =
-    let both = and_parts (list_all is_simple_name (flat_map field_names xs) && are_distinct bytes_eq (flat_map field_names xs)) (list_all (has_good_default nodes) xs) h in
-    let named = and_parts (list_all is_simple_name (flat_map field_names xs)) (are_distinct bytes_eq (flat_map field_names xs)) both.0 in
-    and_from _ _ (all_names is_simple_name xs named.0) (distinct_names bytes_eq xs named.1)
+good_names nodes xs h = grind (arith, all_names, and_from, and_parts, distinct_names)
 
 full_of : (name : Name) (others : Bool) → (is_full_name name && others) ≡ true → is_full_name name ≡ true
 full_of name others h = (and_parts (is_full_name name) others h).0
 
 full_named : (n : Node) (name : Name) → node_name n ≡ Some name → has_good_names n ≡ true → is_full_name name ≡ true
-full_named = by_name (λ n name. has_good_names n ≡ true → is_full_name name ≡ true)
-    (λ name aliases xs h. full_of name (list_all is_full_name aliases) h)
-    (λ name aliases symbols default h. full_of name (list_all is_full_name aliases) h)
-    (λ name aliases count h. full_of name (list_all is_full_name aliases) h)
+full_named = grind (arith, full_of)
 
 without_default : (symbols : List (List ℕ)) (default : Option ℕ) → is_enum symbols default ≡ true → is_enum symbols None ≡ true
-without_default symbols default h =
-    let rules = nat_lt 0 (length symbols) && nat_le (length symbols) max_count && list_all is_simple_name symbols && are_distinct bytes_eq symbols in
-    and_from rules true (and_parts rules (is_default symbols default) h).0 refl
+without_default symbols default h = grind (arith, and_from, and_parts)
 
 mutual
   pub well_made : {nodes : List Node} {written : List Name} {id : ℕ} {n : Node} {f : Form} → is_schema nodes ≡ true → IsGood nodes id n → IsForm nodes written n f → WellMade written f

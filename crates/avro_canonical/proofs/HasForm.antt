@@ -1,7 +1,7 @@
 -- Each schema has a canonical text.
-use Rattle.std.proofs.Common.{◌≡◌, ◌<◌, ◌≤◌, ℕ, zero, suc, ◌+◌, Bool, true, false, ◌&&◌, ◌||◌, cond, if◌then◌else◌, List, [], ◌∷◌, Option, Some, None, refl, sym, ◌∙◌, ap, subst, arith, map, length, unwrap_or, slice_get, nat_lt, is_some}
+use Rattle.std.proofs.Common.{◌≡◌, ◌<◌, ◌≤◌, ℕ, zero, suc, ◌+◌, Bool, true, false, ◌||◌, cond, if◌then◌else◌, List, [], ◌∷◌, Option, Some, None, refl, sym, ◌∙◌, ap, subst, arith, map, length, unwrap_or, slice_get, nat_lt, is_some}
 use Rattle.std.specs.List.{list_all}
-use Rattle.std.proofs.lemmas.Bool.{and_parts, false≢true, ltb-true, or_right}
+use Rattle.std.proofs.lemmas.Bool.{and_parts, ltb-true, or_right}
 use Rattle.std.proofs.lemmas.Option.{slice_get_past}
 use Rattle.avro_name.specs.Name.{Name, same_name}
 use Rattle.avro_schema.specs.Node.{Node, FieldNode, node_at, node_name, edges_of}
@@ -31,10 +31,7 @@ no_more old new (Some name ∷ os) grown = by_old (is_among name old) (is_among 
   where
     by_old : (s t : Bool) → (s ≡ true → t ≡ true) → unwritten new os ≤ unwritten old os
         → cond t (unwritten new os) (suc (unwritten new os)) ≤ cond s (unwritten old os) (suc (unwritten old os))
-    by_old true true h le = le
-    by_old true false h le = absurd (false≢true (h refl))
-    by_old false true h le = omega (arith, le)
-    by_old false false h le = omega (arith, le)
+    by_old s t h le = grind arith
 
 fewer : (old new : List Name) (os : List (Option Name)) (p : ℕ) (name : Name) → Grown old new → slice_get os p ≡ Some (Some name) → is_among name old ≡ false → is_among name new ≡ true
     → unwritten new os < unwritten old os
@@ -52,10 +49,7 @@ fewer old new (Some first ∷ os) (suc p) name grown here before after =
   where
     by_first : (s t : Bool) → (s ≡ true → t ≡ true) → unwritten new os < unwritten old os
         → cond t (unwritten new os) (suc (unwritten new os)) < cond s (unwritten old os) (suc (unwritten old os))
-    by_first true true h le = le
-    by_first true false h le = absurd (false≢true (h refl))
-    by_first false true h le = omega (arith, le)
-    by_first false false h le = omega (arith, le)
+    by_first s t h le = grind arith
 
 abbrev HasForm : List Node → List Name → Node → Type 0
 HasForm nodes written n = (f : Form) × IsForm nodes written n f
@@ -95,8 +89,7 @@ grown_by name written other h = or_right (same_name other name) (is_among other 
 
 one_fewer : (nodes : List Node) (written : List Name) (p : ℕ) (name : Name) → node_name (node_at nodes p) ≡ Some name → is_among name written ≡ false
     → left nodes (name ∷ written) < left nodes written
-one_fewer nodes written p name named new =
-    fewer written (name ∷ written) (map node_name nodes) p name (grown_by name written) (named-at nodes p name named) new (rw (same_name-self name) refl)
+one_fewer nodes written p name named new = grind (arith, fewer, grown_by, named-at, same_name-self)
 
 -- a type that is not written
 new_form : (nodes : List Node) (k : ℕ) → Deeper nodes k → (written : List Name) (n : Node) (name : Name) → left nodes (name ∷ written) < k → node_name n ≡ Some name
@@ -118,8 +111,7 @@ named_form nodes k deeper written p name few named =
     ]) refl
 
 some_name : (o : Option Name) → is_some o ≡ true → (name : Name) × (o ≡ Some name)
-some_name None h = absurd (false≢true h)
-some_name (Some name) h = (name, refl)
+some_name o h = grind arith
 
 -- an edge goes to a later node, or to a type
 by_edge : (nodes : List Node) (k : ℕ) → Deeper nodes k → (p : ℕ) → ((written : List Name) (q : ℕ) → p < q → left nodes written ≤ k → HasForm nodes written (node_at nodes q))
@@ -133,24 +125,16 @@ by_edge nodes k deeper p later written q edge few =
 -- a node, by its edges
 by_node : (nodes : List Node) (k : ℕ) → Deeper nodes k → (p : ℕ) → HaveForms nodes k (is_edge nodes p) → (written : List Name) (n : Node) → n ≡ node_at nodes p
     → list_all (is_edge nodes p) (edges_of n) ≡ true → left nodes written ≤ k → HasForm nodes written n
-by_node nodes k deeper p each written Node.null here good few = (_, IsForm.primitive refl)
-by_node nodes k deeper p each written Node.boolean here good few = (_, IsForm.primitive refl)
-by_node nodes k deeper p each written Node.int here good few = (_, IsForm.primitive refl)
-by_node nodes k deeper p each written Node.long here good few = (_, IsForm.primitive refl)
-by_node nodes k deeper p each written Node.bytes here good few = (_, IsForm.primitive refl)
-by_node nodes k deeper p each written Node.string here good few = (_, IsForm.primitive refl)
 by_node nodes k deeper p each written (Node.array q) here good few =
     let f = each written q (and_parts (is_edge nodes p q) true good).0 few in (Form.array f.0, IsForm.array f.1)
 by_node nodes k deeper p each written (Node.map_of q) here good few =
     let f = each written q (and_parts (is_edge nodes p q) true good).0 few in (Form.map_of f.0, IsForm.map_of f.1)
 by_node nodes k deeper p each written (Node.union qs) here good few =
     let fs = have_forms nodes k (is_edge nodes p) each qs written good few in (Form.union fs.0, IsForm.union fs.1)
-by_node nodes k deeper p each written (Node.record_of name aliases xs) here good few =
-    subst (λ n. HasForm nodes written n) (sym here) (named_form nodes k deeper written p name few (ap node_name (sym here)))
-by_node nodes k deeper p each written (Node.enum name aliases symbols default) here good few =
-    subst (λ n. HasForm nodes written n) (sym here) (named_form nodes k deeper written p name few (ap node_name (sym here)))
-by_node nodes k deeper p each written (Node.fixed name aliases count) here good few =
-    subst (λ n. HasForm nodes written n) (sym here) (named_form nodes k deeper written p name few (ap node_name (sym here)))
+by_node nodes k deeper p each written (Node.record_of name aliases xs) here good few = rw here (named_form nodes k deeper written p name few (ap node_name (sym here)))
+by_node nodes k deeper p each written (Node.enum name aliases symbols default) here good few = rw here (named_form nodes k deeper written p name few (ap node_name (sym here)))
+by_node nodes k deeper p each written (Node.fixed name aliases count) here good few = rw here (named_form nodes k deeper written p name few (ap node_name (sym here)))
+by_node nodes k deeper p each written _ here good few = (_, IsForm.primitive refl)
 
 by_id : (nodes : List Node) → is_schema nodes ≡ true → (k : ℕ) → Deeper nodes k → (j p : ℕ) (written : List Name) → length nodes ≤ p + j → left nodes written ≤ k
     → HasForm nodes written (node_at nodes p)

@@ -28,7 +28,7 @@ no_node e = cc
 
 pub stand_first : (nodes : List Node) (p : ℕ) (n : Node) (rest : List Node) → drop p nodes ≡ n ∷ rest → (node_at nodes p ≡ n) × (drop (suc p) nodes ≡ rest)
 stand_first [] zero n rest e = absurd (no_node e)
-stand_first [] (suc p) n rest e = absurd (no_node e)
+stand_first [] _ n rest e = absurd (no_node e)
 stand_first (x ∷ xs) zero n rest e = (first_node e, rest_nodes e)
 stand_first (x ∷ xs) (suc p) n rest e = stand_first xs p n rest e
 
@@ -41,9 +41,7 @@ stand_behind nodes p (x ∷ xs) rest e =
 -- nodes of a part, and of those after it
 pub stand_cut : (nodes : List Node) (next : ℕ) (xs ys others : List Node) (n : ℕ) → length xs ≡ n → Stand nodes next (xs ++ ys) others
     → Stand nodes next xs (ys ++ others) × Stand nodes (next + n) ys others
-stand_cut nodes next xs ys others n count e =
-    let first : drop next nodes ≡ xs ++ (ys ++ others) = e ∙ append_assoc xs ys others in
-    (first, subst (λ k. drop (next + k) nodes ≡ ys ++ others) count (stand_behind nodes next xs (ys ++ others) first))
+stand_cut nodes next xs ys others n count e = grind (arith, append_assoc, stand_behind)
 
 -- each name that is known is that of the node of its id
 abbrev pub KnownStand : List Node → Known → Type 0
@@ -70,7 +68,6 @@ stand_defining nodes known name next stands named x p at =
 mutual
   pub known_stand : (nodes : List Node) (f : Form) (known : Known) (next : ℕ) (others : List Node) → KnownStand nodes known → Stand nodes next (laid known next f) others
       → KnownStand nodes (known_after known next f)
-  known_stand nodes (Form.primitive word) known next others stands e = stands
   known_stand nodes (Form.array f) known next others stands e = known_stand nodes f known (suc next) others stands (stand_first nodes next _ _ e).1
   known_stand nodes (Form.map_of f) known next others stands e = known_stand nodes f known (suc next) others stands (stand_first nodes next _ _ e).1
   known_stand nodes (Form.union fs) known next others stands e = known_stand_all nodes fs known (suc next) others stands (stand_first nodes next _ _ e).1
@@ -79,7 +76,7 @@ mutual
       known_stand_fields nodes fs (defining name next known) (suc next) others (stand_defining nodes known name next stands (ap node_name here.0)) here.1
   known_stand nodes (Form.enum name symbols) known next others stands e = stand_defining nodes known name next stands (ap node_name (stand_first nodes next _ _ e).0)
   known_stand nodes (Form.fixed name count) known next others stands e = stand_defining nodes known name next stands (ap node_name (stand_first nodes next _ _ e).0)
-  known_stand nodes (Form.reference name) known next others stands e = stands
+  known_stand nodes _ known next others stands e = stands
 
   pub known_stand_all : (nodes : List Node) (fs : Forms) (known : Known) (next : ℕ) (others : List Node) → KnownStand nodes known → Stand nodes next (laid_all known next fs) others
       → KnownStand nodes (known_after_all known next fs)

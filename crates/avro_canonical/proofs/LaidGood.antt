@@ -1,11 +1,10 @@
 -- The nodes that are laid for a form are a schema.
-use Rattle.std.proofs.Common.{◌≡◌, ◌<◌, ◌≤◌, ℕ, zero, suc, ◌+◌, true, List, [], ◌∷◌, ◌++◌, Some, refl, sym, ◌∙◌, ap, subst, arith, drop, flat_map, length, length-drop, is_some, unwrap_or, bytes_eq, nat_lt}
+use Rattle.std.proofs.Common.{◌≡◌, ◌<◌, ◌≤◌, ℕ, zero, suc, ◌+◌, true, List, [], ◌∷◌, ◌++◌, Some, refl, sym, ◌∙◌, ap, subst, arith, drop, flat_map, length, length-drop, is_some, nat_lt}
 use Rattle.std.specs.List.{list_all}
 use Rattle.std.proofs.lemmas.Bool.{and_parts, and_from, lt-ltb, or_right}
 use Rattle.std.proofs.lemmas.Option.{slice_get_past}
-use Rattle.avro_name.specs.Name.{Name, is_full_name, is_simple_name}
+use Rattle.avro_name.specs.Name.{Name, is_full_name}
 use Rattle.avro_schema.specs.Node.{Node, node_at, node_name, field_ids}
-use Rattle.avro_schema.specs.Distinct.{are_distinct}
 use Rattle.avro_schema.specs.WellFormed.{is_good_node, are_good_nodes, is_edge, is_union, has_good_default, field_names}
 use Rattle.avro_schema_json.specs.Declares.{Known, defining}
 use Rattle.avro_canonical.specs.Form.{Form, Forms, FieldForms, no_forms, form, no_fields, field, written_after}
@@ -16,7 +15,7 @@ use Rattle.avro_canonical.specs.inside.Laid.{known_after, laid_id, laid_ids, lai
 use Rattle.avro_canonical.proofs.FormsWellMade.{kinds_same, union_seen}
 use Rattle.avro_canonical.proofs.LaidRead.{IsKnown, known_more, known_then, laid_count}
 use Rattle.avro_canonical.proofs.LaidForms.{Stand, stand_first, stand_cut, KnownStand, stand_defining, known_stand, named_there, laid_forms}
-use Rattle.avro_canonical.proofs.Words.{by_word, none_apart}
+use Rattle.avro_canonical.proofs.Words.{by_word}
 
 stand_within : (nodes : List Node) (p : ℕ) (n : Node) (rest : List Node) → drop p nodes ≡ n ∷ rest → p < length nodes
 stand_within nodes p n rest e = omega (arith, length-drop p nodes, ap length e)
@@ -34,20 +33,13 @@ edge_named nodes from p name named =
     below (suc p) (suc n) h = let r : p < n = below p n (λ le. h (omega (arith, le))) in omega (arith, r)
 
     within : (p : ℕ) → node_name (node_at nodes p) ≡ Some name → p < length nodes
-    within p named =
-        below p (length nodes) (λ past. none_apart (ap (λ o. node_name (unwrap_or o Node.null)) (sym (slice_get_past nodes p past)) ∙ named))
+    within p named = grind (arith, slice_get_past)
 
 edge_laid : (nodes : List Node) (f : Form) (written : List Name) (known : Known) (next from : ℕ) (others : List Node) → from < next → WellMade written f → IsKnown written known
     → KnownStand nodes known → Stand nodes next (laid known next f) others → is_edge nodes from (laid_id known next f) ≡ true
-edge_laid nodes (Form.primitive word) written known next from others after good is stands e = edge_later nodes from next after (stand_within nodes next _ _ e)
-edge_laid nodes (Form.array f) written known next from others after good is stands e = edge_later nodes from next after (stand_within nodes next _ _ e)
-edge_laid nodes (Form.map_of f) written known next from others after good is stands e = edge_later nodes from next after (stand_within nodes next _ _ e)
-edge_laid nodes (Form.union fs) written known next from others after good is stands e = edge_later nodes from next after (stand_within nodes next _ _ e)
-edge_laid nodes (Form.record_of name fs) written known next from others after good is stands e = edge_later nodes from next after (stand_within nodes next _ _ e)
-edge_laid nodes (Form.enum name symbols) written known next from others after good is stands e = edge_later nodes from next after (stand_within nodes next _ _ e)
-edge_laid nodes (Form.fixed name count) written known next from others after good is stands e = edge_later nodes from next after (stand_within nodes next _ _ e)
 edge_laid nodes (Form.reference name) written known next from others after good is stands e =
     edge_named nodes from (laid_id known next (Form.reference name)) name (named_there nodes written known name is stands good.0)
+edge_laid nodes _ written known next from others after good is stands e = edge_later nodes from next after (stand_within nodes next _ _ e)
 
 edges_laid : (nodes : List Node) (fs : Forms) (written : List Name) (known : Known) (next from : ℕ) (others : List Node) → from < next → AreWellMade written fs → IsKnown written known
     → KnownStand nodes known → Stand nodes next (laid_all known next fs) others → list_all (is_edge nodes from) (laid_ids known next fs) ≡ true
@@ -81,9 +73,7 @@ laid_defaults nodes known next (field name f fs) = laid_defaults nodes (known_af
 
 good_record : (nodes : List Node) (known : Known) (at next : ℕ) (name : Name) (fs : FieldForms) → list_all (is_edge nodes at) (field_ids (laid_fields known next fs)) ≡ true
     → is_full_name name ≡ true → are_names (names_of fs) ≡ true → is_good_node nodes at (Node.record_of name [] (laid_fields known next fs)) ≡ true
-good_record nodes known at next name fs edges full named =
-    let both = and_parts (list_all is_simple_name (names_of fs)) (are_distinct bytes_eq (names_of fs)) named in
-    rw (edges, full, laid_names known next fs, both.0, both.1, laid_defaults nodes known next fs) refl
+good_record nodes known at next name fs edges full named = grind (arith, and_parts, laid_defaults, laid_names)
 
 good_append : (nodes : List Node) (k : ℕ) (xs ys : List Node) → are_good_nodes nodes k xs ≡ true → are_good_nodes nodes (k + length xs) ys ≡ true → are_good_nodes nodes k (xs ++ ys) ≡ true
 good_append nodes k [] ys first rest = let at : k + 0 ≡ k = omega arith in subst (λ j. are_good_nodes nodes j ys ≡ true) at rest

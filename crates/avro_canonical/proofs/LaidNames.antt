@@ -18,14 +18,13 @@ use Rattle.avro_canonical.proofs.Words.{by_word}
 -- the names that a form defines, in order
 abbrev mutual
   defined_in : Form → List Name
-  defined_in (Form.primitive word) = []
   defined_in (Form.array f) = defined_in f
   defined_in (Form.map_of f) = defined_in f
   defined_in (Form.union fs) = defined_in_all fs
   defined_in (Form.record_of name fs) = name ∷ defined_in_fields fs
   defined_in (Form.enum name symbols) = name ∷ []
   defined_in (Form.fixed name count) = name ∷ []
-  defined_in (Form.reference name) = []
+  defined_in _ = []
 
   defined_in_all : Forms → List Name
   defined_in_all no_forms = []
@@ -45,14 +44,11 @@ after_append written (x ∷ xs) ys = after_append (x ∷ written) xs ys
 
 mutual
   written_is : (written : List Name) (f : Form) → written_after written f ≡ after written (defined_in f)
-  written_is written (Form.primitive word) = refl
   written_is written (Form.array f) = written_is written f
   written_is written (Form.map_of f) = written_is written f
   written_is written (Form.union fs) = written_is_all written fs
   written_is written (Form.record_of name fs) = written_is_fields (name ∷ written) fs
-  written_is written (Form.enum name symbols) = refl
-  written_is written (Form.fixed name count) = refl
-  written_is written (Form.reference name) = refl
+  written_is written _ = refl
 
   written_is_all : (written : List Name) (fs : Forms) → written_after_all written fs ≡ after written (defined_in_all fs)
   written_is_all written no_forms = refl
@@ -75,14 +71,13 @@ fresh_append written (x ∷ xs) ys first later = (first.0, fresh_append (x ∷ w
 
 mutual
   fresh_names : (f : Form) (written : List Name) → WellMade written f → Fresh written (defined_in f)
-  fresh_names (Form.primitive word) written good = tt
   fresh_names (Form.array f) written good = fresh_names f written good
   fresh_names (Form.map_of f) written good = fresh_names f written good
   fresh_names (Form.union fs) written good = fresh_names_all fs written good.1
   fresh_names (Form.record_of name fs) written good = (good.0, fresh_names_fields fs (name ∷ written) good.3)
   fresh_names (Form.enum name symbols) written good = (good.0, tt)
   fresh_names (Form.fixed name count) written good = (good.0, tt)
-  fresh_names (Form.reference name) written good = tt
+  fresh_names _ written good = tt
 
   fresh_names_all : (fs : Forms) (written : List Name) → AreWellMade written fs → Fresh written (defined_in_all fs)
   fresh_names_all no_forms written good = tt
@@ -121,9 +116,7 @@ mutual
   names_laid (Form.map_of f) written known next good = names_laid f written known (suc next) good
   names_laid (Form.union fs) written known next good = names_laid_all fs written known (suc next) good.1
   names_laid (Form.record_of name fs) written known next good = ap (λ names. name ∷ names) (names_laid_fields fs (name ∷ written) (defining name next known) (suc next) good.3)
-  names_laid (Form.enum name symbols) written known next good = refl
-  names_laid (Form.fixed name count) written known next good = refl
-  names_laid (Form.reference name) written known next good = refl
+  names_laid _ written known next good = refl
 
   names_laid_all : (fs : Forms) (written : List Name) (known : Known) (next : ℕ) → AreWellMade written fs → filter_map node_name (laid_all known next fs) ≡ defined_in_all fs
   names_laid_all no_forms written known next good = refl

@@ -1,10 +1,9 @@
 -- What the tree of a form makes as it is read.
-use Rattle.std.proofs.Common.{◌≡◌, ◌≤◌, ℕ, suc, ◌+◌, Bool, true, false, not, ◌||◌, cond, List, [], ◌∷◌, ◌++◌, Option, Some, None, refl, sym, ◌∙◌, ap, arith, map, length, bytes_eq, nat_lt, is_some, unwrap_or, codes}
-use Rattle.std.specs.Prelude.{Result, Ok, Err, ok_or}
-use Rattle.std.proofs.lemmas.Bool.{false≢true, lt-ltb}
+use Rattle.std.proofs.Common.{◌≡◌, ℕ, suc, ◌+◌, Bool, true, false, ◌||◌, cond, List, [], ◌∷◌, ◌++◌, Option, Some, None, refl, sym, ◌∙◌, ap, arith, map, length, bytes_eq, nat_lt, is_some, unwrap_or, codes}
+use Rattle.std.specs.Prelude.{Ok}
 use Rattle.std.proofs.lemmas.List.{length-map, length-append}
 use Rattle.std.proofs.lemmas.Slice.Eq.{bytes_eq-Decides}
-use Rattle.avro_name.specs.Name.{Name, is_full_name, is_empty_text, same_name, name_of, has_dot}
+use Rattle.avro_name.specs.Name.{Name, is_full_name, same_name, name_of}
 use Rattle.avro_schema.specs.WellFormed.{max_nodes}
 use Rattle.avro_display.specs.DisplayTree.{name_text}
 use Rattle.serde_json.specs.Data.{Data}
@@ -17,18 +16,15 @@ use Rattle.avro_canonical.specs.CanonicalTree.{nodes_in, nodes_in_all, nodes_in_
 use Rattle.avro_canonical.specs.inside.WellMade.{node_of_word}
 use Rattle.avro_canonical.specs.inside.Laid.{known_after, known_after_all, known_after_fields, laid_id, laid_ids, laid_fields, laid, laid_all, laid_in_fields, raw_field, raw_node, raw_nodes}
 use Rattle.avro_canonical.proofs.NamesRead.{name_read}
-use Rattle.avro_canonical.proofs.Words.{by_word, none_apart}
+use Rattle.avro_canonical.proofs.Words.{none_apart}
 
 mutual
   pub laid_count : (known : Known) (next : ℕ) (f : Form) → length (laid known next f) ≡ nodes_in f
-  laid_count known next (Form.primitive word) = refl
   laid_count known next (Form.array f) = ap suc (laid_count known (suc next) f)
   laid_count known next (Form.map_of f) = ap suc (laid_count known (suc next) f)
   laid_count known next (Form.union fs) = ap suc (laid_count_all known (suc next) fs)
   laid_count known next (Form.record_of name fs) = ap suc (laid_count_fields (defining name next known) (suc next) fs)
-  laid_count known next (Form.enum name symbols) = refl
-  laid_count known next (Form.fixed name count) = refl
-  laid_count known next (Form.reference name) = refl
+  laid_count known next _ = refl
 
   laid_count_all : (known : Known) (next : ℕ) (fs : Forms) → length (laid_all known next fs) ≡ nodes_in_all fs
   laid_count_all known next no_forms = refl
@@ -52,10 +48,7 @@ abbrev pub IsKnown : List Name → Known → Type 0
 IsKnown written known = (name : Name) → is_some (id_of name known) ≡ is_among name written
 
 or_turned : (s t : Bool) → (s || t) ≡ (t || s)
-or_turned true true = refl
-or_turned true false = refl
-or_turned false true = refl
-or_turned false false = refl
+or_turned s t = grind arith
 
 id_of_last : (x name : Name) (p : ℕ) (known : Known) → is_some (id_of x (known ++ (name, p) ∷ [])) ≡ (is_some (id_of x known) || same_name x name)
 id_of_last x name p [] = elim (same_name x name) as (λ b. is_some (cond b (Some p) None) ≡ b) [ true ↦ refl | false ↦ refl ]
@@ -64,19 +57,17 @@ id_of_last x name p (d ∷ known) =
     [ true ↦ refl | false ↦ id_of_last x name p known ]
 
 pub known_more : (written : List Name) (known : Known) (name : Name) (next : ℕ) → IsKnown written known → IsKnown (name ∷ written) (defining name next known)
-known_more written known name next is x =
-    id_of_last x name next known ∙ ap (λ b. b || same_name x name) (is x) ∙ or_turned (is_among x written) (same_name x name)
+known_more written known name next is x = grind (arith, id_of_last, or_turned)
 
 mutual
   pub known_then : (written : List Name) (known : Known) (next : ℕ) (f : Form) → IsKnown written known → IsKnown (written_after written f) (known_after known next f)
-  known_then written known next (Form.primitive word) is = is
   known_then written known next (Form.array f) is = known_then written known (suc next) f is
   known_then written known next (Form.map_of f) is = known_then written known (suc next) f is
   known_then written known next (Form.union fs) is = known_then_all written known (suc next) fs is
   known_then written known next (Form.record_of name fs) is = known_then_fields (name ∷ written) (defining name next known) (suc next) fs (known_more written known name next is)
   known_then written known next (Form.enum name symbols) is = known_more written known name next is
   known_then written known next (Form.fixed name count) is = known_more written known name next is
-  known_then written known next (Form.reference name) is = is
+  known_then written known next _ is = is
 
   known_then_all : (written : List Name) (known : Known) (next : ℕ) (fs : Forms) → IsKnown written known → IsKnown (written_after_all written fs) (known_after_all known next fs)
   known_then_all written known next no_forms is = is
@@ -102,9 +93,7 @@ above_clean next node faults parts within none no_more = rw (within, none, no_mo
 
 pub word_read : (word : List ℕ) (known : Known) (next : ℕ) (enclosing : List ℕ) → primitive_word (node_of_word word) ≡ Some word → nat_lt next max_nodes ≡ true
     → meaning_of (Data.string word) enclosing known next ≡ made known next (Form.primitive word)
-word_read word known next enclosing h within =
-    by_word (λ n text. meaning_of (Data.string text) enclosing known next ≡ made known next (Form.primitive text))
-    (rw within refl) (rw within refl) (rw within refl) (rw within refl) (rw within refl) (rw within refl) (node_of_word word) word h
+word_read word known next enclosing h within = grind arith
 
 not_word : (name : Name) → is_full_name name ≡ true → (word : List ℕ) → name_of word [] ≡ None → bytes_eq (name_text name) word ≡ false
 not_word name full word none =
@@ -127,25 +116,14 @@ name_no_word name full =
     ) refl
 
 kept_is : (enclosing : List ℕ) (name : Name) → is_kept enclosing name ≡ true → name.namespace ≡ [] → enclosing ≡ []
-kept_is [] name kept null = refl
-kept_is (c ∷ cs) name kept null = absurd (false≢true (sym (ap (λ text. not (is_empty_text text)) null) ∙ kept))
+kept_is enclosing name kept null = grind arith
 
 pub id_is : (o : Option ℕ) → is_some o ≡ true → o ≡ Some (unwrap_or o 0)
-id_is None h = absurd (false≢true h)
-id_is (Some p) h = refl
+id_is o h = grind arith
 
 pub reference_read : (name : Name) (known : Known) (next : ℕ) (enclosing : List ℕ) → is_full_name name ≡ true → is_kept enclosing name ≡ true → is_some (id_of name known) ≡ true
     → meaning_of (Data.string (name_text name)) enclosing known next ≡ made known next (Form.reference name)
-reference_read name known next enclosing full kept some =
-    rw (name_no_word name full, name_read name enclosing full (kept_is enclosing name kept)) (rw (id_is (id_of name known) some) refl)
+reference_read name known next enclosing full kept some = grind (arith, id_is, kept_is, name_no_word, name_read)
 
 pub name_given : (name : Name) (enclosing : List ℕ) → is_full_name name ≡ true → is_kept enclosing name ≡ true → name_from enclosing None (Some (name_text name)) ≡ Ok name
-name_given name enclosing full kept =
-    elim (has_dot (name_text name)) as (λ dot. within (cond dot (Ok []) (Ok enclosing)) ≡ Ok name) [
-      | true ↦ rw (name_read name [] full (λ _. refl)) refl
-      | false ↦ rw (name_read name enclosing full (kept_is enclosing name kept)) refl
-    ]
-  where
-    within : Result (List ℕ) SchemaError → Result Name SchemaError
-    within (Err fault) = Err fault
-    within (Ok space) = ok_or (name_of (name_text name) space) SchemaError.InvalidName
+name_given name enclosing full kept = grind (arith, kept_is, name_read)

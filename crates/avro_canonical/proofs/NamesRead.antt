@@ -7,7 +7,7 @@ use Rattle.std.proofs.lemmas.List.{get_or-append_right}
 use Rattle.std.proofs.lemmas.List.Folds.{list_all-append, list_any-append}
 use Rattle.std.proofs.lemmas.List.Sums.{suffix_len_is}
 use Rattle.std.proofs.lemmas.Bool.{cond-true, cond-false, and_parts, and_from, not_from_true, not_from_false, not-true, false≢true}
-use Rattle.avro_name.specs.Name.{Name, is_name_start, is_name_character, is_simple_name, onto_first, dotted_parts, is_dotted_name, is_namespace, is_primitive_word, is_full_name, has_dot, split_name, name_of}
+use Rattle.avro_name.specs.Name.{Name, is_name_character, is_simple_name, onto_first, dotted_parts, is_dotted_name, is_namespace, is_primitive_word, is_full_name, has_dot, split_name, name_of}
 use Rattle.avro_name.proofs.public.Names.{parts_at}
 use Rattle.avro_display.specs.DisplayTree.{name_text}
 use Rattle.avro_canonical.proofs.Words.{some-is}
@@ -24,9 +24,7 @@ free_of p q out (c ∷ cs) h =
     and_from (not (c == q)) (is_free_of q cs) (not_from_false _ (ne_eqb c q (λ e. false≢true (sym out ∙ ap p (sym e) ∙ parts.0)))) (free_of p q out cs parts.1)
 
 simple_passes : (c : ℕ) (cs : List ℕ) → is_simple_name (c ∷ cs) ≡ true → list_all is_name_character (c ∷ cs) ≡ true
-simple_passes c cs h =
-    let parts = and_parts (is_name_start c) (list_all is_name_character cs) h in
-    rw (parts.0, parts.1) refl
+simple_passes c cs h = grind (arith, and_parts)
 
 -- a simple name has no character that is no name's
 pub simple_free_of : (q : ℕ) → is_name_character q ≡ false → (text : List ℕ) → is_simple_name text ≡ true → is_free_of q text ≡ true
@@ -53,11 +51,7 @@ free_at q (c ∷ cs) zero h within = (and_parts (not (c == q)) (is_free_of q cs)
 free_at q (c ∷ cs) (suc k) h within = free_at q cs k (and_parts (not (c == q)) (is_free_of q cs) h).1 (omega (arith, within))
 
 after_at : (q : ℕ) (front text : List ℕ) (k : ℕ) → is_free_of q text ≡ true → length front + 1 ≤ k → k < length (front ++ q ∷ text) → not (get_or (front ++ q ∷ text) k 0 == q) ≡ true
-after_at q front text k free above below =
-    let index : (j : ℕ) × (k - length front ≡ suc j) = (k - length front - 1, omega arith) in
-    let there : get_or (front ++ q ∷ text) k 0 ≡ get_or text index.0 0 =
-    get_or-append_right front (q ∷ text) (length front) k 0 refl (omega arith) ∙ ap (λ i. get_or (q ∷ text) i 0) index.1 in
-    subst (λ c. not (c == q) ≡ true) (sym there) (free_at q text index.0 free (omega (arith, length-append front (q ∷ text), index.1)))
+after_at q front text k free above below = grind (arith, free_at, get_or-append_right, length-append)
 
 tail_length : (q : ℕ) (front text : List ℕ) → is_free_of q text ≡ true → suffix_len (λ c. not (c == q)) (front ++ q ∷ text) ≡ length text
 tail_length q front text free =
@@ -85,9 +79,7 @@ alone_dotted : (text : List ℕ) → is_simple_name text ≡ true → is_dotted_
 alone_dotted text good = ap (list_all is_simple_name) (part_alone text (simple_free_of 46 refl text good)) ∙ and_from (is_simple_name text) true good refl
 
 both_dotted : (front text : List ℕ) → is_dotted_name front ≡ true → is_simple_name text ≡ true → is_dotted_name (front ++ 46 ∷ text) ≡ true
-both_dotted front text spaced good =
-    ap (list_all is_simple_name) (parts_at front text) ∙ list_all-append is_simple_name (dotted_parts front) (dotted_parts text)
-    ∙ and_from (is_dotted_name front) (is_dotted_name text) spaced (alone_dotted text good)
+both_dotted front text spaced good = grind (arith, alone_dotted, and_from, list_all-append, parts_at)
 
 text_dotted : (namespace simple : List ℕ) → is_namespace namespace ≡ true → is_simple_name simple ≡ true → is_dotted_name (name_text (record { namespace = namespace; simple = simple })) ≡ true
 text_dotted [] simple spaced good = alone_dotted simple good
@@ -106,10 +98,7 @@ pub record IsFull (name : Name) : Type 0 where
   pub new : is_primitive_word name.simple ≡ false
 
 pub full_parts : (name : Name) → is_full_name name ≡ true → IsFull name
-full_parts name h =
-    let last = and_parts (is_namespace name.namespace && is_simple_name name.simple) (not (is_primitive_word name.simple)) h in
-    let first = and_parts (is_namespace name.namespace) (is_simple_name name.simple) last.0 in
-    record { spaced = first.0; good = first.1; new = not-true _ last.1 }
+full_parts name h = grind (arith, and_parts, not-true)
 
 pub name_dotted : (name : Name) → is_full_name name ≡ true → is_dotted_name (name_text name) ≡ true
 name_dotted name h = let full = full_parts name h in text_dotted name.namespace name.simple full.spaced full.good
@@ -119,9 +108,7 @@ read_as text enclosing name dotted split new = rw (dotted, split, new) refl
 
 -- in the null namespace, or where a namespace encloses it and its own isn't null
 pub name_read : (name : Name) (enclosing : List ℕ) → is_full_name name ≡ true → (name.namespace ≡ [] → enclosing ≡ []) → name_of (name_text name) enclosing ≡ Some name
-name_read name enclosing h null =
-    let full = full_parts name h in
-    read_as (name_text name) enclosing name (name_dotted name h) (text_split name.namespace name.simple enclosing full.good null) full.new
+name_read name enclosing h null = grind (arith, full_parts, name_dotted, read_as, text_split)
 
 pub names_same : (a b : Name) → is_full_name a ≡ true → is_full_name b ≡ true → name_text a ≡ name_text b → a ≡ b
 names_same a b first second e = some-is (sym (name_read a [] first (λ _. refl)) ∙ ap (λ text. name_of text []) e ∙ name_read b [] second (λ _. refl))

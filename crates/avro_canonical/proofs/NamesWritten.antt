@@ -1,5 +1,5 @@
 -- The marks of nodes whose names are written.
-use Rattle.std.proofs.Common.{subst, ◌≡◌, ℕ, zero, suc, List, [], ◌∷◌, refl, ap, ◌∙◌, sym, true, false, not, Some, None, Option, map, filter_map, length, replicate, slice_set, slice_get, option_map, unwrap_or}
+use Rattle.std.proofs.Common.{arith, subst, ◌≡◌, ℕ, zero, suc, List, [], ◌∷◌, refl, ap, ◌∙◌, sym, true, false, not, Some, None, Option, map, filter_map, length, replicate, slice_set, slice_get, option_map, unwrap_or}
 use Rattle.std.proofs.lemmas.Bool.{and_parts, or_parts, not-true}
 use Rattle.std.proofs.lemmas.Option.{slice_get-map, none-some}
 use Rattle.std.proofs.lemmas.List.{length-map}
@@ -30,7 +30,7 @@ marks-seen written (n ∷ ns) = ap (λ marks. is_written written n ∷ marks) (m
 none-yet : (os : List (Option Name)) → replicate (length os) false ≡ map (is_name_written []) os
 none-yet [] = refl
 none-yet (None ∷ os) = ap (λ marks. false ∷ marks) (none-yet os)
-none-yet (Some name ∷ os) = ap (λ marks. false ∷ marks) (none-yet os)
+none-yet (_ ∷ os) = ap (λ marks. false ∷ marks) (none-yet os)
 
 pub no_marks_yet : (nodes : List Node) → replicate (length nodes) false ≡ marks_of [] nodes
 no_marks_yet nodes = rw (marks-seen [] nodes, ← none-yet (map node_name nodes), length-map nodes node_name) refl
@@ -39,8 +39,7 @@ no_none : {A : Type 0} {x : A} → Some x ≡ None → ⊥
 no_none {x = x} e = none-some x (sym e)
 
 found-name : (name : Name) (o : Option Node) → node_name (unwrap_or o Node.null) ≡ Some name → option_map node_name o ≡ Some (Some name)
-found-name name None h = absurd (none-some name h)
-found-name name (Some n) h = ap (λ it. Some it) h
+found-name name o h = grind (arith, none-some)
 
 -- a type is in the list
 pub named-at : (nodes : List Node) (p : ℕ) (name : Name) → node_name (node_at nodes p) ≡ Some name → slice_get (map node_name nodes) p ≡ Some (Some name)

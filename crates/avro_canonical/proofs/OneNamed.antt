@@ -1,5 +1,5 @@
 -- A name occurs at one node of a schema.
-use Rattle.std.proofs.Common.{◌≡◌, ℕ, zero, suc, true, not, List, [], ◌∷◌, Option, Some, None, refl, sym, ◌∙◌, ap, subst, map, filter_map, slice_get}
+use Rattle.std.proofs.Common.{arith, ◌≡◌, ℕ, zero, suc, true, not, List, [], ◌∷◌, Option, Some, None, refl, sym, ◌∙◌, ap, map, filter_map, slice_get}
 use Rattle.std.specs.List.{list_any}
 use Rattle.std.proofs.lemmas.Bool.{and_parts, false≢true, not-true}
 use Rattle.avro_name.specs.Name.{Name, same_name}
@@ -29,9 +29,7 @@ one_id name (Some first ∷ os) (suc p) (suc q) distinct here there =
     ap suc (one_id name os p q (and_parts (not (list_any (same_name first) (filter_map (λ o. o) os))) (are_distinct same_name (filter_map (λ o. o) os)) distinct).1 here there)
 
 distinct_in : (nodes : List Node) → is_schema nodes ≡ true → are_distinct same_name (filter_map (λ o. o) (map node_name nodes)) ≡ true
-distinct_in nodes h =
-    subst (λ names. are_distinct same_name names ≡ true) (names-seen nodes)
-    (names_apart nodes h)
+distinct_in nodes h = grind (arith, names-seen, names_apart)
 
 pub one_named : (nodes : List Node) (p q : ℕ) (first second : Name) → is_schema nodes ≡ true → node_name (node_at nodes p) ≡ Some first → node_name (node_at nodes q) ≡ Some second
     → same_name first second ≡ true → node_at nodes p ≡ node_at nodes q

@@ -1,17 +1,16 @@
 -- A schema has one canonical text.
-use Rattle.std.proofs.Common.{◌≡◌, ℕ, List, subst, refl, ap, ◌∙◌, sym, true, false, Some}
+use Rattle.std.proofs.Common.{arith, ◌≡◌, ℕ, List, subst, refl, ap, ◌∙◌, sym, true, false, Some}
 use Rattle.std.proofs.lemmas.Bool.{false≢true}
 use Rattle.std.proofs.lemmas.Option.{none-some}
 use Rattle.avro_name.specs.Name.{Name}
 use Rattle.avro_schema.specs.Node.{Node, FieldNode, node_name}
 use Rattle.avro_canonical.specs.Form.{Form, Forms, FieldForms, form, field, form_text, written_after}
 use Rattle.avro_canonical.specs.Canonical.{IsForm, AreForms, AreFieldForms, IsCanonical, primitive_word, is_among, no_branch, branch, no_field, next_field}
-use Rattle.avro_canonical.proofs.Words.{some-is, by_word, none_apart}
+use Rattle.avro_canonical.proofs.Words.{some-is}
 
 -- no primitive type has a name
 no-name : (n : Node) (word : List ℕ) (name : Name) → primitive_word n ≡ Some word → node_name n ≡ Some name → ⊥
-no-name n word name h =
-    by_word (λ m text. node_name m ≡ Some name → ⊥) (λ k. none_apart k) (λ k. none_apart k) (λ k. none_apart k) (λ k. none_apart k) (λ k. none_apart k) (λ k. none_apart k) n word h
+no-name n word name h = grind arith
 
 -- a name is not both written and not
 not-both : (own name : Name) (written : List Name) → is_among own written ≡ false → Some own ≡ Some name → is_among name written ≡ true → ⊥
@@ -20,39 +19,25 @@ not-both own name written new same old = false≢true (sym new ∙ ap (λ it. is
 mutual
   one-form : {nodes : List Node} {written : List Name} {n : Node} {f g : Form} → IsForm nodes written n f → IsForm nodes written n g → f ≡ g
   one-form (IsForm.primitive h) (IsForm.primitive k) = ap (λ w. Form.primitive w) (some-is (sym h ∙ k))
-  one-form (IsForm.primitive h) (IsForm.array e) = absurd (none-some _ h)
-  one-form (IsForm.primitive h) (IsForm.map_of e) = absurd (none-some _ h)
-  one-form (IsForm.primitive h) (IsForm.union es) = absurd (none-some _ h)
-  one-form (IsForm.primitive h) (IsForm.record_of k es) = absurd (none-some _ h)
-  one-form (IsForm.primitive h) (IsForm.enum k) = absurd (none-some _ h)
-  one-form (IsForm.primitive h) (IsForm.fixed k) = absurd (none-some _ h)
   one-form {n = n} (IsForm.primitive h) (IsForm.again k old) = absurd (no-name n _ _ h k)
-  one-form (IsForm.array d) (IsForm.array e) = ap (λ f. Form.array f) (one-form d e)
-  one-form (IsForm.array d) (IsForm.primitive k) = absurd (none-some _ k)
-  one-form (IsForm.array d) (IsForm.again k old) = absurd (none-some _ k)
-  one-form (IsForm.map_of d) (IsForm.map_of e) = ap (λ f. Form.map_of f) (one-form d e)
-  one-form (IsForm.map_of d) (IsForm.primitive k) = absurd (none-some _ k)
-  one-form (IsForm.map_of d) (IsForm.again k old) = absurd (none-some _ k)
-  one-form (IsForm.union ds) (IsForm.union es) = ap (λ fs. Form.union fs) (one-form_all ds es)
-  one-form (IsForm.union ds) (IsForm.primitive k) = absurd (none-some _ k)
-  one-form (IsForm.union ds) (IsForm.again k old) = absurd (none-some _ k)
-  one-form (IsForm.record_of {name = name} h ds) (IsForm.record_of k es) = ap (λ fs. Form.record_of name fs) (one-form_fields ds es)
-  one-form (IsForm.record_of h ds) (IsForm.primitive k) = absurd (none-some _ k)
-  one-form (IsForm.record_of {name = name} h ds) (IsForm.again k old) = absurd (not-both _ _ _ h k old)
-  one-form (IsForm.enum h) (IsForm.enum k) = refl
-  one-form (IsForm.enum h) (IsForm.primitive k) = absurd (none-some _ k)
-  one-form (IsForm.enum h) (IsForm.again k old) = absurd (not-both _ _ _ h k old)
-  one-form (IsForm.fixed h) (IsForm.fixed k) = refl
-  one-form (IsForm.fixed h) (IsForm.primitive k) = absurd (none-some _ k)
-  one-form (IsForm.fixed h) (IsForm.again k old) = absurd (not-both _ _ _ h k old)
+  one-form (IsForm.primitive h) _ = absurd (none-some _ h)
   one-form (IsForm.again h old) (IsForm.again k more) = ap (λ name. Form.reference name) (some-is (sym h ∙ k))
   one-form {n = n} (IsForm.again h old) (IsForm.primitive k) = absurd (no-name n _ _ k h)
-  one-form (IsForm.again h old) (IsForm.array e) = absurd (none-some _ h)
-  one-form (IsForm.again h old) (IsForm.map_of e) = absurd (none-some _ h)
-  one-form (IsForm.again h old) (IsForm.union es) = absurd (none-some _ h)
   one-form (IsForm.again h old) (IsForm.record_of k es) = absurd (not-both _ _ _ k h old)
   one-form (IsForm.again h old) (IsForm.enum k) = absurd (not-both _ _ _ k h old)
   one-form (IsForm.again h old) (IsForm.fixed k) = absurd (not-both _ _ _ k h old)
+  one-form (IsForm.again h old) _ = absurd (none-some _ h)
+  one-form (IsForm.array d) (IsForm.array e) = ap (λ f. Form.array f) (one-form d e)
+  one-form (IsForm.map_of d) (IsForm.map_of e) = ap (λ f. Form.map_of f) (one-form d e)
+  one-form (IsForm.union ds) (IsForm.union es) = ap (λ fs. Form.union fs) (one-form_all ds es)
+  one-form (IsForm.record_of {name = name} h ds) (IsForm.record_of k es) = ap (λ fs. Form.record_of name fs) (one-form_fields ds es)
+  one-form (IsForm.record_of h ds) (IsForm.again k old) = absurd (not-both _ _ _ h k old)
+  one-form (IsForm.enum h) (IsForm.enum k) = refl
+  one-form (IsForm.enum h) (IsForm.again k old) = absurd (not-both _ _ _ h k old)
+  one-form (IsForm.fixed h) (IsForm.fixed k) = refl
+  one-form (IsForm.fixed h) (IsForm.again k old) = absurd (not-both _ _ _ h k old)
+  one-form _ (IsForm.primitive k) = absurd (none-some _ k)
+  one-form _ (IsForm.again k old) = absurd (none-some _ k)
 
   one-form_all : {nodes : List Node} {written : List Name} {ids : List ℕ} {fs gs : Forms} → AreForms nodes written ids fs → AreForms nodes written ids gs → fs ≡ gs
   one-form_all no_branch no_branch = refl

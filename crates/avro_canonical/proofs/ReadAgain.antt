@@ -1,5 +1,5 @@
 -- The tree of a canonical text declares a schema of that text.
-use Rattle.std.proofs.Common.{◌↔◌, ◌≡◌, ◌<◌, ◌≤◌, ℕ, suc, ◌+◌, true, false, List, [], ◌∷◌, ◌++◌, Some, None, refl, sym, ◌∙◌, ap, subst, arith, map, length}
+use Rattle.std.proofs.Common.{◌↔◌, ◌≡◌, ◌<◌, ◌≤◌, ℕ, suc, ◌+◌, true, false, List, [], ◌∷◌, ◌++◌, Some, None, refl, sym, ap, subst, arith, map, length}
 use Rattle.std.specs.List.{list_all}
 use Rattle.std.proofs.lemmas.Bool.{and_from, false≢true, lt-ltb, le-leb}
 use Rattle.std.proofs.lemmas.List.{append-nil, map-append}
@@ -23,14 +23,13 @@ use Rattle.avro_canonical.proofs.FormsRead.{form_read}
 use Rattle.avro_canonical.proofs.LaidForms.{laid_form}
 use Rattle.avro_canonical.proofs.LaidGood.{good_laid}
 use Rattle.avro_canonical.proofs.LaidNames.{laid_distinct}
-use Rattle.avro_canonical.proofs.Words.{by_word, none_apart}
+use Rattle.avro_canonical.proofs.Words.{none_apart}
 use Rattle.avro_schema.specs.Value.{Value}
 use Rattle.avro_cursor.specs.Encoding.{Encodes}
 use Rattle.avro_canonical.proofs.SameEncodings.{same_encodings}
 
 mutual
   whole_floats : (f : Form) → has_float (form_tree f) ≡ false
-  whole_floats (Form.primitive word) = refl
   whole_floats (Form.array f) = rw (whole_floats f) refl
   whole_floats (Form.map_of f) = rw (whole_floats f) refl
   whole_floats (Form.union fs) = all_floats fs
@@ -40,8 +39,7 @@ mutual
       text_floats : (texts : List (List ℕ)) → items_have_float (text_items texts) ≡ false
       text_floats [] = refl
       text_floats (text ∷ texts) = text_floats texts
-  whole_floats (Form.fixed name count) = refl
-  whole_floats (Form.reference name) = refl
+  whole_floats _ = refl
 
   all_floats : (fs : Forms) → items_have_float (form_trees fs) ≡ false
   all_floats no_forms = refl
@@ -53,8 +51,7 @@ mutual
 
 -- the nodes that are laid have no defaults
 word_whole : (base : List Node) (n : Node) (word : List ℕ) → primitive_word n ≡ Some word → (completed_node base (raw_node n) ≡ n) × (are_defaults_read base (raw_node n) ≡ true)
-word_whole base =
-    by_word (λ n word. (completed_node base (raw_node n) ≡ n) × (are_defaults_read base (raw_node n) ≡ true)) (refl, refl) (refl, refl) (refl, refl) (refl, refl) (refl, refl) (refl, refl)
+word_whole base = grind arith
 
 fields_whole : (base : List Node) (known : Known) (next : ℕ) (fs : FieldForms) → map (completed_field base) (map raw_field (laid_fields known next fs)) ≡ laid_fields known next fs
 fields_whole base known next no_fields = refl
@@ -70,15 +67,10 @@ abbrev AreWhole : List Node → List Node → Type 0
 AreWhole base nodes = (map (completed_node base) (raw_nodes nodes) ≡ nodes) × (list_all (are_defaults_read base) (raw_nodes nodes) ≡ true)
 
 whole_then : (base : List Node) (n : Node) (nodes : List Node) → completed_node base (raw_node n) ≡ n → are_defaults_read base (raw_node n) ≡ true → AreWhole base nodes → AreWhole base (n ∷ nodes)
-whole_then base n nodes one read rest =
-    (ap (λ m. m ∷ map (completed_node base) (raw_nodes nodes)) one ∙ ap (λ ms. n ∷ ms) rest.0, and_from _ _ read rest.1)
+whole_then base n nodes one read rest = grind (arith, and_from)
 
 whole_append : (base xs ys : List Node) → AreWhole base xs → AreWhole base ys → AreWhole base (xs ++ ys)
-whole_append base xs ys first later = (
-  ap (map (completed_node base)) (map-append raw_node xs ys) ∙ map-append (completed_node base) (raw_nodes xs) (raw_nodes ys)
-      ∙ ap (λ ms. ms ++ map (completed_node base) (raw_nodes ys)) first.0 ∙ ap (λ ms. xs ++ ms) later.0,
-  ap (list_all (are_defaults_read base)) (map-append raw_node xs ys) ∙ list_all-append (are_defaults_read base) (raw_nodes xs) (raw_nodes ys) ∙ and_from _ _ first.1 later.1,
-)
+whole_append base xs ys first later = grind (arith, and_from, list_all-append, map-append)
 
 mutual
   laid_whole : (base : List Node) (f : Form) (written : List Name) (known : Known) (next : ℕ) → WellMade written f → AreWhole base (laid known next f)
@@ -91,9 +83,7 @@ mutual
       whole_then base (Node.record_of name [] (laid_fields (defining name next known) (suc next) fs)) (laid_in_fields (defining name next known) (suc next) fs)
       (ap (λ xs. Node.record_of name [] xs) (fields_whole base (defining name next known) (suc next) fs)) (fields_read_whole base (defining name next known) (suc next) fs)
       (in_fields_whole base fs (name ∷ written) (defining name next known) (suc next) good.3)
-  laid_whole base (Form.enum name symbols) written known next good = (refl, refl)
-  laid_whole base (Form.fixed name count) written known next good = (refl, refl)
-  laid_whole base (Form.reference name) written known next good = (refl, refl)
+  laid_whole base _ written known next good = (refl, refl)
 
   all_whole : (base : List Node) (fs : Forms) (written : List Name) (known : Known) (next : ℕ) → AreWellMade written fs → AreWhole base (laid_all known next fs)
   all_whole base no_forms written known next good = (refl, refl)
@@ -109,24 +99,11 @@ mutual
 
 -- the root of a schema is no reference
 some_nodes : (f : Form) → WellMade [] f → 0 < nodes_in f
-some_nodes (Form.primitive word) good = omega arith
-some_nodes (Form.array f) good = omega arith
-some_nodes (Form.map_of f) good = omega arith
-some_nodes (Form.union fs) good = omega arith
-some_nodes (Form.record_of name fs) good = omega arith
-some_nodes (Form.enum name symbols) good = omega arith
-some_nodes (Form.fixed name count) good = omega arith
 some_nodes (Form.reference name) good = absurd (false≢true good.0)
+some_nodes _ good = omega arith
 
 root_id : (f : Form) → laid_id [] 0 f ≡ 0
-root_id (Form.primitive word) = refl
-root_id (Form.array f) = refl
-root_id (Form.map_of f) = refl
-root_id (Form.union fs) = refl
-root_id (Form.record_of name fs) = refl
-root_id (Form.enum name symbols) = refl
-root_id (Form.fixed name count) = refl
-root_id (Form.reference name) = refl
+root_id f = grind arith
 
 laid_schema : (f : Form) → WellMade [] f → nodes_in f ≤ max_nodes → is_schema (laid [] 0 f) ≡ true
 laid_schema f good few =

@@ -19,16 +19,16 @@ pub data EachAt {A : Type 0} (P : ℕ → ℕ → Type 0) (seen : A → List ℕ
   none_each : EachAt P seen None None
   each : {x y : A} → Each P (seen x) (seen y) → EachAt P seen (Some x) (Some y)
 
+abbrev pub Asked : Type 0
+Asked = Bool × Bool × Bool × Bool × Bool × Bool × Option (List (List ℕ)) × Option ℕ
+
+-- what a node asks of a datum, except for its parts
+abbrev pub asked_of : Node → Asked
+asked_of n = (is_null_node n, is_boolean_node n, is_int_node n, is_long_node n, is_bytes_node n, is_string_node n, symbols_of n, fixed_length n)
+
 -- Two nodes ask the same of a datum, except for its parts, and their parts are related.
 pub record Matching (P : ℕ → ℕ → Type 0) (m n : Node) : Type 0 where
-  pub null : is_null_node m ≡ is_null_node n
-  pub boolean : is_boolean_node m ≡ is_boolean_node n
-  pub int : is_int_node m ≡ is_int_node n
-  pub long : is_long_node m ≡ is_long_node n
-  pub bytes : is_bytes_node m ≡ is_bytes_node n
-  pub string : is_string_node m ≡ is_string_node n
-  pub symbols : symbols_of m ≡ symbols_of n
-  pub count : fixed_length m ≡ fixed_length n
+  pub same : asked_of m ≡ asked_of n
   pub items : BothAt P (items_node m) (items_node n)
   pub values : BothAt P (values_node m) (values_node n)
   pub branches : EachAt P (λ ps. ps) (branches_of m) (branches_of n)
@@ -60,12 +60,12 @@ Closed a b P = (p q : ℕ) → P p q → Matching P (node_at a p) (node_at b q)
 
 mutual
   pub same_fit : (a b : List Node) {P : ℕ → ℕ → Type 0} → Closed a b P → (v : Value) (p q : ℕ) → P p q → fits a (node_at a p) v ≡ fits b (node_at b q) v
-  same_fit a b closed Value.null p q r = (closed p q r).null
-  same_fit a b closed (Value.boolean truth) p q r = (closed p q r).boolean
-  same_fit a b closed (Value.int i) p q r = ap (λ t. t && is_int i) (closed p q r).int
-  same_fit a b closed (Value.long i) p q r = ap (λ t. t && is_long i) (closed p q r).long
-  same_fit a b closed (Value.bytes content) p q r = ap (λ t. t && are_bytes content) (closed p q r).bytes
-  same_fit a b closed (Value.string text) p q r = ap (λ t. t && is_text text) (closed p q r).string
+  same_fit a b closed Value.null p q r = ap (λ (t : Asked). t.0) (closed p q r).same
+  same_fit a b closed (Value.boolean truth) p q r = ap (λ (t : Asked). t.1) (closed p q r).same
+  same_fit a b closed (Value.int i) p q r = ap (λ (t : Asked). t.2 && is_int i) (closed p q r).same
+  same_fit a b closed (Value.long i) p q r = ap (λ (t : Asked). t.3 && is_long i) (closed p q r).same
+  same_fit a b closed (Value.bytes content) p q r = ap (λ (t : Asked). t.4 && are_bytes content) (closed p q r).same
+  same_fit a b closed (Value.string text) p q r = ap (λ (t : Asked). t.5 && is_text text) (closed p q r).same
   same_fit a b closed (Value.array vs) p q r =
       ap (λ t. is_count (values_count vs) && t)
       (by_both (λ id. each_fits a (node_at a id) vs) (λ id. each_fits b (node_at b id) vs) (λ x y s. same_each a b closed vs x y s) (closed p q r).items)
@@ -76,8 +76,8 @@ mutual
       by_branch (λ id. fits a (node_at a id) v) (λ id. fits b (node_at b id) v) (λ x y s. same_fit a b closed v x y s) k (closed p q r).branches
   same_fit a b closed (Value.record_of vs) p q r =
       by_fields (λ ps. fields_fit a ps vs) (λ ps. fields_fit b ps vs) (λ xs ys s. same_fields a b closed vs xs ys s) (closed p q r).fields
-  same_fit a b closed (Value.enum k) p q r = ap (λ o. is_some_and (λ symbols. nat_lt k (length symbols)) o) (closed p q r).symbols
-  same_fit a b closed (Value.fixed content) p q r = ap (λ o. are_bytes content && is_some_and (λ count. length content == count) o) (closed p q r).count
+  same_fit a b closed (Value.enum k) p q r = ap (λ (t : Asked). is_some_and (λ symbols. nat_lt k (length symbols)) t.6) (closed p q r).same
+  same_fit a b closed (Value.fixed content) p q r = ap (λ (t : Asked). are_bytes content && is_some_and (λ count. length content == count) t.7) (closed p q r).same
 
   same_each : (a b : List Node) {P : ℕ → ℕ → Type 0} → Closed a b P → (vs : Values) (p q : ℕ) → P p q → each_fits a (node_at a p) vs ≡ each_fits b (node_at b q) vs
   same_each a b closed no_values p q r = refl
@@ -90,12 +90,8 @@ mutual
       ap (λ t. t && entries_fit a (node_at a p) es) (same_fit a b closed v p q r) ∙ ap (λ t. fits b (node_at b q) v && t) (same_entries a b closed es p q r)
 
   same_fields : (a b : List Node) {P : ℕ → ℕ → Type 0} → Closed a b P → (vs : Values) (ps qs : List ℕ) → Each P ps qs → fields_fit a ps vs ≡ fields_fit b qs vs
-  same_fields a b closed no_values [] [] no_pairs = refl
-  same_fields a b closed no_values (p ∷ ps) (q ∷ qs) (pairs r rs) = refl
-  same_fields a b closed no_values [] (q ∷ qs) r = elim r [ ]
-  same_fields a b closed no_values (p ∷ ps) [] r = elim r [ ]
-  same_fields a b closed (value v vs) [] (q ∷ qs) r = elim r [ ]
-  same_fields a b closed (value v vs) (p ∷ ps) [] r = elim r [ ]
-  same_fields a b closed (value v vs) [] [] no_pairs = refl
-  same_fields a b closed (value v vs) (p ∷ ps) (q ∷ qs) (pairs r rs) =
+  same_fields a b closed no_values ps qs no_pairs = refl
+  same_fields a b closed no_values ps qs (pairs r rs) = refl
+  same_fields a b closed (value v vs) ps qs no_pairs = refl
+  same_fields a b closed (value v vs) _ _ (pairs {p = p} {q = q} {ps = ps} {qs = qs} r rs) =
       ap (λ t. t && fields_fit a ps vs) (same_fit a b closed v p q r) ∙ ap (λ t. fits b (node_at b q) v && t) (same_fields a b closed vs ps qs rs)

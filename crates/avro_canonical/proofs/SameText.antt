@@ -1,5 +1,5 @@
 -- Well made forms of one text are one form.
-use Rattle.std.proofs.Common.{◌≡◌, ℕ, true, false, ◌==◌, List, [], ◌∷◌, ◌++◌, get_or, map, Some, None, refl, sym, ◌∙◌, ap, eq-eqb, codes, decimal, nat_le, bytes_eq}
+use Rattle.std.proofs.Common.{arith, ◌≡◌, ℕ, true, false, ◌==◌, List, [], ◌∷◌, ◌++◌, get_or, map, Some, None, refl, sym, ◌∙◌, ap, eq-eqb, codes, decimal, nat_le, bytes_eq}
 use Rattle.std.specs.List.{list_all}
 use Rattle.std.proofs.lemmas.Bool.{and_parts, false≢true}
 use Rattle.std.proofs.lemmas.List.{append_assoc, append_cancel_left}
@@ -50,13 +50,7 @@ by_map f g w same made (of_map {f = other}) r s e =
 head_cut : (a b t u x y c d r s : List ℕ) → is_free_of 34 a ≡ true → is_free_of 34 b ≡ true
     → (codes "{\"name\":" ++ quoted a ++ t ++ x ++ c) ++ r ≡ (codes "{\"name\":" ++ quoted b ++ u ++ y ++ d) ++ s
     → (a ≡ b) × (t ++ (x ++ (c ++ r)) ≡ u ++ (y ++ (d ++ s)))
-head_cut a b t u x y c d r s first second e =
-    let front : List ℕ = codes "{\"name\":" in
-    until_quote a b (t ++ (x ++ (c ++ r))) (u ++ (y ++ (d ++ s))) first second
-    (append_cancel_left front _ _ (sym (moved front (quoted a) t x c r) ∙ e ∙ moved front (quoted b) u y d s))
-  where
-    moved : (front q t x c r : List ℕ) → (front ++ q ++ t ++ x ++ c) ++ r ≡ front ++ (q ++ (t ++ (x ++ (c ++ r))))
-    moved front q t x c r = simp append_assoc refl
+head_cut a b t u x y c d r s first second e = grind (arith, append_assoc, append_cancel_left, until_quote)
 
 -- the words of their types differ in the first letter
 types_apart : (a b : List ℕ) → a ≡ b → (get_or a 9 0 == get_or b 9 0) ≡ false → ⊥
@@ -143,8 +137,7 @@ by_union (form f fs) w made same g v other (of_union {fs = form h hs}) r s e =
 
 one_form : (f h : Form) (u v r s : List ℕ) → SameAs f → (w : List Name) → WellMade w h → (form_text f ++ u) ++ 93 ∷ r ≡ (form_text h ++ v) ++ 93 ∷ s
     → (f ≡ h) × (u ++ 93 ∷ r ≡ v ++ 93 ∷ s)
-one_form f h u v r s same w made e =
-    same h w made (u ++ 93 ∷ r) (v ++ 93 ∷ s) (sym (append_assoc (form_text f) u (93 ∷ r)) ∙ e ∙ append_assoc (form_text h) v (93 ∷ s))
+one_form f h u v r s same w made e = grind (arith, append_assoc)
 
 abbrev field_text : List ℕ → Form → List ℕ
 field_text name f = codes "{\"name\":" ++ quoted name ++ codes ",\"type\":" ++ form_text f ++ codes "}"

@@ -1,23 +1,22 @@
 -- Each step of writing: what is left then, after the text then, is what was left, after the text that was.
-use Rattle.std.proofs.Common.{subst, ◌≡◌, ℕ, List, [], ◌∷◌, ◌++◌, refl, ap, ◌∙◌, sym, true, false, Bool, Some, None, map, codes, slice_set, slice_get, unwrap_or}
-use Rattle.std.specs.Prelude.{Result, Ok, Err, OnOk}
+use Rattle.std.proofs.Common.{arith, subst, ◌≡◌, ℕ, List, [], ◌∷◌, ◌++◌, refl, ◌∙◌, sym, true, false, Bool, Some, None, map, codes, slice_set, slice_get, unwrap_or}
+use Rattle.std.specs.Prelude.{Result, OnOk}
 use Rattle.std.proofs.lemmas.Option.{slice_get-map}
 use Rattle.std.proofs.lemmas.List.{append_assoc, append-nil}
 use Rattle.avro_name.specs.Name.{Name}
 use Rattle.avro_schema.specs.Node.{Node, FieldNode, node_at, node_name}
 use Rattle.avro_schema.specs.WellFormed.{is_schema}
 use Rattle.avro_schema.proofs.public.GoodNodes.{names_apart}
-use Rattle.avro_canonical.specs.Form.{Form, full_text, form_text}
+use Rattle.avro_canonical.specs.Form.{Form, full_text}
 use Rattle.avro_canonical.specs.Canonical.{IsForm, IsCanonical, is_among}
-use Rattle.avro_canonical.specs.inside.Pending.{Pending, of_node, branches, fields, end, IsLeft, IsStep, is_name_written, marks_of, opening_of, parts_of, before_branch, next_branch, before_field, following_fields}
+use Rattle.avro_canonical.specs.inside.Pending.{Pending, of_node, branches, fields, end, IsLeft, IsStep, marks_of, opening_of, parts_of, before_branch, next_branch, before_field, following_fields}
 use Rattle.avro_canonical.proofs.NamesWritten.{marked, marks-seen, named-at}
 use Rattle.avro_canonical.proofs.Steps.{begun_name, opened, passed_end, passed_branches, passed_branch, passed_fields, passed_field}
 
 -- its mark says whether its name is written
 mark-at : (written : List Name) (nodes : List Node) (p : ℕ) (name : Name) → slice_get (map node_name nodes) p ≡ Some (Some name)
     → unwrap_or (slice_get (marks_of written nodes) p) false ≡ is_among name written
-mark-at written nodes p name at =
-    rw (marks-seen written nodes, slice_get-map (is_name_written written) (map node_name nodes) p, at) refl
+mark-at written nodes p name at = grind (arith, marks-seen, slice_get-map)
 
 pub step-unnamed : (nodes : List Node) (marks : List Bool) (p : ℕ) (n : Node) (ps : List Pending) (old : List ℕ) → n ≡ node_at nodes p → node_name n ≡ None
     → IsStep nodes marks (of_node p ∷ ps) old marks (parts_of n ++ ps) (old ++ opening_of n)
@@ -73,35 +72,20 @@ Begins nodes marks ps text =
     (written : List Name) × (marks ≡ marks_of written nodes) × ((rest : List ℕ) → IsLeft nodes written ps rest → IsCanonical nodes (text ++ rest))
 
 pub begins_first : (nodes : List Node) (marks : List Bool) → marks ≡ marks_of [] nodes → Begins nodes marks (of_node 0 ∷ []) []
-begins_first nodes marks seen = (
-  [],
-  seen,
-  λ rest left.
-      record { form = left.0; formed = left.2; spelled = left.4 ∙ ap (λ t. form_text left.0 ++ t) left.3 ∙ append-nil (form_text left.0) },
-)
+begins_first nodes marks seen = grind (arith, append-nil)
 
 pub begins_then : (nodes : List Node) (marks : List Bool) (ps : List Pending) (text : List ℕ) (marks-then : List Bool) (then : List Pending) (text-then : List ℕ)
     → Begins nodes marks ps text → IsStep nodes marks ps text marks-then then text-then → Begins nodes marks-then then text-then
-begins_then nodes marks ps text marks-then then text-then (written, seen, begins) step =
-    let s = step written seen in
-    (s.0, s.1, λ rest left. let m = s.2 rest left in subst (λ t. IsCanonical nodes t) m.2 (begins m.0 m.1))
+begins_then nodes marks ps text marks-then then text-then begins step = grind arith
 
 -- a step from the last part of a text is one from the whole text
 pub step-behind : (nodes : List Node) (marks : List Bool) (ps : List Pending) (hashed old : List ℕ) (marks-then : List Bool) (then : List Pending) (new : List ℕ)
     → IsStep nodes marks ps old marks-then then new → IsStep nodes marks ps (hashed ++ old) marks-then then (hashed ++ new)
-step-behind nodes marks ps hashed old marks-then then new step written seen =
-    let s = step written seen in (
-      s.0,
-      s.1,
-      λ rest left.
-          let m = s.2 rest left in
-          (m.0, m.1, append_assoc hashed old m.0 ∙ ap (λ t. hashed ++ t) m.2 ∙ sym (append_assoc hashed new rest)),
-    )
+step-behind nodes marks ps hashed old marks-then then new step written seen = grind (arith, append_assoc)
 
 -- the same of equal marks and texts
 pub begins_as : (nodes : List Node) (marks same : List Bool) (ps : List Pending) (text then : List ℕ) → marks ≡ same → text ≡ then → Begins nodes same ps then → Begins nodes marks ps text
-begins_as nodes marks same ps text then e f begins =
-    subst (λ ms. Begins nodes ms ps text) (sym e) (subst (λ t. Begins nodes same ps t) (sym f) begins)
+begins_as nodes marks same ps text then e f begins = grind arith
 
 pub begins_last : (nodes : List Node) (marks : List Bool) (ps : List Pending) (text : List ℕ) → ps ≡ [] → Begins nodes marks ps text → IsCanonical nodes text
 begins_last nodes marks ps text none (written, seen, begins) =
@@ -110,11 +94,8 @@ begins_last nodes marks ps text none (written, seen, begins) =
 -- a step where the call that it ends with went well
 pub ok-step : {E : Type 0} (r : Result (Unit {0}) E) (nodes : List Node) (marks marks-then : List Bool) (before then then-is : List Pending) (old new new-is : List ℕ)
     → OnOk r (new ≡ new-is) → OnOk r (then ≡ then-is) → IsStep nodes marks before old marks-then then-is new-is → OnOk r (IsStep nodes marks before old marks-then then new)
-ok-step (Ok x) nodes marks marks-then before then then-is old new new-is text left step =
-    subst (λ ps. IsStep nodes marks before old marks-then ps new) (sym left) (subst (λ t. IsStep nodes marks before old marks-then then-is t) (sym text) step)
-ok-step (Err e) nodes marks marks-then before then then-is old new new-is text left step = tt
+ok-step r nodes marks marks-then before then then-is old new new-is text left step = grind arith
 
 pub ok-text : {E : Type 0} (r : Result (Unit {0}) E) (nodes : List Node) (marks marks-then : List Bool) (before then : List Pending) (old new new-is : List ℕ)
     → OnOk r (new ≡ new-is) → IsStep nodes marks before old marks-then then new-is → OnOk r (IsStep nodes marks before old marks-then then new)
-ok-text (Ok x) nodes marks marks-then before then old new new-is text step = subst (λ t. IsStep nodes marks before old marks-then then t) (sym text) step
-ok-text (Err e) nodes marks marks-then before then old new new-is text step = tt
+ok-text r nodes marks marks-then before then old new new-is text step = grind arith

@@ -1,5 +1,5 @@
 -- How the text of a form is cut into its parts.
-use Rattle.std.proofs.Common.{◌≡◌, ◌<◌, ℕ, ◌^◌, true, false, not, ◌&&◌, ◌==◌, if◌then◌else◌, List, [], ◌∷◌, ◌++◌, get_or, map, Some, None, refl, sym, ◌∙◌, ap, subst, arith, eq-eqb, decimal, nat_le, nat_lt, length, bytes_eq}
+use Rattle.std.proofs.Common.{◌≡◌, ◌<◌, ℕ, ◌^◌, true, false, not, ◌==◌, if◌then◌else◌, List, [], ◌∷◌, ◌++◌, get_or, map, Some, None, refl, sym, ◌∙◌, ap, subst, arith, eq-eqb, decimal, nat_le}
 use Rattle.std.specs.List.{list_all}
 use Rattle.std.specs.Str.{all_ascii_digits}
 use Rattle.std.specs.Char.{is_ascii_digit}
@@ -8,7 +8,6 @@ use Rattle.std.proofs.lemmas.List.{append_assoc, append_cancel_left}
 use Rattle.std.proofs.lemmas.Fmt.{digits_decimal}
 use Rattle.std.proofs.lemmas.Str.Parse.{numerals_by_value, tells_all_ascii_digits}
 use Rattle.avro_name.specs.Name.{Name, is_full_name, is_simple_name, name_of}
-use Rattle.avro_schema.specs.Distinct.{are_distinct}
 use Rattle.avro_schema.specs.WellFormed.{is_enum, max_count}
 use Rattle.avro_display.specs.DisplayTree.{name_text}
 use Rattle.avro_canonical.specs.Form.{Form, Forms, FieldForms, quoted, after_commas, with_commas, form_text}
@@ -37,10 +36,8 @@ kind_of (Form.primitive word) = word_kind
 kind_of (Form.array f) = array_kind
 kind_of (Form.map_of f) = map_kind
 kind_of (Form.union fs) = union_kind
-kind_of (Form.record_of name fs) = defined_kind
-kind_of (Form.enum name symbols) = defined_kind
-kind_of (Form.fixed name count) = defined_kind
 kind_of (Form.reference name) = word_kind
+kind_of _ = defined_kind
 
 pub data IsOf : Kind → Form → Type 0 where
   of_word : {word : List ℕ} → IsOf word_kind (Form.primitive word)
@@ -63,14 +60,7 @@ is_of (Form.fixed name count) = of_fixed
 is_of (Form.reference name) = of_reference
 
 pub kind_told : (f : Form) (r : List ℕ) → text_kind (form_text f ++ r) ≡ kind_of f
-kind_told (Form.primitive word) r = refl
-kind_told (Form.array f) r = refl
-kind_told (Form.map_of f) r = refl
-kind_told (Form.union fs) r = refl
-kind_told (Form.record_of name fs) r = refl
-kind_told (Form.enum name symbols) r = refl
-kind_told (Form.fixed name count) r = refl
-kind_told (Form.reference name) r = refl
+kind_told f r = grind arith
 
 pub like : (f g : Form) (r s : List ℕ) → form_text f ++ r ≡ form_text g ++ s → IsOf (kind_of f) g
 like f g r s e = subst (λ kind. IsOf kind g) (sym (kind_told g s) ∙ ap text_kind (sym e) ∙ kind_told f r) (is_of g)
@@ -94,8 +84,7 @@ until q (c ∷ cs) (d ∷ ds) r s first second e =
     (ap (λ x. x ∷ cs) (first-is e) ∙ ap (λ xs. d ∷ xs) later.0, later.1)
 
 pub until_quote : (a b r s : List ℕ) → is_free_of 34 a ≡ true → is_free_of 34 b ≡ true → quoted a ++ r ≡ quoted b ++ s → (a ≡ b) × (r ≡ s)
-until_quote a b r s first second e =
-    until 34 a b r s first second (sym (append_assoc a (34 ∷ []) r) ∙ rest-is e ∙ append_assoc b (34 ∷ []) s)
+until_quote a b r s first second e = grind (arith, append_assoc, rest-is, until)
 
 pub decimal_free : (n : ℕ) → n < 2 ^ 64 → is_free_of 125 (decimal n) ≡ true
 decimal_free n small =
@@ -109,11 +98,7 @@ decimal_free n small =
 
 -- what is between a beginning and what follows
 pub inside : (front a b c r s d : List ℕ) → (front ++ a ++ c) ++ r ≡ (front ++ b ++ d) ++ s → a ++ (c ++ r) ≡ b ++ (d ++ s)
-inside front a b c r s d e =
-    append_cancel_left front (a ++ (c ++ r)) (b ++ (d ++ s)) (sym (moved a c r) ∙ e ∙ moved b d s)
-  where
-    moved : (x y z : List ℕ) → (front ++ x ++ y) ++ z ≡ front ++ (x ++ (y ++ z))
-    moved x y z = simp append_assoc refl
+inside front a b c r s d e = grind (arith, append_assoc, append_cancel_left)
 
 -- the symbols of two enums
 pub more_symbols : (xs ys : List (List ℕ)) (r s : List ℕ) → list_all is_simple_name xs ≡ true → list_all is_simple_name ys ≡ true
@@ -137,11 +122,7 @@ all_symbols (x ∷ xs) [] r s first second e = absurd (apart e refl)
 all_symbols (x ∷ xs) (y ∷ ys) r s first second e = more_symbols (x ∷ xs) (y ∷ ys) r s first second (ap (λ t. 44 ∷ t) e)
 
 pub symbols_named : (symbols : List (List ℕ)) → is_enum symbols None ≡ true → list_all is_simple_name symbols ≡ true
-symbols_named symbols h =
-    let counted = nat_lt 0 (length symbols) && nat_le (length symbols) max_count in
-    let first = and_parts (counted && list_all is_simple_name symbols && are_distinct bytes_eq symbols) true h in
-    let second = and_parts (counted && list_all is_simple_name symbols) (are_distinct bytes_eq symbols) first.0 in
-    (and_parts counted (list_all is_simple_name symbols) second.0).1
+symbols_named symbols h = grind (arith, and_parts)
 
 pub small_count : (count : ℕ) → nat_le count max_count ≡ true → count < 2 ^ 64
 small_count count h = omega (arith, leb-true count max_count h)

@@ -1,16 +1,13 @@
 -- What a pair must hold, and pairs from an index on.
-use Rattle.std.proofs.Common.{◌≡◌, ℕ, zero, suc, ◌+◌, ◌<◌, get_or, Bool, true, false, ◌&&◌, ◌||◌, List, [], ◌∷◌, drop, refl, sym, ap, subst, arith, length}
-use Rattle.std.proofs.lemmas.Bool.{true≢false, false≢true}
+use Rattle.std.proofs.Common.{◌≡◌, ℕ, zero, suc, ◌+◌, ◌<◌, get_or, Bool, true, false, ◌&&◌, ◌||◌, List, [], ◌∷◌, drop, sym, ap, subst, arith, length}
+use Rattle.std.proofs.lemmas.Bool.{true≢false}
 use Rattle.std.specs.List.{list_all}
 use Rattle.avro_compare.specs.Children.{Pair}
 use Rattle.avro_certificate.specs.SeenPair.{pair_of, pairs_of}
 
 -- a pair of nodes of which the writer's is not dead
 pub live_pair : (a b c x : Bool) → a ≡ true → b ≡ true → c ≡ false → x ≡ (a && b && (c || x))
-live_pair true true false x h k m = refl
-live_pair true true true x h k m = absurd (true≢false m)
-live_pair true false c x h k m = absurd (false≢true k)
-live_pair false b c x h k m = absurd (false≢true h)
+live_pair a b c x h k m = grind (arith, true≢false)
 
 -- pairs from an index on, of which the first passes
 pub pairs_next : (test : Pair → Bool) (ps : List (ℕ × ℕ)) (i : ℕ) → i < length ps → test (pair_of (get_or ps i (0, 0))) ≡ true

@@ -1,10 +1,9 @@
 -- Numbers in decimal, digit by digit.
-use Rattle.std.proofs.Common.{◌≡◌, ℕ, zero, suc, ◌+◌, ◌*◌, ◌/◌, ◌%◌, ◌<◌, ◌≤◌, Bool, true, false, ◌⊎◌, inl, inr, List, [], ◌∷◌, ◌++◌, length, get_or, take, map, cond, refl, sym, ap, ◌∙◌, subst, arith, add-one, take-suc, take_all}
-use Rattle.std.proofs.lemmas.Bool.{eqb-true}
+use Rattle.std.proofs.Common.{◌≡◌, ℕ, zero, suc, ◌+◌, ◌*◌, ◌<◌, ◌≤◌, ◌⊎◌, inl, inr, List, [], ◌∷◌, ◌++◌, length, get_or, take, map, refl, sym, ap, ◌∙◌, arith, add-one, take-suc, take_all}
 use Rattle.std.proofs.lemmas.List.{length-map}
-use Rattle.std.proofs.lemmas.Int.Digits.{digits_of_step, first_digits_of, all_below_base_digits_of, length-digits_of_step}
+use Rattle.std.proofs.lemmas.Int.Digits.{first_digits_of, all_below_base_digits_of, length-digits_of_step}
 use Rattle.std.proofs.lemmas.Grind.{common_steps}
-use Rattle.std.specs.Prelude.{◌==◌, min}
+use Rattle.std.specs.Prelude.{min}
 use Rattle.std.specs.Int.Digits.{digits_of, AllBelowBase}
 use Rattle.avro_certificate.specs.CertificateText.{decimal}
 use Rattle.avro_certificate.specs.inside.CertificateLines.{bounded}
@@ -20,18 +19,11 @@ length_digits n h = ap length (above_zero n h) ∙ length-map (digits_of 10 n) (
 
 -- each byte is a digit
 pub decimal_digits : (n i : ℕ) → i < length (decimal n) → (48 ≤ get_or (decimal n) i 0) × (get_or (decimal n) i 0 < 58)
-decimal_digits zero zero here = (omega arith, omega arith)
-decimal_digits zero (suc i) here = absurd (omega arith)
-decimal_digits (suc n) i here =
-    let e = above_zero (suc n) (omega arith) in
-    let within : i < length (digits_of 10 (suc n)) = omega (arith, length_digits (suc n) (omega arith)) in
-    subst (λ (l : List ℕ). (48 ≤ get_or l i 0) × (get_or l i 0 < 58)) (sym e)
-    (digit_at (digits_of 10 (suc n)) i (all_below_base_digits_of 10 (suc n) (omega arith)) within)
+decimal_digits n i here = grind (arith, above_zero, all_below_base_digits_of, digit_at, length_digits)
 
 -- there is a digit
 pub decimal_some : (n : ℕ) → 0 < length (decimal n)
-decimal_some zero = omega arith
-decimal_some (suc n) = omega (arith, length_digits (suc n) (omega arith), length-digits_of_step 10 (suc n) (omega arith) (omega arith))
+decimal_some n = grind (arith, length-digits_of_step, length_digits)
 
 first_of_map : (ds : List ℕ) → 0 < length ds → get_or (map (λ d. 48 + d) ds) 0 0 ≡ 48 + get_or ds 0 0
 first_of_map [] h = absurd (omega arith)
@@ -39,9 +31,7 @@ first_of_map (d ∷ ds) h = refl
 
 -- no number but 0 begins with the digit 0
 pub decimal_first : (n : ℕ) → 0 < n → 48 < get_or (decimal n) 0 0
-decimal_first n h =
-    let some : 0 < length (digits_of 10 n) = omega (arith, length-digits_of_step 10 n (omega arith) h) in
-    omega (arith, ap (λ (l : List ℕ). get_or l 0 0) (above_zero n h), first_of_map (digits_of 10 n) some, first_digits_of 10 n (omega arith) h)
+decimal_first n h = grind (arith, above_zero, first_digits_of, first_of_map, length-digits_of_step)
 
 -- the number that is kept, digit by digit
 pub bounded_digit : (d : ℕ) → d < 10 → min 4096 (0 * 10 + d) ≡ bounded d
@@ -66,8 +56,7 @@ pub begins_more : (bs : List ℕ) (i number d : ℕ) → i < length bs → get_o
 begins_more bs i number d here digit small begun more = (λ z. absurd (omega arith), λ _. longer (order_zero i))
   where
     order_zero : (k : ℕ) → (k ≡ 0) ⊎ (0 < k)
-    order_zero zero = inl refl
-    order_zero (suc k) = inr (omega arith)
+    order_zero k = grind arith
 
     longer : (i ≡ 0) ⊎ (0 < i) → (n : ℕ) × (take (i + 1) bs ≡ decimal n) × (min 4096 (number * 10 + d) ≡ bounded n)
     longer (inl z) = (
@@ -85,21 +74,14 @@ begins_more bs i number d here digit small begun more = (λ z. absurd (omega ari
         )
       where
         positive : (k : ℕ) → (k ≡ 0 → ⊥) → 0 < k
-        positive zero h = absurd (h refl)
-        positive (suc k) h = omega arith
+        positive k h = grind arith
 
 -- a text with a byte that is no digit is no number
 pub no_digit : (bs : List ℕ) (i n : ℕ) → i < length bs → (48 ≤ get_or bs i 0 → get_or bs i 0 < 58 → ⊥) → bs ≡ decimal n → ⊥
-no_digit bs i n here other e =
-    let in_digits = decimal_digits n i (subst (λ (l : List ℕ). i < length l) e here) in
-    let same = ap (λ (l : List ℕ). get_or l i 0) e in
-    other (omega (arith, same, in_digits.0)) (omega (arith, same, in_digits.1))
+no_digit bs i n here other e = grind (arith, decimal_digits)
 
 first_of_take : (bs : List ℕ) (i : ℕ) → 0 < i → get_or (take i bs) 0 0 ≡ get_or bs 0 0
-first_of_take [] zero h = absurd (omega arith)
-first_of_take [] (suc i) h = refl
-first_of_take (b ∷ bs) zero h = absurd (omega arith)
-first_of_take (b ∷ bs) (suc i) h = refl
+first_of_take bs i h = grind arith
 
 -- nor one with digits behind a leading zero
 pub no_leading_zero : (bs : List ℕ) (i n : ℕ) → 0 < i → i < length bs → Begins bs i 0 → bs ≡ decimal n → ⊥
@@ -111,8 +93,7 @@ no_leading_zero bs i n some here begun e =
     cases n e first single
   where
     cases : (m : ℕ) → bs ≡ decimal m → get_or bs 0 0 ≡ 48 → length (take i bs) ≡ 1 → ⊥
-    cases zero e first single = let one : length bs ≡ 1 = ap length e in omega arith
-    cases (suc m) e first single = let above = decimal_first (suc m) (omega arith) in omega (arith, ap (λ (l : List ℕ). get_or l 0 0) e, above)
+    cases m e first single = grind (arith, decimal_first)
 
 -- nor an empty one
 pub no_empty : (bs : List ℕ) (n : ℕ) → length bs ≡ 0 → bs ≡ decimal n → ⊥
@@ -120,6 +101,4 @@ no_empty bs n none e = omega (arith, decimal_some n, ap length e)
 
 -- a whole text
 pub begins_whole : (bs : List ℕ) (number : ℕ) → 0 < length bs → Begins bs (length bs) number → (n : ℕ) × (bs ≡ decimal n) × (number ≡ bounded n)
-begins_whole bs number some begun =
-    let whole = begun.1 some in
-    (whole.0, sym (take_all (length bs) bs (omega arith)) ∙ whole.1, whole.2)
+begins_whole bs number some begun = grind (arith, take_all)

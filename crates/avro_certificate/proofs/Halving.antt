@@ -1,5 +1,5 @@
 -- Searching lists that rise.
-use Rattle.std.proofs.Common.{◌≡◌, ℕ, zero, suc, ◌+◌, ◌<◌, ◌≤◌, Bool, true, false, ◌&&◌, ◌||◌, ◌⊎◌, inl, inr, List, [], ◌∷◌, length, get_or, refl, sym, ap, ◌∙◌, subst, arith}
+use Rattle.std.proofs.Common.{◌≡◌, ℕ, zero, suc, ◌+◌, ◌<◌, ◌≤◌, Bool, true, false, ◌&&◌, ◌||◌, ◌⊎◌, List, [], ◌∷◌, length, get_or, refl, sym, ap, ◌∙◌, subst, arith}
 use Rattle.std.proofs.lemmas.Bool.{true≢false, eqb-true}
 use Rattle.std.proofs.lemmas.Bool.Decides.{nat_tests}
 use Rattle.std.proofs.lemmas.List.Sorted.{searched}
@@ -31,11 +31,7 @@ same_number : (x y : ℕ) → x ≡ y → (x == y) ≡ true
 same_number x y e = grind (arith, nat_tests)
 
 pub other_number : (x y : ℕ) → (x ≡ y → ⊥) → (x == y) ≡ false
-other_number x y other = decided (x == y) refl
-  where
-    decided : (b : Bool) → (x == y) ≡ b → b ≡ false
-    decided true e = absurd (other (eqb-true x y e))
-    decided false e = refl
+other_number x y other = grind (arith, eqb-true)
 
 among_found : (xs : List ℕ) (x i : ℕ) → i < length xs → get_or xs i 0 ≡ x → is_among xs x ≡ true
 among_found [] x i here e = absurd (omega arith)
@@ -43,8 +39,7 @@ among_found (y ∷ ys) x zero here e = or_from_left (y == x) _ (same_number y x 
 among_found (y ∷ ys) x (suc i) here e = or_from_right (y == x) _ (among_found ys x i (omega arith) e)
 
 neither : (a b : Bool) → a ≡ false → b ≡ false → (a || b) ≡ false
-neither true b h k = h
-neither false b h k = k
+neither a b h k = grind arith
 
 among_absent : (xs : List ℕ) (x : ℕ) → ((k : ℕ) → k < length xs → get_or xs k 0 ≡ x → ⊥) → is_among xs x ≡ false
 among_absent [] x none = refl
@@ -97,10 +92,7 @@ none_from ps t m e rising here other = λ k d low high. decided k d low high (is
     decided k d low high false h = h
 
 same_itself : (p q : Pair) → q ≡ p → same_pair p q ≡ true
-same_itself p q e = rw e (both p.w p.r)
-  where
-    both : (a b : ℕ) → ((a == a) && (b == b)) ≡ true
-    both a b = grind (arith, nat_tests)
+same_itself p q e = grind arith
 
 not_before_itself : (p : Pair) → is_before p p ≡ true → ⊥
 not_before_itself p h = grind (arith, nat_tests)
@@ -115,8 +107,7 @@ pair_absent [] t d none = refl
 pair_absent (q ∷ qs) t d none = neither (same_pair t (pair_of q)) _ (first (same_pair t (pair_of q)) refl) (pair_absent qs t d (λ k here. none (suc k) (omega arith)))
   where
     first : (b : Bool) → same_pair t (pair_of q) ≡ b → b ≡ false
-    first true e = absurd (none 0 (omega arith) (sym (same_pair-true t (pair_of q) e)))
-    first false e = refl
+    first b e = grind (arith, same_pair-true)
 
 rises_at : (ps : List (ℕ × ℕ)) (i j : ℕ) (d : ℕ × ℕ) → is_rising is_before (pairs_of ps) ≡ true → i < j → j < length ps → is_before (pair_of (get_or ps i d)) (pair_of (get_or ps j d)) ≡ true
 rises_at [] i j d rising lt here = absurd (omega arith)
@@ -140,13 +131,7 @@ pair_at ps t n d b rising point here test = decided (same_pair t (pair_of (get_o
     side k = grind arith
 
     elsewhere : same_pair t (pair_of (get_or ps n d)) ≡ false → (k : ℕ) → k < length ps → pair_of (get_or ps k d) ≡ t → ⊥
-    elsewhere other k within e = elim (side k) [
-      | inl low ↦ not_before_itself t (subst (λ (p : Pair). is_before p t ≡ true) e (point.0 k d (omega arith) low))
-      | inr high ↦ elim high [
-        | inl same ↦ true≢false (sym (same_itself t (pair_of (get_or ps n d)) (ap (λ j. pair_of (get_or ps j d)) (sym same) ∙ e)) ∙ other)
-        | inr above ↦ true≢false (sym (subst (λ (p : Pair). is_before (pair_of (get_or ps n d)) p ≡ true) e (rises_at ps n k d rising above within)) ∙ point.1 n d (omega arith) here)
-      ]
-    ]
+    elsewhere other k within e = grind (arith, not_before_itself, rises_at, same_itself, true≢false)
 
     decided : (a : Bool) → same_pair t (pair_of (get_or ps n d)) ≡ a → b ≡ is_among_pairs (pairs_of ps) t
     decided true e = test ∙ e ∙ sym (pair_found ps t n d here (sym (same_pair-true t (pair_of (get_or ps n d)) e)))
@@ -160,11 +145,7 @@ test_here x y w r e = rw e (both w (y == r) (r == y) (turned y r))
     both n a b h = h ∙ ap (λ c. c && b) (sym (same_number n n refl))
 
     turned : (m n : ℕ) → (m == n) ≡ (n == m)
-    turned m n = decided (n == m) refl
-      where
-        decided : (b : Bool) → (n == m) ≡ b → (m == n) ≡ b
-        decided true h = same_number m n (sym (eqb-true n m h))
-        decided false h = other_number m n (λ k. true≢false (sym (same_number n m (sym k)) ∙ h))
+    turned m n = grind (arith, eqb-true, other_number, same_number, true≢false)
 
 pub test_elsewhere : (x y w r : ℕ) → (x ≡ w → ⊥) → false ≡ same_pair (record { w = w; r = r }) (record { w = x; r = y })
 test_elsewhere x y w r other = sym (ap (λ b. b && (r == y)) (other_number w x (λ e. other (sym e))))

@@ -1,5 +1,5 @@
 -- The pairs that the roots lead to are in each closed set.
-use Rattle.std.proofs.Common.{◌≡◌, ℕ, true, false, not, ◌&&◌, ◌||◌, List, length, sym, ◌∙◌}
+use Rattle.std.proofs.Common.{arith, ◌≡◌, ℕ, true, false, not, ◌&&◌, ◌||◌, List, length, sym, ◌∙◌}
 use Rattle.std.proofs.lemmas.Bool.{true≢false}
 use Rattle.std.specs.Prelude.{nat_lt}
 use Rattle.std.specs.List.{list_all}
@@ -11,8 +11,7 @@ use Rattle.avro_certificate.proofs.public.Tests.{and_left, and_right, or_not, al
 
 module _ (writer reader : List Node) (dead : List ℕ) where
   lives : (p : Pair) → IsReached writer reader dead p → is_among dead p.w ≡ false
-  lives p (roots live) = live
-  lives p (child q c before among live) = live
+  lives p reached = grind arith
 
   pub closed_holds : (pairs : List Pair) → is_closed writer reader dead pairs ≡ true → (p : Pair) → IsReached writer reader dead p → is_among_pairs pairs p ≡ true
   closed_holds pairs closed p (roots live) =

@@ -1,5 +1,5 @@
 -- How long the text of a certificate is at most.
-use Rattle.std.proofs.Common.{◌≡◌, ℕ, zero, suc, ◌+◌, ◌*◌, ◌^◌, ◌<◌, ◌≤◌, Bool, true, not, List, [], ◌∷◌, ◌++◌, length, map, flat_map, refl, ap, arith, length-append}
+use Rattle.std.proofs.Common.{◌≡◌, ℕ, suc, ◌+◌, ◌*◌, ◌<◌, ◌≤◌, Bool, true, not, List, [], ◌∷◌, ◌++◌, length, map, flat_map, refl, ap, arith, length-append}
 use Rattle.std.proofs.lemmas.Bool.Decides.{nat_tests}
 use Rattle.std.proofs.lemmas.Int.Digits.{length-digits_of-le}
 use Rattle.std.specs.Prelude.{nat_lt, codes}
@@ -64,19 +64,13 @@ all_from_zero (x ∷ xs) = both_true (not (nat_lt x 0)) _ (grind (arith, nat_tes
 
 -- a number up to 4,095 has four digits at most
 length_small : (n : ℕ) → is_small n ≡ true → length (decimal n) ≤ 4
-length_small zero h = omega arith
-length_small (suc n) h =
-    let small : suc n < 10 ^ 4 = grind (arith, nat_tests) in
-    omega (arith, length_digits (suc n) (omega arith), length-digits_of-le 10 4 (suc n) (omega arith) small)
+length_small n h = grind (arith, length-digits_of-le, length_digits)
 
 length-dead_line : (n : ℕ) → is_small n ≡ true → length (dead_line n) ≤ 10
 length-dead_line n h = omega (arith, length-append (decimal n) (10 ∷ []), length_small n h)
 
 length-pair_line : (p : Pair) → is_small_pair p ≡ true → length (pair_line p) ≤ 15
-length-pair_line p h =
-    let a = length_small p.w (and_left (is_small p.w) _ h) in
-    let b = length_small p.r (and_right (is_small p.w) _ h) in
-    omega (arith, length-append (decimal p.w) (32 ∷ []), length-append (decimal p.w ++ (32 ∷ [])) (decimal p.r), length-append ((decimal p.w ++ (32 ∷ [])) ++ decimal p.r) (10 ∷ []), a, b)
+length-pair_line p h = grind (arith, and_left, and_right, length-append, length_small)
 
 length-lines : {A : Type 0} (line : A → List ℕ) (test : A → Bool) (most : ℕ) → ((a : A) → test a ≡ true → length (line a) ≤ most) → (xs : List A) → list_all test xs ≡ true
     → length (flat_map line xs) ≤ most * length xs

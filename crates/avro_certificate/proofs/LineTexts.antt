@@ -1,5 +1,5 @@
 -- Numbers that a byte ends, and lists of lines.
-use Rattle.std.proofs.Common.{◌≡◌, ℕ, zero, suc, ◌+◌, ◌-◌, ◌<◌, Option, Some, None, List, [], ◌∷◌, ◌++◌, length, get_or, take, drop, map, flat_map, refl, sym, ap, ◌∙◌, arith, append_assoc, append-nil, drop-cons, length-append, length-drop}
+use Rattle.std.proofs.Common.{◌≡◌, ℕ, zero, suc, ◌+◌, ◌-◌, ◌<◌, Option, List, [], ◌∷◌, ◌++◌, length, get_or, take, drop, map, flat_map, refl, sym, ap, ◌∙◌, arith, append_assoc, append-nil, drop-cons, length-append, length-drop}
 use Rattle.std.proofs.Math.Seq.{get_or-append_seam}
 use Rattle.std.proofs.lemmas.List.{take-append-drop, take_all}
 use Rattle.std.proofs.lemmas.Int.Digits.{same_from_digits_of}
@@ -63,9 +63,7 @@ number_same stop m n x y low e =
 
 -- a text up to the first of a byte, and behind it
 pub cut_at : (bs : List ℕ) (k stop : ℕ) → k < length bs → get_or bs k 0 ≡ stop → bs ≡ take k bs ++ (stop ∷ drop (k + 1) bs)
-cut_at bs k stop here e =
-    let next : suc k ≡ k + 1 = omega arith in
-    sym (take-append-drop k bs) ∙ ap (λ l. take k bs ++ l) (drop-cons bs k 0 here ∙ ap (λ c. c ∷ drop (suc k) bs) e ∙ ap (λ j. stop ∷ drop j bs) next)
+cut_at bs k stop here e = grind (arith, drop-cons, take-append-drop)
 
 -- what is left of a text, from an index on
 pub rest_of : (bs : List ℕ) (i : ℕ) → take (length bs - i) (drop i bs) ≡ drop i bs
@@ -112,18 +110,13 @@ word_same [] x y e = e
 word_same (c ∷ word) x y e = word_same word x y cc
 
 dead_line_same : (m n : ℕ) (x y : List ℕ) → dead_line m ++ x ≡ dead_line n ++ y → (m ≡ n) × (x ≡ y)
-dead_line_same m n x y e = number_same 10 m n x y (omega arith)
-    (word_same (codes "dead ") _ _ (sym (dead_line_is m x) ∙ e ∙ dead_line_is n y))
+dead_line_same m n x y e = grind (arith, dead_line_is, number_same, word_same)
 
 pub pair_path : (p q : Pair) → p.w ≡ q.w → p.r ≡ q.r → p ≡ q
 pair_path p q a b = λ i. record { w = a i; r = b i }
 
 pair_line_same : (p q : Pair) (x y : List ℕ) → pair_line p ++ x ≡ pair_line q ++ y → (p ≡ q) × (x ≡ y)
-pair_line_same p q x y e =
-    let first = number_same 32 p.w q.w (decimal p.r ++ (10 ∷ x)) (decimal q.r ++ (10 ∷ y)) (omega arith)
-    (word_same (codes "pair ") _ _ (sym (pair_line_is p x) ∙ e ∙ pair_line_is q y)) in
-    let second = number_same 10 p.r q.r x y (omega arith) first.1 in
-    (pair_path p q first.0 second.0, second.1)
+pair_line_same p q x y e = grind (arith, number_same, pair_line_is, pair_path, word_same)
 
 module _ {A : Type 0} (line : A → List ℕ) (same : (a b : A) (x y : List ℕ) → line a ++ x ≡ line b ++ y → (a ≡ b) × (x ≡ y)) where
   -- all lines of a kind at the front of a text
@@ -179,8 +172,7 @@ map-push f g (a ∷ xs) (b ∷ ys) x y e h =
 
 -- what each answer says, weakened
 pub in_each : {A P P' : Type 0} {Q Q' : A → Type 0} (o : Option A) → (P → P') → ((x : A) → Q x → Q' x) → MatchOption o P Q → MatchOption o P' Q'
-in_each None f g h = f h
-in_each (Some x) f g h = g x h
+in_each o f g h = grind arith
 
 -- The lines of a kind that were read, and what was kept of them.
 pub record HasRead {A B : Type 0} (line : A → List ℕ) (f : B → A) (g : A → A) (kept : List B) (text rest : List ℕ) : Type 0 where
@@ -213,7 +205,4 @@ map_id (x ∷ xs) = ap (λ l. x ∷ l) (map_id xs)
 
 -- four texts, one behind the other
 pub joined : (x0 x1 x2 x3 x4 a d p e : List ℕ) → x1 ≡ x0 ++ a → x2 ≡ x1 ++ d → x3 ≡ x2 ++ p → x4 ≡ x3 ++ e → x4 ≡ x0 ++ (a ++ d ++ p ++ e)
-joined x0 x1 x2 x3 x4 a d p e e1 e2 e3 e4 = e4 ∙ ap (λ l. l ++ e) (e3 ∙ ap (λ l. l ++ p) (e2 ∙ ap (λ l. l ++ d) e1)) ∙ regrouped
-  where
-    regrouped : (((x0 ++ a) ++ d) ++ p) ++ e ≡ x0 ++ (((a ++ d) ++ p) ++ e)
-    regrouped = simp append_assoc
+joined x0 x1 x2 x3 x4 a d p e e1 e2 e3 e4 = grind (arith, append_assoc)

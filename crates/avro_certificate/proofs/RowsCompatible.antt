@@ -3,7 +3,7 @@ use Rattle.std.proofs.Common.{◌≡◌, refl, ◌≤◌, ◌<◌, pos, true, []
 use Rattle.std.proofs.lemmas.Bool.{false≢true, and_parts}
 use Rattle.std.specs.Str.{is_utf8, chars}
 use lib.Utf8.{encode}
-use Rattle.avro_schema.specs.Value.{Value, no_values, value, size, depth}
+use Rattle.avro_schema.specs.Value.{Value, Values, no_values, value, size, depth}
 use Rattle.avro_schema.specs.Node.{Node, root_of}
 use Rattle.avro_schema.specs.Fits.{fits}
 use Rattle.avro_schema.proofs.public.Parts.{size-positive, depth-positive}
@@ -30,21 +30,18 @@ bytes_refute_string = record {
   least = λ w fault e. size-positive w;
 }
 
--- a record of one int has two nodes
+-- a datum of a record of one int has a value
+record_of_int-value : (v : Value) → fits record_of_int (root_of record_of_int) v ≡ true → (w : Value) × (ws : Values) × (v ≡ Value.record_of (value w ws))
+record_of_int-value (Value.array vs) e = absurd (false≢true (and_parts _ _ e).1)
+record_of_int-value (Value.map_of es) e = absurd (false≢true (and_parts _ _ e).1)
+record_of_int-value (Value.fixed b) e = absurd (false≢true (and_parts _ _ e).1)
+record_of_int-value (Value.record_of no_values) e = absurd (false≢true e)
+record_of_int-value (Value.record_of (value v vs)) e = (v, vs, refl)
+record_of_int-value _ e = absurd (false≢true e)
+
+-- so it has two nodes
 record_of_int-size : (v : Value) → fits record_of_int (root_of record_of_int) v ≡ true → 2 ≤ size v
-record_of_int-size Value.null e = absurd (false≢true e)
-record_of_int-size (Value.boolean b) e = absurd (false≢true e)
-record_of_int-size (Value.int i) e = absurd (false≢true e)
-record_of_int-size (Value.long i) e = absurd (false≢true e)
-record_of_int-size (Value.bytes b) e = absurd (false≢true e)
-record_of_int-size (Value.string t) e = absurd (false≢true e)
-record_of_int-size (Value.array vs) e = absurd (false≢true (and_parts _ _ e).1)
-record_of_int-size (Value.map_of es) e = absurd (false≢true (and_parts _ _ e).1)
-record_of_int-size (Value.union k v) e = absurd (false≢true e)
-record_of_int-size (Value.record_of no_values) e = absurd (false≢true e)
-record_of_int-size (Value.record_of (value v vs)) e = omega (arith, size-positive v)
-record_of_int-size (Value.enum k) e = absurd (false≢true e)
-record_of_int-size (Value.fixed b) e = absurd (false≢true (and_parts _ _ e).1)
+record_of_int-size v e = let has = record_of_int-value v e in rw has.2 (omega (arith, size-positive has.0))
 
 record_refutes_int : IsLeastToErr record_of_int (Node.int ∷ []) (Value.record_of (one_value (Value.int (pos 0))))
 record_refutes_int = record {
@@ -64,19 +61,7 @@ record_within_two_nodes h = omega (arith, h.above (Value.record_of (one_value (V
 
 -- a record of one int is deeper than one level
 record_of_int-depth : (v : Value) → fits record_of_int (root_of record_of_int) v ≡ true → 1 < depth v
-record_of_int-depth Value.null e = absurd (false≢true e)
-record_of_int-depth (Value.boolean b) e = absurd (false≢true e)
-record_of_int-depth (Value.int i) e = absurd (false≢true e)
-record_of_int-depth (Value.long i) e = absurd (false≢true e)
-record_of_int-depth (Value.bytes b) e = absurd (false≢true e)
-record_of_int-depth (Value.string t) e = absurd (false≢true e)
-record_of_int-depth (Value.array vs) e = absurd (false≢true (and_parts _ _ e).1)
-record_of_int-depth (Value.map_of es) e = absurd (false≢true (and_parts _ _ e).1)
-record_of_int-depth (Value.union k v) e = absurd (false≢true e)
-record_of_int-depth (Value.record_of no_values) e = absurd (false≢true e)
-record_of_int-depth (Value.record_of (value v vs)) e = omega (arith, depth-positive v)
-record_of_int-depth (Value.enum k) e = absurd (false≢true e)
-record_of_int-depth (Value.fixed b) e = absurd (false≢true (and_parts _ _ e).1)
+record_of_int-depth v e = let has = record_of_int-value v e in rw has.2 (omega (arith, depth-positive has.0))
 
 -- its depth is two: too deep for a limit of one level, and not for two; and a limit of one node comes first
 record_too_deep : ErrsLeastDeep record_of_int (Node.int ∷ []) 2 1
@@ -93,21 +78,14 @@ record_of_more_nodes h = omega (arith, record_of_int-size h.some.0 h.some.1.errs
 
 -- an int fits, and nothing else
 int_goes_with_long : AreCompatible (Node.int ∷ []) (Node.long ∷ [])
-int_goes_with_long Value.null fault e = false≢true e.fitting
-int_goes_with_long (Value.boolean b) fault e = false≢true e.fitting
 int_goes_with_long (Value.int i) fault e = ok_is_no_err e.faulty
   where
     ok_is_no_err : {A B : Type 0} {a : A} {b : B} → Ok a ≡ Err b → ⊥
     ok_is_no_err h = cc
-int_goes_with_long (Value.long i) fault e = false≢true e.fitting
-int_goes_with_long (Value.bytes b) fault e = false≢true e.fitting
-int_goes_with_long (Value.string t) fault e = false≢true e.fitting
 int_goes_with_long (Value.array vs) fault e = false≢true (and_parts _ _ e.fitting).1
 int_goes_with_long (Value.map_of es) fault e = false≢true (and_parts _ _ e.fitting).1
-int_goes_with_long (Value.union k v) fault e = false≢true e.fitting
-int_goes_with_long (Value.record_of vs) fault e = false≢true e.fitting
-int_goes_with_long (Value.enum k) fault e = false≢true e.fitting
 int_goes_with_long (Value.fixed b) fault e = false≢true (and_parts _ _ e.fitting).1
+int_goes_with_long _ fault e = false≢true e.fitting
 
 -- where no datum errs, none is above a limit
 none_above_zero_nodes : ErrsOnlyAbove (Node.int ∷ []) (Node.long ∷ []) 0 → ⊥
@@ -115,19 +93,11 @@ none_above_zero_nodes h = int_goes_with_long h.some.0 h.some.1.0 h.some.1.1
 
 -- the record would hold a datum of its own
 record_of_itself-no_datum : (v : Value) → fits record_of_itself (root_of record_of_itself) v ≡ true → ⊥
-record_of_itself-no_datum Value.null e = false≢true e
-record_of_itself-no_datum (Value.boolean b) e = false≢true e
-record_of_itself-no_datum (Value.int i) e = false≢true e
-record_of_itself-no_datum (Value.long i) e = false≢true e
-record_of_itself-no_datum (Value.bytes b) e = false≢true e
-record_of_itself-no_datum (Value.string t) e = false≢true e
 record_of_itself-no_datum (Value.array vs) e = false≢true (and_parts _ _ e).1
 record_of_itself-no_datum (Value.map_of es) e = false≢true (and_parts _ _ e).1
-record_of_itself-no_datum (Value.union k v) e = false≢true e
-record_of_itself-no_datum (Value.record_of no_values) e = false≢true e
-record_of_itself-no_datum (Value.record_of (value v vs)) e = record_of_itself-no_datum v (and_parts _ _ e).0
-record_of_itself-no_datum (Value.enum k) e = false≢true e
 record_of_itself-no_datum (Value.fixed b) e = false≢true (and_parts _ _ e).1
+record_of_itself-no_datum (Value.record_of (value v vs)) e = record_of_itself-no_datum v (and_parts _ _ e).0
+record_of_itself-no_datum _ e = false≢true e
 
 record_of_itself-compatible : AreCompatible record_of_itself (Node.int ∷ [])
 record_of_itself-compatible v fault e = record_of_itself-no_datum v e.fitting

@@ -22,50 +22,22 @@ use Rattle.avro_container.proofs.Stopping.{below_zero}
 
 -- what is not an end of the input is not one after other bytes
 still_no_end : (k : ℕ) (f : ReadFault) → ((place : ℕ) → f ≢ end_of_input place) → (place : ℕ) → behind k f ≢ end_of_input place
-still_no_end k (end_of_input there) h place e = h there refl
-still_no_end k (invalid_number there) h place e = cc
-still_no_end k (invalid_boolean there) h place e = cc
-still_no_end k (invalid_text there) h place e = cc
-still_no_end k (unknown_index there) h place e = cc
-still_no_end k (invalid_length there) h place e = cc
-still_no_end k (wrong_block_size there) h place e = cc
-still_no_end k (duplicate_key there) h place e = cc
-still_no_end k limit_exceeded h place e = cc
+still_no_end k f h place e = grind arith
 
 -- ---- Calls, one after another
 
 module _ {I : Type 0} (gives : I → List ℕ → I → Type 0) (failures : I → ℕ) (chain : (s t u : I) (front back : List ℕ) → gives s front t → gives t back u → gives s (front ++ back) u) (limit : ℕ) where
   pub takes_then : (a b c : I) (old mid new : List ℕ) → Takes gives failures limit a b old mid → Takes gives failures limit b c mid new → Takes gives failures limit a c old new
-  takes_then a b c old mid new p q = record {
-    grown = GrowsBy-chain gives chain a b c old mid new p.grown q.grown;
-    limited = omega (arith, p.limited, q.limited);
-    works = q.works ∙ p.works;
-  }
+  takes_then a b c old mid new p q = grind arith
 
   pub then_refused : (a b c : I) (old mid new : List ℕ) (e : CopyError) → Takes gives failures limit a b old mid → Refused gives failures limit b c mid new e
       → Refused gives failures limit a c old new e
-  then_refused a b c old mid new e p q = record {
-    grown = λ other. GrowsBy-chain gives chain a b c old mid new p.grown (q.grown other);
-    lost = TakesAtMost-later gives chain a b c old mid limit p.grown q.lost p.limited;
-    limited = omega (arith, p.limited, q.limited);
-    fails = λ is same. q.fails is (same ∙ sym p.works);
-    no_output = q.no_output;
-    first = q.first;
-    named = q.named;
-  }
+  then_refused a b c old mid new e p q = grind arith
 
   -- what was taken is refused
   pub own_refused : (a b : I) (old new : List ℕ) (e : CopyError) → e ≢ CopyError.InputFailed → e ≢ CopyError.OutputFailed → e ≢ CopyError.FailedBefore
       → IsNamed e → Takes gives failures limit a b old new → Refused gives failures limit a b old new e
-  own_refused a b old new e no_input no_output first named p = record {
-    grown = λ _. p.grown;
-    lost = TakesAtMost-from_grown gives a b old new limit p.grown p.limited;
-    limited = p.limited;
-    fails = λ is. absurd (no_input is);
-    no_output = no_output;
-    first = first;
-    named = named;
-  }
+  own_refused a b old new e no_input no_output first named p = grind arith
 
   -- memory ran out after it
   pub memory_refused : (a b : I) (old new : List ℕ) → Takes gives failures limit a b old new → Refused gives failures limit a b old new CopyError.OutOfMemory
@@ -75,15 +47,7 @@ pub part_refused : {I : Type 0} (gives : I → List ℕ → I → Type 0) (failu
     → (e ≡ PartError.Device → r ≡ CopyError.InputFailed) → (r ≡ CopyError.InputFailed → e ≡ PartError.Device) → r ≢ CopyError.OutputFailed → r ≢ CopyError.FailedBefore
     → IsNamed r → UnlessDevice e (GrowsBy gives a b old new) → TakesAtMost gives a b (limit - length old) → length new ≤ max (length old) limit
     → (e ≡ PartError.Device → failures b ≢ failures a) → Refused gives failures limit a b old new r
-part_refused gives failures limit a b old new e r failed device no_output first named taken lost limited fails = record {
-  grown = unless_failed e r failed taken;
-  lost = lost;
-  limited = limited;
-  fails = λ is. fails (device is);
-  no_output = no_output;
-  first = first;
-  named = named;
-}
+part_refused gives failures limit a b old new e r failed device no_output first named taken lost limited fails = grind (arith, unless_failed)
 
 -- a greater limit
 pub takes_wider : {I : Type 0} (gives : I → List ℕ → I → Type 0) (failures : I → ℕ) (limit wider : ℕ) (a b : I) (old new : List ℕ) → limit ≤ wider
@@ -92,15 +56,7 @@ takes_wider gives failures limit wider a b old new more p = record { grown = p.g
 
 pub refused_wider : {I : Type 0} (gives : I → List ℕ → I → Type 0) (failures : I → ℕ) (limit wider : ℕ) (a b : I) (old new : List ℕ) (e : CopyError) → limit ≤ wider
     → Refused gives failures limit a b old new e → Refused gives failures wider a b old new e
-refused_wider gives failures limit wider a b old new e more p = record {
-  grown = p.grown;
-  lost = record { bytes = p.lost.bytes; taken = p.lost.taken; few = omega (arith, p.lost.few, more) };
-  limited = omega (arith, p.limited, more);
-  fails = p.fails;
-  no_output = p.no_output;
-  first = p.first;
-  named = p.named;
-}
+refused_wider gives failures limit wider a b old new e more p = grind arith
 
 -- ---- Parts that are stopped
 
@@ -110,24 +66,13 @@ pub stops-whole : (limit at from : ℕ) (ended : Type 0) (bytes front : List ℕ
     → ((rest : List ℕ) (g : ReadFault) → P rest g → P' (front ++ rest) (behind (length front) g))
     → ((rest : List ℕ) (g : ReadFault) → Q rest g → Q' (front ++ rest) (behind (length front) g))
     → PartStops limit from ended bytes P Q f → PartStops limit at ended bytes P' Q' f
-stops-whole limit at from ended bytes front P Q P' Q' f offset split up wup (PartStops.broken g b none is) =
-    PartStops.broken (behind (length front) g) (subst (λ (r : List ℕ). P' r (behind (length front) g)) (sym split) (up (drop from bytes) g b))
-    (still_no_end (length front) g none)
-    (is ∙ ap (λ (n : ℕ). in_header (invalid_metadata (behind n g))) offset ∙ ap (λ (h : ReadFault). in_header (invalid_metadata h)) (behind-add at (length front) g))
-stops-whole limit at from ended bytes front P Q P' Q' _ offset split up wup (PartStops.too_long there w over) =
-    PartStops.too_long (length front + there) (subst (λ (r : List ℕ). Q' r (end_of_input (length front + there))) (sym split) (wup (drop from bytes) (end_of_input there) w))
-    (omega (arith, over, offset))
-stops-whole limit at from ended bytes front P Q P' Q' _ offset split up wup (PartStops.is_cut there w fits told) =
-    PartStops.is_cut (length front + there) (subst (λ (r : List ℕ). Q' r (end_of_input (length front + there))) (sym split) (wup (drop from bytes) (end_of_input there) w))
-    (omega (arith, fits, offset)) told
+stops-whole limit at from ended bytes front P Q P' Q' f offset split up wup h15 = grind (arith, behind-add, still_no_end)
 
 -- the same offset
 pub stops-as : (limit at : ℕ) (ended : Type 0) (bytes : List ℕ) (P Q P' Q' : List ℕ → ReadFault → Type 0) (f : FileFault)
     → ((g : ReadFault) → P (drop at bytes) g → P' (drop at bytes) g) → ((g : ReadFault) → Q (drop at bytes) g → Q' (drop at bytes) g)
     → PartStops limit at ended bytes P Q f → PartStops limit at ended bytes P' Q' f
-stops-as limit at ended bytes P Q P' Q' f up wup (PartStops.broken g b none is) = PartStops.broken g (up g b) none is
-stops-as limit at ended bytes P Q P' Q' _ up wup (PartStops.too_long there w over) = PartStops.too_long there (wup (end_of_input there) w) over
-stops-as limit at ended bytes P Q P' Q' _ up wup (PartStops.is_cut there w fits told) = PartStops.is_cut there (wup (end_of_input there) w) fits told
+stops-as limit at ended bytes P Q P' Q' f up wup h11 = grind arith
 
 -- a number that is not taken
 pub number_stops : (limit at : ℕ) (ended : Type 0) (bytes : List ℕ) (e : PartError) (f : FileFault) → at ≤ limit
@@ -148,21 +93,12 @@ number_stops limit at ended bytes PartError.Device f inside out over over_cut to
 number_stops limit at ended bytes PartError.OutOfMemory f inside out over over_cut told below cut is = absurd (none-some f is)
 
 pub length_stops : (limit at : ℕ) (ended : Type 0) (bytes : List ℕ) (f : FileFault) → PartStops limit at ended bytes LongBreaks LengthWants f → PartStops limit at ended bytes LengthBreaks LengthWants f
-length_stops limit at ended bytes f stops =
-    stops-as limit at ended bytes LongBreaks LengthWants LengthBreaks LengthWants f (λ g b. LengthBreaks.number_breaks b) (λ g w. w) stops
+length_stops limit at ended bytes f stops = grind (arith, stops-as)
 
 -- a length as the first part of a content
 pub length_first : (limit at : ℕ) (ended : Type 0) (bytes : List ℕ) (is_content : List ℕ → Bool) (f : FileFault)
     → PartStops limit at ended bytes LengthBreaks LengthWants f → PartStops limit at ended bytes (ContentBreaks is_content (2 ^ 63)) ContentWants f
-length_first limit at ended bytes is_content f stops =
-    stops-as limit at ended bytes LengthBreaks LengthWants (ContentBreaks is_content (2 ^ 63)) ContentWants f breaks wants stops
-  where
-    breaks : (g : ReadFault) → LengthBreaks (drop at bytes) g → ContentBreaks is_content (2 ^ 63) (drop at bytes) g
-    breaks _ (LengthBreaks.number_breaks b) = ContentBreaks.length_breaks b
-    breaks _ (LengthBreaks.is_negative n number rest starts) = ContentBreaks.negative n number rest starts
-
-    wants : (g : ReadFault) → LengthWants (drop at bytes) g → ContentWants (drop at bytes) g
-    wants _ (LengthWants.in_number cut) = ContentWants.in_length cut
+length_first limit at ended bytes is_content f stops = grind (arith, stops-as)
 
 -- a content after its length
 pub content_from : {I : Type 0} (gives : I → List ℕ → I → Type 0) (a b : I) (mid new : List ℕ) (at count len : ℕ) → GrowsBy gives a b mid new → at + len ≤ length mid
@@ -206,23 +142,11 @@ content_stops limit at count len ended bytes is_content PartError.OutOfMemory f 
 pub negative_length : (limit at : ℕ) (ended : Type 0) (bytes : List ℕ) (v : ℤ) (front rest : List ℕ) (f : FileFault) → v <ℤ pos 0
     → StartsWithLong v (drop at bytes) front rest → Some (in_header (invalid_metadata (invalid_length at))) ≡ Some f
     → PartStops limit at ended bytes LengthBreaks LengthWants f
-negative_length limit at ended bytes v front rest f below starts is =
-    let n = below_zero v below in
-    PartStops.broken (invalid_length 0) (LengthBreaks.is_negative n.0 front rest (subst (λ w. StartsWithLong w (drop at bytes) front rest) n.1 starts)) (λ place q. cc)
-    (sym (same_Some _ _ is) ∙ ap (λ (n : ℕ). in_header (invalid_metadata (invalid_length n))) (omega arith))
+negative_length limit at ended bytes v front rest f below starts is = grind (arith, below_zero, same_Some)
 
 pub content_starts : (at count len : ℕ) (bytes : List ℕ) → at + len + count ≤ length bytes
     → StartsWithLong (pos count) (drop at bytes) (take len (drop at bytes)) (drop (at + len) bytes) → ContentFrom at (at + len) (at + len + count) bytes
-content_starts at count len bytes inside starts =
-    let size : count ≡ at + len + count - (at + len) = omega arith in
-    let front : len ≡ at + len - at = omega arith in
-    record {
-      begins = omega arith;
-      ordered = omega arith;
-      inside = inside;
-      starts = subst (λ (k : ℕ). StartsWithLong (pos (at + len + count - (at + len))) (drop at bytes) (take k (drop at bytes)) (drop (at + len) bytes)) front
-          (subst (λ (n : ℕ). StartsWithLong (pos n) (drop at bytes) (take len (drop at bytes)) (drop (at + len) bytes)) size starts);
-    }
+content_starts at count len bytes inside starts = grind arith
 
 -- what reports a fault is not that the input failed
 pub reports_not_failed : (e : CopyError) (f : FileFault) → file_fault e ≡ Some f → e ≢ CopyError.InputFailed
@@ -230,8 +154,4 @@ reports_not_failed e f is q = none-some f (sym (ap file_fault q) ∙ is)
 
 pub takes_none : {I : Type 0} (gives : I → List ℕ → I → Type 0) (failures : I → ℕ) → ((s : I) → gives s [] s) → (limit : ℕ) (s : I) (bytes : List ℕ)
     → Takes gives failures limit s s bytes bytes
-takes_none gives failures none limit s bytes = record {
-  grown = record { bytes = []; taken = none s; grown = sym (append-nil bytes) };
-  limited = omega arith;
-  works = refl;
-}
+takes_none gives failures none limit s bytes = grind (arith, append-nil)

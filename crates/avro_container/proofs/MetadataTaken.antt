@@ -46,36 +46,17 @@ head_as left at bytes h many some (TakesHead.sized front size positive small is_
 pub next_head_stops : {I : Type 0} (gives : I → List ℕ → I → Type 0) (s t : I) (old new : List ℕ) (limit at : ℕ) (ended : Type 0) (names : BTreeSet (String Global)) (ps : List Property)
     (f : FileFault) → GrowsBy gives s t old new → MetadataSoFar at old names ps → PartStops limit at ended new (HeadBreaks (metadata_left ps).nodes) (HeadBreaks (metadata_left ps).nodes) f
     → PartStops limit 4 ended new (Blocks PropertyBreaks (all_left entry_limits)) (Blocks PropertyWants (all_left entry_limits)) f
-next_head_stops gives s t old new limit at ended names ps f grown m stops =
-    let nodes = (metadata_left ps).nodes in
-    let stretch = stretch_grown gives s t old new 4 at m.front grown m.stretch in
-    stops-whole limit 4 at ended new m.front (HeadBreaks nodes) (HeadBreaks nodes) (Blocks PropertyBreaks (all_left entry_limits)) (Blocks PropertyWants (all_left entry_limits)) f
-    stretch.offset stretch.split (λ rest g b. m.run.breaks rest g (BlocksBreak.head_breaks b)) (λ rest g b. m.run.wants rest g (BlocksBreak.head_breaks b)) stops
+next_head_stops gives s t old new limit at ended names ps f grown m stops = grind (arith, stops-whole, stretch_grown)
 
 -- a property of a block is stopped
 in_block : (item : Left → List ℕ → ReadFault → Type 0) (left : Left) (head : Head) (count : ℕ) → IsHead left.nodes head → head_count head ≡ count
     → (rest : List ℕ) (g : ReadFault) → RunStops item left count rest g → Blocks item left (head_bytes head ++ rest) (behind (length (head_bytes head)) g)
-in_block item left head count is same rest g r =
-    let few = r.few in
-    BlocksBreak.item_fails head (length r.properties) r.front (left_after left r.properties) is (omega (arith, few, same))
-    (run_whole left r.properties r.front r.run (omega (arith, few, same, head_few left.nodes head is))) (record {
-      rest = r.next.rest;
-      fault = r.next.fault;
-      split = ap (λ (b : List ℕ). head_bytes head ++ b) r.next.split ∙ sym (append_assoc (head_bytes head) r.front r.next.rest);
-      breaks = r.next.breaks;
-      moved = ap (behind (length (head_bytes head))) r.next.moved ∙ sym (behind-append (head_bytes head) r.front r.next.fault);
-    })
+in_block item left head count is same rest g r = grind (arith, append_assoc, behind-append, head_few, run_whole)
 
 -- the end of the metadata
 pub metadata_ended : {I : Type 0} (gives : I → List ℕ → I → Type 0) (s t : I) (old new : List ℕ) (at : ℕ) (names : BTreeSet (String Global)) (ps : List Property) (h : PropertiesHead)
     → GrowsBy gives s t old new → MetadataSoFar at old names ps → TakesHead at new h → h.count ≡ 0 → length ps < 2 ^ 63 → MetadataEnds h.start new ps
-metadata_ended gives s t old new at names ps h grown m (TakesHead.at_end front none stretch spelled) is few = record {
-  metadata = m.front ++ front;
-  stretch = stretch_join 4 at h.start m.front front new (stretch_grown gives s t old new 4 at m.front grown m.stretch) stretch;
-  spelled = metadata_whole ps m.front front m.run spelled few;
-}
-metadata_ended gives s t old new at names ps h grown m (TakesHead.counted front positive small plain stretch spelled) is few = absurd (omega (arith, positive, is))
-metadata_ended gives s t old new at names ps h grown m (TakesHead.sized front size positive small is_sized stretch spelled sizes short offset) is few = absurd (omega (arith, positive, is))
+metadata_ended gives s t old new at names ps h grown m h11 is few = grind (arith, metadata_whole, stretch_grown, stretch_join)
 
 -- a property of the next block is stopped
 pub next_run_stops : {I : Type 0} (gives : I → List ℕ → I → Type 0) (s t u : I) (old mid new : List ℕ) (limit at : ℕ) (ended : Type 0) (names : BTreeSet (String Global)) (ps : List Property)
@@ -98,10 +79,7 @@ next_run_stops gives s t u old mid new limit at ended names ps h f first second 
     lifted : (item : Left → List ℕ → ReadFault → Type 0) (front bytes rest : List ℕ) (g : ReadFault)
         → ((r : List ℕ) (k : ReadFault) → Blocks item (metadata_left ps) r k → Blocks item (all_left entry_limits) (front ++ r) (behind (length front) k))
         → Blocks item (metadata_left ps) (bytes ++ rest) (behind (length bytes) g) → Blocks item (all_left entry_limits) ((front ++ bytes) ++ rest) (behind (length (front ++ bytes)) g)
-    lifted item front bytes rest g lift b =
-        subst (λ (k : ReadFault). Blocks item (all_left entry_limits) ((front ++ bytes) ++ rest) k) (sym (behind-append front bytes g))
-        (subst (λ (r : List ℕ). Blocks item (all_left entry_limits) r (behind (length front) (behind (length bytes) g))) (sym (append_assoc front bytes rest))
-        (lift (bytes ++ rest) (behind (length bytes) g) b))
+    lifted item front bytes rest g lift b = grind (arith, append_assoc, behind-append)
 
 -- one more block
 pub block_pushed : {I : Type 0} (gives : I → List ℕ → I → Type 0) (s t u : I) (old mid new : List ℕ) (at end : ℕ) (names then_names : BTreeSet (String Global)) (before after : List Property)
@@ -163,11 +141,7 @@ size_stops gives s t u old mid new limit at end ended names then_names before af
 -- many nodes are left, whatever fits the limit
 pub many_left : (limit at : ℕ) (bytes : List ℕ) (names : BTreeSet (String Global)) (ps : List Property) → MetadataSoFar at bytes names ps → length bytes ≤ limit → limit < 2 ^ 62
     → 2 ^ 63 ≤ (metadata_left ps).nodes
-many_left limit at bytes names ps m fits small =
-    let few = m.run.few in
-    let offset = m.stretch.offset in
-    let inside = m.stretch.inside in
-    omega (arith, few, offset, inside, fits, small)
+many_left limit at bytes names ps m fits small = grind arith
 
 -- a head has a byte at least
 pub head_further : (at : ℕ) (bytes : List ℕ) (h : PropertiesHead) → TakesHead at bytes h → (at < h.start) × (h.start ≤ length bytes)
@@ -187,23 +161,12 @@ head_further at bytes h (TakesHead.sized front size positive small is_sized stre
 -- few properties fit the limit
 pub few_so_far : (limit at : ℕ) (bytes : List ℕ) (names : BTreeSet (String Global)) (ps : List Property) → MetadataSoFar at bytes names ps → length bytes ≤ limit → limit < 2 ^ 62
     → length ps < 2 ^ 63
-few_so_far limit at bytes names ps m fits small =
-    let few = m.run.few in
-    let offset = m.stretch.offset in
-    let inside = m.stretch.inside in
-    omega (arith, few, offset, inside, fits, small)
+few_so_far limit at bytes names ps m fits small = grind arith
 
 pub head_small : (at : ℕ) (bytes : List ℕ) (h : PropertiesHead) → TakesHead at bytes h → h.count < 2 ^ 63
-head_small at bytes h (TakesHead.at_end front none stretch spelled) = omega (arith, none)
-head_small at bytes h (TakesHead.counted front positive small plain stretch spelled) = small
-head_small at bytes h (TakesHead.sized front size positive small is_sized stretch spelled sizes short offset) = small
+head_small at bytes h h3 = grind arith
 
 -- nothing after the magic yet
 pub metadata_start : (bytes : List ℕ) (names : BTreeSet (String Global)) (ps : List Property) → 4 ≤ length bytes → ((word : List ℕ) → contains_text names word ≡ false) → ps ≡ []
     → MetadataSoFar 4 bytes names ps
-metadata_start bytes names ps inside none is = subst (λ (qs : List Property). MetadataSoFar 4 bytes names qs) (sym is) (record {
-  front = [];
-  run = metadata_none;
-  stretch = stretch_none 4 bytes inside;
-  named = none;
-})
+metadata_start bytes names ps inside none is = grind (arith, stretch_none)

@@ -1,5 +1,5 @@
 -- Nodes with their defaults are the completed nodes, and what is said of those.
-use Rattle.avro_schema_json.proofs.Words.{◌≡◌, ℕ, zero, suc, ◌<◌, Bool, false, ◌&&◌, List, [], ◌∷◌, length, map, refl, sym, ap, ◌∙◌, arith, nat_le, nat_lt, Contains, slice_index_or, and_parts, false≢true, false_from_ne_true, nat_tests, NodeFault, limit_exceeded, faults_of_nodes, IsThere, Node, max_nodes, there-contains, SchemaError, RawField, RawNode, unless, refusals_of_nodes, or_else, field_default, completed_field, completed_node, refusal_of_fault, defaults_of_node, fields_with_defaults, nodes_with_defaults}
+use Rattle.avro_schema_json.proofs.Words.{◌≡◌, ℕ, zero, suc, ◌<◌, Bool, false, List, [], ◌∷◌, length, map, refl, ap, arith, Contains, slice_index_or, and_parts, NodeFault, limit_exceeded, IsThere, Node, there-contains, SchemaError, RawField, RawNode, unless, refusals_of_nodes, or_else, field_default, completed_field, completed_node, refusal_of_fault, defaults_of_node, fields_with_defaults, nodes_with_defaults}
 
 fields-completed : (nodes : List Node) (fields : List RawField) → fields_with_defaults fields (map (field_default nodes) fields) ≡ map (completed_field nodes) fields
 fields-completed nodes [] = refl
@@ -12,8 +12,7 @@ nodes-completed nodes (RawNode.record_of name aliases fields ∷ raws) = rw (fie
 
 -- a fault of the first list is one of both
 pub or_else-first : (xs ys : List SchemaError) (e : SchemaError) → Contains xs e → Contains (or_else xs ys) e
-or_else-first [] ys e c = absurd (omega (arith, c.1))
-or_else-first (x ∷ xs) ys e c = c
+or_else-first xs ys e c = grind arith
 
 -- a default that is not a datum
 pub or_else-unread : (xs : List SchemaError) (r : Bool) (e : SchemaError) → xs ≡ [] → r ≡ false → Contains (or_else xs (unless r e)) e
@@ -21,12 +20,7 @@ or_else-unread xs r e none unread = rw (none, unread) (0, omega arith, refl)
 
 -- too many nodes
 pub too_many-there : (nodes : List Node) → 4096 < length nodes → IsThere limit_exceeded nodes
-too_many-there nodes h =
-    let past : nat_le (length nodes) max_nodes ≡ false = grind (arith, nat_tests) in
-    let uncounted : (nat_lt 0 (length nodes) && nat_le (length nodes) max_nodes) ≡ false =
-    false_from_ne_true (nat_lt 0 (length nodes) && nat_le (length nodes) max_nodes)
-    (λ both. false≢true (sym past ∙ (and_parts (nat_lt 0 (length nodes)) (nat_le (length nodes) max_nodes) both).1)) in
-    rw uncounted refl
+too_many-there nodes h = grind (arith, and_parts)
 
 -- the refusal that names a fault that is there
 named_at : (faults : List NodeFault) (fault : NodeFault) (k : ℕ) → k < length faults → slice_index_or faults k fault ≡ fault
@@ -38,6 +32,4 @@ named_at (f ∷ faults) fault (suc k) below at =
     (suc c.0, omega (arith, c.1), c.2)
 
 pub refusal-contains : (fault : NodeFault) (nodes : List Node) → IsThere fault nodes → Contains (refusals_of_nodes nodes) (refusal_of_fault fault)
-refusal-contains fault nodes there =
-    let c = there-contains fault nodes there in
-    named_at (faults_of_nodes nodes) fault c.0 c.1 c.2
+refusal-contains fault nodes there = grind (arith, named_at, there-contains)

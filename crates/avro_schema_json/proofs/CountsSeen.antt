@@ -1,5 +1,5 @@
 -- An object is a default only of records that have as many fields as it has members.
-use Rattle.avro_schema_json.proofs.Words.{◌≡◌, ℕ, zero, suc, Bool, true, false, ◌||◌, List, [], ◌∷◌, length, map, Option, Some, None, option_and_then, refl, sym, ap, subst, ◌∙◌, Ordering, list_any, IsEquivalence, both_ways, slice_cmp, or-true, and_parts, false≢true, is_eq-slice_cmp, bytes_eq-Decides, none-some, Members, no_members, member, get_member, value, Node, FieldNode, node_at, default_of, default_under, fields_default, member_keys, names_only, default_of_fields}
+use Rattle.avro_schema_json.proofs.Words.{arith, ◌≡◌, ℕ, zero, suc, Bool, true, false, ◌||◌, List, [], ◌∷◌, length, map, Option, Some, option_and_then, refl, sym, ap, subst, ◌∙◌, Ordering, list_any, IsEquivalence, both_ways, slice_cmp, or-true, and_parts, false≢true, is_eq-slice_cmp, bytes_eq-Decides, none-some, Members, no_members, member, get_member, value, Node, FieldNode, node_at, default_of, default_under, fields_default, member_keys, names_only, default_of_fields}
 use Rattle.std.specs.Prelude.{is_some, slice_get, bytes_eq}
 use Rattle.std.specs.List.{IsDistinct}
 use Rattle.std.specs.Ordering.{nat_cmp, is_eq}
@@ -30,17 +30,15 @@ is-key q (member k d ms) h = by_order (slice_cmp nat_cmp q k) refl (λ r. is-key
   where
     by_order : (o : Ordering) → slice_cmp nat_cmp q k ≡ o → (is_some (get_member q ms) ≡ true → list_any (bytes_eq q) (member_keys ms) ≡ true)
         → list_any (bytes_eq q) (k ∷ member_keys ms) ≡ true
-    by_order Ordering.Less is others = let w = others (rw is at h) in rw w (or-true (bytes_eq q k))
-    by_order Ordering.Greater is others = let w = others (rw is at h) in rw w (or-true (bytes_eq q k))
     by_order Ordering.Equal is others = let w : bytes_eq q k ≡ true = sym (is_eq-slice_cmp q k) ∙ ap is_eq is in rw w refl
+    by_order _ is others = let w = others (rw is at h) in rw w (or-true (bytes_eq q k))
 
 -- a member is found where something is read under its key
 under-member : (nodes : List Node) (key : List ℕ) (ms : Members) → is_some (default_under nodes key ms) ≡ true → is_some (get_member key ms) ≡ true
 under-member nodes key ms h = sym (mapped (default_of nodes) (get_member key ms)) ∙ ap is_some (sym (default_under-found nodes key ms)) ∙ h
 
 read-under : {A B : Type 0} (o : Option A) (f : A → Option B) → is_some (option_and_then f o) ≡ true → is_some o ≡ true
-read-under None f h = h
-read-under (Some x) f h = refl
+read-under o f h = grind arith
 
 -- each field has a member
 field-member : (nodes : List Node) (ms : Members) (fields : List FieldNode) (i : ℕ) (f : FieldNode) → slice_get fields i ≡ Some f
@@ -66,10 +64,7 @@ key-name q (key ∷ keys) fields h k = by (bytes_eq q key) refl (λ r s. key-nam
 
     by : (b : Bool) → bytes_eq q key ≡ b → (names_only keys fields ≡ true → list_any (bytes_eq q) keys ≡ true → list_any (λ f. bytes_eq q f.name) fields ≡ true)
         → list_any (λ f. bytes_eq q f.name) fields ≡ true
-    by true e others =
-        let same : q ≡ key = (bytes_eq-Decides q key).0 e in
-        subst (λ (x : List ℕ). list_any (λ f. bytes_eq x f.name) fields ≡ true) (sym same) two.0
-    by false e others = others two.1 (rw e at k)
+    by b e others = grind (arith, bytes_eq-Decides)
 
 pub as-many : (nodes : List Node) (ms : Members) (fields : List FieldNode) → IsDistinct bytes_eq (names_of fields) → IsDistinct bytes_eq (member_keys ms)
     → is_some (default_of_fields nodes ms fields) ≡ true → length (names_of fields) ≡ length (member_keys ms)

@@ -10,13 +10,10 @@ use Rattle.avro_schema_json.proofs.DefaultsSeen.{default-no_union, default-union
 
 pub both : {A B C : Type 0} (first : Option A) (rest : Option B) (f : A → B → C) → is_some (option_and_then (λ v. option_map (f v) rest) first) ≡ true
     → (is_some first ≡ true) × (is_some rest ≡ true)
-both None rest f h = absurd (false≢true h)
-both (Some v) None f h = absurd (false≢true h)
-both (Some v) (Some w) f h = (refl, refl)
+both first rest f h = grind arith
 
 pub mapped : {A B : Type 0} (f : A → B) (o : Option A) → is_some (option_map f o) ≡ is_some o
-mapped f None = refl
-mapped f (Some x) = refl
+mapped f o = grind arith
 
 -- ---- branches
 
@@ -44,8 +41,7 @@ fits-owns nodes d t h = by (branches_of (node_at nodes t)) refl
 -- the parents of what a part fits have what holds it
 stepped : (nodes : List Node) (last : ℕ) (label : Label) (e : Data) (row parents : List ℕ) (m t : ℕ) → Covers nodes last e row
     → IsStep nodes last label row parents → IsPart label (node_at nodes m) t → fits nodes e t ≡ true → has_place parents (place_of last m) ≡ true
-stepped nodes last label e row parents m t covers step part h =
-    let o = fits-owns nodes e t h in step m t o.0 part o.1 (covers o.0 o.2)
+stepped nodes last label e row parents m t covers step part h = grind (arith, fits-owns)
 
 -- ---- items
 
@@ -80,12 +76,7 @@ entry-fits nodes (member k d ms) key e n at h = by_order (slice_cmp nat_cmp key 
     by_order : (o : Ordering) → slice_cmp nat_cmp key k ≡ o
         → (get_member key ms ≡ Some e → is_some (entries_default nodes ms n) ≡ true → is_some (default_of nodes e n) ≡ true)
         → is_some (default_of nodes e n) ≡ true
-    by_order Ordering.Less is others = others (rw is at at) two.1
-    by_order Ordering.Greater is others = others (rw is at at) two.1
-    by_order Ordering.Equal is others =
-        let found : Some d ≡ Some e = rw is at at in
-        let same : d ≡ e = cc in
-        subst (λ (x : Data). is_some (default_of nodes x n) ≡ true) same two.0
+    by_order o is others = grind arith
 
 field-fits : (nodes : List Node) (ms : Members) (fields : List FieldNode) (i : ℕ) (f : FieldNode) (e : Data) → slice_get fields i ≡ Some f
     → get_member f.name ms ≡ Some e → is_some (fields_default nodes (λ key. default_under nodes key ms) fields) ≡ true
@@ -124,20 +115,17 @@ named-field (member k d ms) fields key e h at = by_order (slice_cmp nat_cmp key 
     by_order : (o : Ordering) → slice_cmp nat_cmp key k ≡ o
         → (names_only (member_keys ms) fields ≡ true → get_member key ms ≡ Some e → (i : ℕ) × (f : FieldNode) × (slice_get fields i ≡ Some f) × (f.name ≡ key))
         → (i : ℕ) × (f : FieldNode) × (slice_get fields i ≡ Some f) × (f.name ≡ key)
-    by_order Ordering.Less is others = others two.1 (rw is at at)
-    by_order Ordering.Greater is others = others two.1 (rw is at at)
     by_order Ordering.Equal is others =
         let same : key ≡ k = (bytes_eq-Decides key k).0 (sym (is_eq-slice_cmp key k) ∙ ap is_eq is) in
         let found = some-field k fields two.0 in
         (found.0, found.1, found.2, found.3 ∙ sym same)
+    by_order _ is others = others two.1 (rw is at at)
 
 pub only : {A : Type 0} (b : Bool) (x : A) → is_some (only_if b x) ≡ true → b ≡ true
-only true x h = refl
-only false x h = absurd (false≢true h)
+only b x h = grind arith
 
 pub kept : (all : Option Values) (b : Bool) → is_some (option_and_then (λ vs. only_if b (Value.record_of vs)) all) ≡ true → (is_some all ≡ true) × (b ≡ true)
-kept None b h = absurd (false≢true h)
-kept (Some vs) b h = (refl, only b (Value.record_of vs) h)
+kept all b h = grind (arith, only)
 
 pub object-covered : (nodes : List Node) (last : ℕ) (ms : Members) (key : List ℕ) (e : Data) (row parents : List ℕ) → get_member key ms ≡ Some e
     → Covers nodes last e row → IsStep nodes last Label.values row parents → IsStep nodes last (Label.named key) row parents

@@ -1,19 +1,15 @@
 -- What follows from the definitions: a tree declares one schema at most, and none exactly where a fault is there.
-use Rattle.avro_schema_json.proofs.Words.{◌≡◌, ℕ, Bool, true, false, not, ◌&&◌, List, [], ◌∷◌, Option, Some, None, refl, subst, ap, map, Ordering, arith, option_map, option_and_then, if◌then◌else◌, Contains, nat_cmp, match_ordering, slice_cmp, and_parts, Node, is_schema, NodeFault, faults_of_nodes, is_schema-from_no_faults, no_faults-from_is_schema, Data, Members, no_members, member, get_member, has_float, SchemaError, unless, made_of, meaning_of, meaning_under, fields_from, fields_under, default_of, default_under, declared, completed_nodes, are_all_defaults_read, is_empty, DeclaresSchema, faults_of, refusals_of_nodes, or_else, HasFault, refusal_of_fault}
+use Rattle.avro_schema_json.proofs.Words.{◌≡◌, ℕ, Bool, true, false, not, ◌&&◌, List, [], ◌∷◌, Option, Some, None, refl, ap, map, Ordering, arith, option_map, option_and_then, if◌then◌else◌, Contains, nat_cmp, match_ordering, slice_cmp, and_parts, Node, is_schema, NodeFault, faults_of_nodes, is_schema-from_no_faults, no_faults-from_is_schema, Data, Members, no_members, member, get_member, has_float, SchemaError, unless, made_of, meaning_of, meaning_under, fields_from, fields_under, default_of, default_under, declared, completed_nodes, are_all_defaults_read, is_empty, DeclaresSchema, faults_of, refusals_of_nodes, or_else, HasFault, refusal_of_fault}
 
 -- ---- look-ups
 
 option_map-match : {A B : Type 0} (f : A → B) (o : Ordering) (a b c : Option A)
     → option_map f (match_ordering o a b c) ≡ match_ordering o (option_map f a) (option_map f b) (option_map f c)
-option_map-match f Ordering.Less a b c = refl
-option_map-match f Ordering.Equal a b c = refl
-option_map-match f Ordering.Greater a b c = refl
+option_map-match f o a b c = grind arith
 
 option_and_then-match : {A B : Type 0} (f : A → Option B) (o : Ordering) (a b c : Option A)
     → option_and_then f (match_ordering o a b c) ≡ match_ordering o (option_and_then f a) (option_and_then f b) (option_and_then f c)
-option_and_then-match f Ordering.Less a b c = refl
-option_and_then-match f Ordering.Equal a b c = refl
-option_and_then-match f Ordering.Greater a b c = refl
+option_and_then-match f o a b c = grind arith
 
 -- the meaning of a member is that of the value that is found at its key
 pub meaning_under-found : (key : List ℕ) (ms : Members) → meaning_under key ms ≡ option_map meaning_of (get_member key ms)
@@ -51,48 +47,26 @@ pub at_most_one_schema : (tree : Data) (a b : List Node) → DeclaresSchema tree
 at_most_one_schema tree a b g h = cc
 
 only_where : {A : Type 0} (b : Bool) (x y : A) → (if b then Some x else None) ≡ Some y → (b ≡ true) × (x ≡ y)
-only_where true x y h = (refl, cc)
-only_where false x y h = cc
+only_where b x y h = grind arith
 
 -- the nodes that a tree declares are a schema
 pub is_schema-from_declared : (tree : Data) (nodes : List Node) → DeclaresSchema tree nodes → is_schema nodes ≡ true
-is_schema-from_declared tree nodes h =
-    let raws = (made_of tree).nodes in
-    let start = not (has_float tree) && is_empty (made_of tree).faults in
-    let schema = is_schema (completed_nodes raws) in
-    let found = only_where (start && schema && are_all_defaults_read raws) (completed_nodes raws) nodes h in
-    let all = and_parts (start && schema) (are_all_defaults_read raws) found.0 in
-    subst (λ ns. is_schema ns ≡ true) found.1 (and_parts start schema all.0).1
+is_schema-from_declared tree nodes h = grind (arith, and_parts, only_where)
 
 -- with f for the floats, xs for the faults of declarations, ys for those of nodes, s for the schema and r for the defaults
 stages-clean : (f s r : Bool) (xs ys : List SchemaError) → (ys ≡ [] → s ≡ true)
     → or_else (unless (not f) SchemaError.UnsupportedNumber) (or_else xs (or_else ys (unless r SchemaError.InvalidDefault))) ≡ []
     → (not f && is_empty xs && s && r) ≡ true
-stages-clean false s true [] [] kept h = rw (kept refl) refl
-stages-clean false s false [] [] kept h = cc
-stages-clean false s r [] (y ∷ ys) kept h = cc
-stages-clean false s r (x ∷ xs) ys kept h = cc
-stages-clean true s r xs ys kept h = cc
+stages-clean f s r xs ys kept h = grind arith
 
 stages-faulty : (f s r : Bool) (xs ys : List SchemaError) (e : SchemaError) (es : List SchemaError) → (s ≡ true → ys ≡ [])
     → or_else (unless (not f) SchemaError.UnsupportedNumber) (or_else xs (or_else ys (unless r SchemaError.InvalidDefault))) ≡ e ∷ es
     → (not f && is_empty xs && s && r) ≡ false
-stages-faulty true s r xs ys e es clean h = refl
-stages-faulty false s r (x ∷ xs) ys e es clean h = refl
-stages-faulty false false r [] ys e es clean h = refl
-stages-faulty false true false [] ys e es clean h = refl
-stages-faulty false true true [] ys e es clean h = absurd (nil-is-no_cons ys e es (clean refl) h)
-  where
-    nil-is-no_cons : (ys : List SchemaError) (e : SchemaError) (es : List SchemaError) → ys ≡ [] → or_else ys [] ≡ e ∷ es → ⊥
-    nil-is-no_cons [] e es g h = cc
-    nil-is-no_cons (y ∷ ys) e es g h = cc
+stages-faulty f s r xs ys e es clean h = grind arith
 
 -- a tree without a fault declares a schema, and one with a fault none
 pub declared-from_no_faults : (tree : Data) → faults_of tree ≡ [] → DeclaresSchema tree (completed_nodes (made_of tree).nodes)
-declared-from_no_faults tree h =
-    let raws = (made_of tree).nodes in
-    rw (stages-clean (has_float tree) (is_schema (completed_nodes raws)) (are_all_defaults_read raws) (made_of tree).faults
-    (refusals_of_nodes (completed_nodes raws)) (is_schema-from_no_refusals (completed_nodes raws)) h) refl
+declared-from_no_faults tree h = grind (arith, is_schema-from_no_refusals, stages-clean)
 
 pub none_declared-from_faults : (tree : Data) (e : SchemaError) (es : List SchemaError) → faults_of tree ≡ e ∷ es → declared tree ≡ None
 none_declared-from_faults tree e es h =
@@ -101,8 +75,7 @@ none_declared-from_faults tree e es h =
     (refusals_of_nodes (completed_nodes raws)) e es (no_refusals-from_is_schema (completed_nodes raws)) h) refl
 
 none_declared-from_faults_of : (tree : Data) (fault : SchemaError) (es : List SchemaError) → faults_of tree ≡ es → Contains es fault → declared tree ≡ None
-none_declared-from_faults_of tree fault [] h c = absurd (omega (arith, c.1))
-none_declared-from_faults_of tree fault (e ∷ es) h c = none_declared-from_faults tree e es h
+none_declared-from_faults_of tree fault es h c = grind (arith, none_declared-from_faults)
 
 -- a tree in which a fault is there declares no schema
 pub none_declared-from_fault : (tree : Data) (fault : SchemaError) → HasFault tree fault → declared tree ≡ None

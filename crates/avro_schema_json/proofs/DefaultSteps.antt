@@ -1,5 +1,5 @@
 -- One step of reading the defaults of items, of entries and of fields.
-use Rattle.avro_schema_json.proofs.Words.{◌≡◌, ℕ, zero, suc, ◌+◌, ◌<◌, ◌≤◌, List, [], ◌∷◌, ◌++◌, length, Option, Some, None, option_map, option_and_then, get_or, drop, refl, ap, ◌∙◌, sym, add-one, String, string_bytes, slice_get, Global, drop_more, Node, FieldNode, node_at, value_of, values_of, Value, Values, Entries, Data, get_member, view, items_view, members_view, Tree, Entry, default_of, default_under, each_default, entries_default, fields_default}
+use Rattle.avro_schema_json.proofs.Words.{arith, ◌≡◌, ℕ, zero, suc, ◌+◌, ◌<◌, ◌≤◌, List, [], ◌∷◌, ◌++◌, length, Option, Some, None, option_map, option_and_then, get_or, drop, refl, ap, ◌∙◌, sym, add-one, String, string_bytes, slice_get, Global, drop_more, Node, FieldNode, node_at, value_of, values_of, Value, Values, Entries, Data, get_member, view, items_view, members_view, Tree, Entry, default_of, default_under, each_default, entries_default, fields_default}
 use Rattle.avro_schema.specs.declared.datum.Datum.{Datum}
 use Rattle.avro_schema_json.proofs.RawSeen.{name_and_node}
 use Rattle.avro_schema_json.proofs.DeclarationLaws.{default_under-found}
@@ -62,10 +62,7 @@ pub record IsFieldAt (fields : List FieldNode) (i : ℕ) (name : List ℕ) (id :
 
 pub field_at-found : (fields : List FieldNode) (i : ℕ) (name : List ℕ) (id : ℕ) (found : Option FieldNode) → slice_get fields i ≡ found
     → Some (name, id) ≡ option_map name_and_node found → (f : FieldNode) × IsFieldAt fields i name id f
-field_at-found fields i name id None is h = cc
-field_at-found fields i name id (Some f) is h =
-    let pair : (name, id) ≡ (f.name, f.node) = cc in
-    (f, record { at = is; named = sym (ap (λ (q : List ℕ × ℕ). q.0) pair); node_is = sym (ap (λ (q : List ℕ × ℕ). q.1) pair) })
+field_at-found fields i name id found is h = grind arith
 
 pub field_next : (nodes : List Node) (es : List Entry) (fields : List FieldNode) (i : ℕ) (name : List ℕ) (id : ℕ) (x : Data) (all : Option Values)
     (done : List Datum) (d : Datum)
@@ -83,24 +80,12 @@ field_next nodes es fields i name id x all done d got member whole is =
 pub field_stop : (nodes : List Node) (es : List Entry) (fields : List FieldNode) (i : ℕ) (name : List ℕ) (id : ℕ) (x : Data) (all : Option Values) (done : List Datum)
     → Some (name, id) ≡ option_map name_and_node (slice_get fields i) → Some x ≡ get_member name (members_view es)
     → option_map (after_values done) (fields_left nodes es (drop i fields)) ≡ all → None ≡ default_of nodes x (node_at nodes id) → None ≡ all
-field_stop nodes es fields i name id x all done got member whole is =
-    let found = field_at-found fields i name id (slice_get fields i) refl got in
-    let f = found.0 in
-    let here : drop i fields ≡ f ∷ drop (suc i) fields = drop_at fields i f found.1.at in
-    let under : get_member f.name (members_view es) ≡ Some x = rw found.1.named (sym member) in
-    let first : None ≡ first_default nodes es f = is ∙ ap (λ p. default_of nodes x (node_at nodes p)) (sym found.1.node_is) ∙ sym (first_default-found nodes es f x under) in
-    value_stop all done (first_default nodes es f) (fields_left nodes es (drop (suc i) fields)) (rw here at whole) first
+field_stop nodes es fields i name id x all done got member whole is = grind (arith, drop_at, field_at-found, first_default-found, value_stop)
 
 pub field_missing : (nodes : List Node) (es : List Entry) (fields : List FieldNode) (i : ℕ) (name : List ℕ) (id : ℕ) (all : Option Values) (done : List Datum)
     → Some (name, id) ≡ option_map name_and_node (slice_get fields i) → None ≡ get_member name (members_view es)
     → option_map (after_values done) (fields_left nodes es (drop i fields)) ≡ all → None ≡ all
-field_missing nodes es fields i name id all done got member whole =
-    let found = field_at-found fields i name id (slice_get fields i) refl got in
-    let f = found.0 in
-    let here : drop i fields ≡ f ∷ drop (suc i) fields = drop_at fields i f found.1.at in
-    let under : get_member f.name (members_view es) ≡ None = rw found.1.named (sym member) in
-    let first : None ≡ first_default nodes es f = sym (first_default-none nodes es f under) in
-    value_stop all done (first_default nodes es f) (fields_left nodes es (drop (suc i) fields)) (rw here at whole) first
+field_missing nodes es fields i name id all done got member whole = grind (arith, drop_at, field_at-found, first_default-none, value_stop)
 
 pub fields_end : (nodes : List Node) (es : List Entry) (fields : List FieldNode) (i : ℕ) (all : Option Values) (done : List Datum)
     → length fields ≤ i → option_map (after_values done) (fields_left nodes es (drop i fields)) ≡ all → Some (values_of done) ≡ all

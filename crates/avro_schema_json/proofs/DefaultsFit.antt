@@ -1,10 +1,10 @@
 -- The default that JSON is for a node is a datum of the node.
 use Rattle.std.proofs.Common.{◌≡◌, ℕ, suc, ◌+◌, ◌≤◌, Bool, true, false, ◌&&◌, List, [], ◌∷◌, length, Option, Some, None, refl, sym, ap, subst, ◌∙◌, arith, Ordering, option_map, option_and_then, bytes_eq, nat_lt, ◌==◌, chars, slice_get, if◌then◌else◌, nat_cmp}
-use Rattle.avro_schema_json.proofs.Words.{list_all, match_ordering, slice_cmp, and_parts, nat_tests, Value, Values, value, Entries, no_entries, entry, values_count, entries_count, keys_of, Node, FieldNode, node_at, field_ids, are_distinct, Num, Data, Items, no_items, item, Members, no_members, member, as_i64, symbol_index, only_if, first_fit, by_first_fit, null_default, boolean_default, number_default, text_default, bytes_of_text, items_default, fields_default, object_default, names_only, member_keys, default_of, each_default, entries_default, default_under}
+use Rattle.avro_schema_json.proofs.Words.{list_all, match_ordering, slice_cmp, and_parts, nat_tests, Value, Values, value, Entries, no_entries, entry, values_count, entries_count, keys_of, Node, FieldNode, node_at, field_ids, are_distinct, Num, Data, Items, no_items, item, Members, no_members, member, symbol_index, only_if, first_fit, by_first_fit, null_default, boolean_default, number_default, text_default, bytes_of_text, items_default, fields_default, object_default, names_only, member_keys, default_of, each_default, entries_default, default_under}
 use Rattle.std.specs.Option.{option_or}
 use Rattle.std.specs.Str.{is_utf8}
 use Rattle.std.proofs.lemmas.Str.{IsUtf8-from_is_utf8, length-le-encodes, encodes-chars}
-use Rattle.avro_schema.specs.Fits.{fits, each_fits, entries_fit, fields_fit, is_int, is_long, is_count, is_text, are_bytes}
+use Rattle.avro_schema.specs.Fits.{fits, each_fits, entries_fit, fields_fit, is_count, is_text, are_bytes}
 use Rattle.avro_schema_json.specs.PlainTree.{items_count, is_plain_tree, are_plain_items, are_plain_members}
 
 -- ---- options
@@ -13,37 +13,24 @@ some-injective : {A : Type 0} {x y : A} → Some x ≡ Some y → x ≡ y
 some-injective h = cc
 
 map-some : {A B : Type 0} (f : A → B) (o : Option A) (y : B) → option_map f o ≡ Some y → (x : A) × (o ≡ Some x) × (f x ≡ y)
-map-some f None y h = cc
-map-some f (Some x) y h = (x, refl, some-injective h)
+map-some f o y h = grind (arith, some-injective)
 
 and_then-some : {A B : Type 0} (f : A → Option B) (o : Option A) (y : B) → option_and_then f o ≡ Some y → (x : A) × (o ≡ Some x) × (f x ≡ Some y)
-and_then-some f None y h = cc
-and_then-some f (Some x) y h = (x, refl, h)
+and_then-some f o y h = grind arith
 
 only_if-some : {A : Type 0} (b : Bool) (x y : A) → only_if b x ≡ Some y → (b ≡ true) × (x ≡ y)
-only_if-some true x y h = (refl, some-injective h)
-only_if-some false x y h = cc
+only_if-some b x y h = grind (arith, some-injective)
 
 -- ---- leaves
 
 null-fits : (nodes : List Node) (n : Node) (v : Value) → null_default n ≡ Some v → fits nodes n v ≡ true
-null-fits nodes Node.null v h = subst (λ w. fits nodes Node.null w ≡ true) (some-injective h) refl
-null-fits nodes _ v h = cc
+null-fits nodes n v h = grind (arith, some-injective)
 
 boolean-fits : (nodes : List Node) (b : Bool) (n : Node) (v : Value) → boolean_default b n ≡ Some v → fits nodes n v ≡ true
-boolean-fits nodes b Node.boolean v h = subst (λ w. fits nodes Node.boolean w ≡ true) (some-injective h) refl
-boolean-fits nodes b _ v h = cc
+boolean-fits nodes b n v h = grind (arith, some-injective)
 
 number-fits : (nodes : List Node) (x : Num) (n : Node) (v : Value) → number_default x n ≡ Some v → fits nodes n v ≡ true
-number-fits nodes x Node.int v h =
-    let found = and_then-some (λ i. only_if (is_int i) (Value.int i)) (as_i64 x) v h in
-    let within = only_if-some (is_int found.0) (Value.int found.0) v found.2 in
-    subst (λ w. fits nodes Node.int w ≡ true) within.1 within.0
-number-fits nodes x Node.long v h =
-    let found = and_then-some (λ i. only_if (is_long i) (Value.long i)) (as_i64 x) v h in
-    let within = only_if-some (is_long found.0) (Value.long found.0) v found.2 in
-    subst (λ w. fits nodes Node.long w ≡ true) within.1 within.0
-number-fits nodes x _ v h = cc
+number-fits nodes x n v h = grind (arith, and_then-some, only_if-some)
 
 -- a text has no more characters than bytes
 chars-counted : (text : List ℕ) → is_text text ≡ true → is_count (length (chars text)) ≡ true
@@ -56,9 +43,7 @@ chars-counted text h =
     fewer_counted m n le h = grind (arith, nat_tests)
 
 bytes-are_bytes : (text b : List ℕ) → is_text text ≡ true → bytes_of_text text ≡ Some b → are_bytes b ≡ true
-bytes-are_bytes text b p h =
-    let found = only_if-some (list_all (λ c. nat_lt c 256) (chars text)) (chars text) b h in
-    subst (λ l. are_bytes l ≡ true) found.1 (rw (chars-counted text p, found.0) refl)
+bytes-are_bytes text b p h = grind (arith, chars-counted, only_if-some)
 
 symbol_index-below : (word : List ℕ) (symbols : List (List ℕ)) (k : ℕ) → symbol_index word symbols ≡ Some k → nat_lt k (length symbols) ≡ true
 symbol_index-below word [] k h = cc
@@ -117,11 +102,7 @@ union-fits nodes ids i j id w same is fit = rw (same, is) fit
 
 by_first_fit-fits : (nodes : List Node) (read : Node → Option Value) (n : Node) (v : Value) → ((m : Node) (w : Value) → read m ≡ Some w → fits nodes m w ≡ true)
     → by_first_fit nodes n read ≡ Some v → fits nodes n v ≡ true
-by_first_fit-fits nodes read (Node.union ids) v fit h =
-    let found = first_fit-found nodes read 0 ids v h in
-    subst (λ w. fits nodes (Node.union ids) w ≡ true) found.3
-    (union-fits nodes ids (0 + found.0) found.0 found.1 found.2 (omega arith) found.4 (fit (node_at nodes found.1) found.2 found.5))
-by_first_fit-fits nodes read n v fit h = fit n v h
+by_first_fit-fits nodes read n v fit h = grind (arith, first_fit-found, union-fits)
 
 -- ---- items, entries and fields
 
@@ -159,11 +140,7 @@ fields-fit nodes under (f ∷ fields) vs fit h =
 items-fit : (nodes : List Node) (ds : Items) (n : Node) (v : Value) → is_count (items_count ds) ≡ true
     → ((m : Node) (vs : Values) → each_default nodes ds m ≡ Some vs → each_fits nodes m vs ≡ true)
     → items_default nodes (λ m. each_default nodes ds m) n ≡ Some v → fits nodes n v ≡ true
-items-fit nodes ds (Node.array id) v counted fit h =
-    let found = map-some Value.array (each_default nodes ds (node_at nodes id)) v h in
-    subst (λ w. fits nodes (Node.array id) w ≡ true) found.2
-    (rw (each-counted nodes ds (node_at nodes id) found.0 found.1, counted, fit (node_at nodes id) found.0 found.1) refl)
-items-fit nodes ds _ v counted fit h = cc
+items-fit nodes ds n v counted fit h = grind (arith, each-counted, map-some)
 
 object-fits : (nodes : List Node) (ms : Members) (n : Node) (v : Value) → is_count (length (member_keys ms)) ≡ true
     → list_all is_text (member_keys ms) ≡ true → are_distinct bytes_eq (member_keys ms) ≡ true
@@ -185,9 +162,7 @@ object-fits nodes ms _ v counted texts distinct fit all h = cc
 by_order : (nodes : List Node) (m : Node) (v : Value) (o : Ordering) (here : Node → Option Value) (rest : Option (Node → Option Value))
     → (here m ≡ Some v → fits nodes m v ≡ true) → (option_and_then (λ read. read m) rest ≡ Some v → fits nodes m v ≡ true)
     → option_and_then (λ read. read m) (match_ordering o rest (Some here) rest) ≡ Some v → fits nodes m v ≡ true
-by_order nodes m v Ordering.Less here rest one others h = others h
-by_order nodes m v Ordering.Equal here rest one others h = one h
-by_order nodes m v Ordering.Greater here rest one others h = others h
+by_order nodes m v o here rest one others h = grind arith
 
 mutual
   pub default_of-fits : (nodes : List Node) (d : Data) (n : Node) (v : Value) → is_plain_tree d ≡ true → default_of nodes d n ≡ Some v → fits nodes n v ≡ true

@@ -14,11 +14,7 @@ node_at-raws (r ∷ raws) (suc i) other h = node_at-raws raws i other h
 -- a default is that of the node itself, or of a branch
 default_of-own : (nodes : List Node) (d : Data) (n : Node) → default_of nodes d n ≡ by_first_fit nodes n (own_default nodes d)
 default_of-own nodes Data.null n = refl
-default_of-own nodes (Data.boolean b) n = refl
-default_of-own nodes (Data.number x) n = refl
-default_of-own nodes (Data.string text) n = refl
-default_of-own nodes (Data.array ds) n = refl
-default_of-own nodes (Data.object ms) n = refl
+default_of-own nodes _ n = refl
 
 pub default-no_union : (nodes : List Node) (d : Data) (n : Node) → branches_of n ≡ None → default_of nodes d n ≡ own_default nodes d n
 default-no_union nodes d n h = default_of-own nodes d n ∙ rw h refl
@@ -30,9 +26,7 @@ default-union nodes d n ids h = default_of-own nodes d n ∙ rw h refl
 -- the first branch, wherever the JSON is a default of it
 pub default-first_branch : (nodes : List Node) (d : Data) (n : Node) (id : ℕ) (others : List ℕ) (v : Value) → branches_of n ≡ Some (id ∷ others)
     → branches_of (node_at nodes id) ≡ None → default_of nodes d (node_at nodes id) ≡ Some v → default_of nodes d n ≡ Some (Value.union 0 v)
-default-first_branch nodes d n id others v has plain is =
-    let own : own_default nodes d (node_at nodes id) ≡ Some v = sym (default-no_union nodes d (node_at nodes id) plain) ∙ is in
-    default-union nodes d n (id ∷ others) has ∙ rw own refl
+default-first_branch nodes d n id others v has plain is = grind (arith, default-no_union, default-union)
 
 -- ---- branches in turn
 
@@ -43,17 +37,13 @@ drop_past (x ∷ xs) zero h = absurd (omega arith)
 drop_past (x ∷ xs) (suc i) h = drop_past xs i (omega arith)
 
 drop_ids : (ids : List NodeId) (i : ℕ) (id : NodeId) → i < length ids → id ≡ get_or ids i id → ids_of (drop i ids) ≡ id.0 ∷ ids_of (drop (suc i) ids)
-drop_ids ids i id below at =
-    let here : drop i ids ≡ id ∷ drop (i + 1) ids = drop_more ids i id below ∙ ap (λ y. y ∷ drop (i + 1) ids) (sym at) in
-    ap ids_of (rw add-one at here)
+drop_ids ids i id below at = grind (arith, add-one, drop_more)
 
 -- a branch that the JSON does not fit
 pub branch_next : (nodes : List Node) (d : Data) (ids : List NodeId) (i : ℕ) (id : NodeId) (all : Option Value) → i < length ids → id ≡ get_or ids i id
     → first_fit nodes (own_default nodes d) i (ids_of (drop i ids)) ≡ all → own_default nodes d (node_at nodes id.0) ≡ None
     → first_fit nodes (own_default nodes d) (i + 1) (ids_of (drop (i + 1) ids)) ≡ all
-branch_next nodes d ids i id all below at whole none =
-    let w = rw (drop_ids ids i id below at, none) at whole in
-    rw add-one w
+branch_next nodes d ids i id all below at whole none = grind (arith, add-one, drop_ids)
 
 -- values after others
 abbrev pub after_values : List Datum → Values → Values
@@ -85,8 +75,7 @@ after_entries-none (e ∷ es) = ap (entry (string_bytes e.0) (value_of e.1)) (af
 pub value_step : (all : Option Values) (done : List Datum) (d : Datum) (first : Option Value) (rest : Option Values)
     → option_map (after_values done) (option_and_then (λ v. option_map (value v) rest) first) ≡ all → Some (value_of d) ≡ first
     → option_map (after_values (done ++ d ∷ [])) rest ≡ all
-value_step all done d first None whole is = let w = rw (← is) at whole in w
-value_step all done d first (Some vs) whole is = let w = rw (← is) at whole in ap Some (sym (after_values-push done d vs)) ∙ w
+value_step all done d first rest whole is = grind (arith, after_values-push)
 
 -- one is not a default
 pub value_stop : (all : Option Values) (done : List Datum) (first : Option Value) (rest : Option Values)

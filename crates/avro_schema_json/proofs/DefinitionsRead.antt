@@ -1,5 +1,5 @@
 -- How definitions are read: a record, an enum, a fixed.
-use Rattle.avro_schema_json.proofs.Words.{◌≡◌, ℕ, suc, List, [], ◌++◌, Option, Some, None, refl, subst, length, sym, slice_set, Result, Ok, Err, append-nil, Name, Node, Members, SchemaError, Attribute, name_in, aliases_in, symbols_in, size_in, RawNode, RawField, Known, Made, Meaning, no_parts, node_with, definition_of, enum_named, fixed_named, record_named, defining, name_faults, State, made_at, IsRead, Reads, IsRefusal, Refuses, IsAttribute, IsBegun, limit_faults, beginning_faults, fields_meaning}
+use Rattle.avro_schema_json.proofs.Words.{arith, ◌≡◌, ℕ, suc, List, [], ◌++◌, Option, refl, subst, length, sym, slice_set, Ok, append-nil, Name, Node, Members, SchemaError, Attribute, name_in, aliases_in, symbols_in, size_in, RawNode, RawField, Known, Made, Meaning, no_parts, node_with, definition_of, enum_named, fixed_named, record_named, defining, name_faults, State, made_at, IsRead, Reads, IsRefusal, Refuses, IsAttribute, IsBegun, beginning_faults, fields_meaning}
 use Rattle.avro_schema_json.proofs.TypesRead.{IsHeld, first-refused, second-refused, grown-refused, node_with-read, node_with-own, node_with-part}
 
 -- What a definition makes once it has a name: a node of the name, its aliases, an attribute of its own and its parts.
@@ -21,8 +21,7 @@ no_attribute = record { value = tt; faults = [] }
 
 pub record-definition : (ms : Members) (fields : Option (List (Meaning RawField)))
     → IsDefinition ms (record_named ms fields) (λ name aliases none parts. RawNode.record_of name aliases parts) no_attribute (fields_meaning fields)
-record-definition ms None = record { made = λ known next name. simp append-nil }
-record-definition ms (Some meanings) = record { made = λ known next name. simp append-nil }
+record-definition ms fields = grind (arith, append-nil)
 
 pub enum-definition : (ms : Members)
     → IsDefinition ms (enum_named ms) (λ name aliases listed none. RawNode.plain (Node.enum name aliases listed.0 listed.1)) (symbols_in ms) nothing
@@ -41,14 +40,7 @@ module _ {A B : Type 0} {ms : Members} {named : Known → ℕ → Name → Made 
 
   -- a fault at the beginning of a definition
   pub unbegun : (e : SchemaError) → IsRefusal (beginning_faults before (name_in enclosing ms)) e → Refuses (definition_of ms named) enclosing before e
-  unbegun e refused = by (name_in enclosing ms) refl refused
-    where
-      by : (found : Result Name SchemaError) → name_in enclosing ms ≡ found → IsRefusal (beginning_faults before found) e → Refuses (definition_of ms named) enclosing before e
-      by (Err fault) is h = rw is h
-      by (Ok name) is h =
-          let faults = name_faults name before.known ++ (aliases_in name.namespace ms).faults in
-          rw (made_named name is) (first-refused (limit_faults before ++ (faults ++ own.faults)) _ e
-          (grown-refused (limit_faults before) faults own.faults e (grown-refused (limit_faults before) (name_faults name before.known) _ e h)))
+  unbegun e refused = grind (arith, first-refused, grown-refused)
 
   module _ {inside : State} {name : Name} {id : ℕ} (begun : IsBegun enclosing ms before inside name id) {space : List ℕ} (at : space ≡ name.namespace) where
     held : IsHeld before inside (defining name (length before.nodes) before.known) id
@@ -59,10 +51,7 @@ module _ {A B : Type 0} {ms : Members} {named : Known → ℕ → Name → Made 
     own-refused e h = rw (made_named name begun.name_is) (node_with-own part name.namespace held (node name (aliases_in name.namespace ms).value own.value) _ e h)
 
     pub misnamed : (e : SchemaError) → IsRefusal (aliases_in space ms).faults e → Refuses (definition_of ms named) enclosing before e
-    misnamed e refused =
-        let h : IsRefusal (aliases_in name.namespace ms).faults e = subst (λ (s : List ℕ). IsRefusal (aliases_in s ms).faults e) at refused in
-        own-refused e (first-refused (name_faults name before.known ++ (aliases_in name.namespace ms).faults) own.faults e
-        (second-refused (name_faults name before.known) _ e h))
+    misnamed e refused = grind (arith, first-refused, second-refused)
 
     pub misformed : (e : SchemaError) → IsRefusal own.faults e → Refuses (definition_of ms named) enclosing before e
     misformed e h = own-refused e (second-refused (name_faults name before.known ++ (aliases_in name.namespace ms).faults) own.faults e h)

@@ -1,5 +1,5 @@
 -- What is so of each element of a list before one, and of what each key of a map leads to, as one more comes.
-use Rattle.avro_schema_json.proofs.Words.{◌≡◌, ℕ, zero, suc, ◌+◌, ◌<◌, ◌≤◌, Bool, true, false, cond, List, [], ◌∷◌, ◌++◌, length, map, get_or, Option, Some, option_map, refl, sym, ap, subst, ◌∙◌, arith, nat_lt, slice_get, bytes_eq, slice_get-map, slice_get_within, bytes_eq-Decides, same_Some, slice_get-get_or, set, length-set, get_or-set_same}
+use Rattle.avro_schema_json.proofs.Words.{◌≡◌, ℕ, zero, suc, ◌+◌, ◌<◌, ◌≤◌, Bool, true, cond, List, [], ◌∷◌, ◌++◌, length, map, get_or, Option, Some, option_map, refl, sym, ap, ◌∙◌, arith, slice_get, bytes_eq, slice_get-map, slice_get_within, bytes_eq-Decides, same_Some, slice_get-get_or, set, length-set, get_or-set_same}
 
 -- ---- lists
 
@@ -32,14 +32,7 @@ Before {A} xs P i = (k : ℕ) (x : A) → k < i → slice_get xs k ≡ Some x �
 
 pub before-next : {A : Type 0} (xs : List A) (i : ℕ) (x : A) (P Q : ℕ → A → Type 0) → slice_get xs i ≡ Some x → ((k : ℕ) (y : A) → P k y → Q k y) → Q i x
     → Before xs P i → Before xs Q (i + 1)
-before-next xs i x P Q at kept here before k y within there = by (nat_lt k i) refl
-  where
-    by : (b : Bool) → nat_lt k i ≡ b → Q k y
-    by true e = kept k y (before k y (grind (arith, e)) there)
-    by false e =
-        let same : k ≡ i = grind (arith, e, within) in
-        let it : x ≡ y = same_Some x y (sym at ∙ ap (slice_get xs) (sym same) ∙ there) in
-        subst (λ j. Q j y) (sym same) (subst (Q i) it here)
+before-next xs i x P Q at kept here before k y within there = grind (arith, same_Some)
 
 pub before-all : {A : Type 0} (xs : List A) (i : ℕ) (P : ℕ → A → Type 0) → length xs ≤ i → Before xs P i → (k : ℕ) (x : A) → slice_get xs k ≡ Some x → P k x
 before-all xs i P past before k x at = before k x (omega (arith, past, slice_get_within xs k x at)) at
@@ -59,21 +52,12 @@ set-there xs j y below = slice_get-get_or (set xs j y) j y (omega (arith, below,
 
 pub put-each : {K V : Type 0} (same : K → K → Bool) → ((a b : K) → same a b ≡ true → a ≡ b) → (F : K → Option V → Type 0) (old new : K → Option V) (key : K) (v : V)
     → ((q : K) → new q ≡ cond (same key q) (Some v) (old q)) → ((q : K) → F q (old q)) → F key (Some v) → (q : K) → F q (new q)
-put-each same exact F old new key v put before this q = by (same key q) refl
-  where
-    by : (b : Bool) → same key q ≡ b → F q (new q)
-    by true e =
-        let at : new q ≡ Some v = rw e at (put q) in
-        subst (F q) (sym at) (subst (λ k. F k (Some v)) (exact key q e) this)
-    by false e =
-        let at : new q ≡ old q = rw e at (put q) in
-        subst (F q) (sym at) (before q)
+put-each same exact F old new key v put before this q = grind arith
 
 -- the same of each entry
 pub put-all : {K V : Type 0} (same : K → K → Bool) → ((a b : K) → same a b ≡ true → a ≡ b) → (P : K → V → Type 0) (old new : K → Option V) (key : K) (v : V)
     → ((q : K) → new q ≡ cond (same key q) (Some v) (old q)) → ((q : K) (w : V) → old q ≡ Some w → P q w) → P key v → (q : K) (w : V) → new q ≡ Some w → P q w
-put-all {V = V} same exact P old new key v put before this =
-    put-each same exact (λ q o. (w : V) → o ≡ Some w → P q w) old new key v put before (λ w is. subst (P key) (same_Some v w is) this)
+put-all = grind (arith, put-each, same_Some)
 
 pub exact-texts : (a b : List ℕ) → bytes_eq a b ≡ true → a ≡ b
 exact-texts a b = (bytes_eq-Decides a b).0

@@ -1,5 +1,5 @@
 -- Rows of nodes by their kinds.
-use Rattle.avro_schema_json.proofs.Words.{◌≡◌, ℕ, ◌≤◌, true, false, cond, Option, Some, None, Ordering, refl, sym, subst, arith, nat_lt, Equal-is, nat_cmp_is, get, place_of, pair_cmp, HasRow, HasKind, KeepsKinds, has_place, Row}
+use Rattle.avro_schema_json.proofs.Words.{◌≡◌, ℕ, ◌≤◌, true, false, cond, Option, Some, None, Ordering, refl, sym, arith, nat_lt, Equal-is, nat_cmp_is, get, place_of, pair_cmp, HasRow, HasKind, KeepsKinds, has_place, Row}
 use Rattle.std.specs.Ordering.{nat_cmp, is_eq}
 use Rattle.std.specs.BTreeMap.{BTreeMap}
 use Rattle.std.proofs.lemmas.Map.Lookups.{exact_unsigned, exact_pairs}
@@ -20,14 +20,10 @@ pair_itself a = rw (same_number a.0, same_number a.1) refl
 -- ---- rows of kinds
 
 pub in_row : (found : Option Row) (row : Row) (p : ℕ) → Some row ≡ found → HasRow found p → has_place row.words p ≡ true
-in_row None row p same has = absurd has
-in_row (Some other) row p same has =
-    let is : other ≡ row = cc in
-    subst (λ (r : Row). has_place r.words p ≡ true) is has
+in_row found row p same has = grind arith
 
 pub in_none : (found : Option Row) (p : ℕ) → None ≡ found → HasRow found p → ⊥
-in_none None p same has = has
-in_none (Some other) p same has = absurd cc
+in_none found p same has = grind arith
 
 -- one row more
 pub kind-put : (old new : BTreeMap (ℕ × ℕ) Row) (kind : ℕ × ℕ) (row : Row) → ((p : ℕ) → HasKind old kind p → has_place row.words p ≡ true)
@@ -37,9 +33,7 @@ kind-put old new kind row within put =
 
 pub kind-added : (old new : BTreeMap (ℕ × ℕ) Row) (kind : ℕ × ℕ) (row : Row) (p : ℕ) → has_place row.words p ≡ true
     → ((q : ℕ × ℕ) → get pair_cmp new q ≡ cond (is_eq (pair_cmp kind q)) (Some row) (get pair_cmp old q)) → HasKind new kind p
-kind-added old new kind row p there put =
-    let at : get pair_cmp new kind ≡ Some row = rw (pair_itself kind) at (put kind) in
-    subst (λ (o : Option Row). HasRow o p) (sym at) there
+kind-added old new kind row p there put = grind (arith, pair_itself)
 
 -- nodes past the last place share it
 pub past_last : (last m : ℕ) → last ≤ m → place_of last m ≡ last

@@ -1,5 +1,5 @@
 -- The ids of names and the numbers of namespaces, as one is added.
-use Rattle.avro_schema_json.proofs.Words.{◌≡◌, ◌⊎◌, inl, inr, ⊎_elim, ℕ, ◌+◌, ◌≤◌, Bool, true, false, not, ◌&&◌, ◌==◌, cond, List, length, [], ◌∷◌, ◌++◌, Option, Some, None, refl, sym, ap, ◌∙◌, arith, ne_eqb, bytes_eq, String, string_bytes, Result, Ok, Err, IfOk, OnOk, OnErr, is_some, if◌then◌else◌, Global, BTreeMap, btree_map_len, is_eq, nat_cmp, get, is_at, Updates, slice_cmp, cond-true, cond-false, false_from_ne_true, Decides-eqb, is_eq-slice_cmp, bytes_eq-Decides, Name, same_name, name_of, split_name, has_dot, is_dotted_name, is_primitive_word, is_eq-then, same_name-is, same_name-sym, Known, id_of, defining, Key, key_cmp, number_of, IsIndexOf, lookup, same_Some, unsigned_tied, both_ways, string_cmp, and_comm}
+use Rattle.avro_schema_json.proofs.Words.{◌≡◌, ◌⊎◌, inl, inr, ⊎_elim, ℕ, ◌+◌, ◌≤◌, Bool, true, false, ◌&&◌, ◌==◌, cond, List, length, [], ◌∷◌, ◌++◌, Option, Some, None, refl, sym, ap, ◌∙◌, arith, ne_eqb, bytes_eq, String, string_bytes, Result, Ok, Err, IfOk, OnOk, OnErr, is_some, if◌then◌else◌, Global, BTreeMap, btree_map_len, is_eq, nat_cmp, get, is_at, Updates, slice_cmp, cond-true, cond-false, false_from_ne_true, is_eq-slice_cmp, bytes_eq-Decides, Name, same_name, name_of, has_dot, is_eq-then, same_name-is, same_name-sym, Known, id_of, defining, Key, key_cmp, number_of, IsIndexOf, lookup, same_Some, and_comm}
 use Rattle.avro_schema_json.proofs.EachSeen.{exact-texts}
 use Rattle.avro_schema_json.specs.inside.KnownSeen.{known_of, IsNumbered}
 use Rattle.avro_schema_json.specs.declared.declarations.name_table.NameTable.{NameTable}
@@ -15,11 +15,7 @@ taken q name known first here absent =
     some_none h = absurd cc
 
 later : (name : Name) (known : Known) (first : Name × ℕ) → id_of name (first ∷ known) ≡ None → id_of name known ≡ None
-later name known first absent = by (same_name name first.0) refl
-  where
-    by : (same : Bool) → same_name name first.0 ≡ same → id_of name known ≡ None
-    by true h = let found = rw h at absent in absurd cc
-    by false h = rw h at absent
+later name known first absent = grind arith
 
 -- a name that is added is found with its id, and the others as before
 pub found_after : (q name : Name) (id : ℕ) (known : Known) → id_of name known ≡ None
@@ -29,30 +25,18 @@ found_after q name id (first ∷ known) absent = by (found_after q name id known
   where
     by : id_of q (known ++ (name, id) ∷ []) ≡ cond (same_name q name) (Some id) (id_of q known) → (here : Bool) → same_name q first.0 ≡ here
         → id_of q ((first ∷ known) ++ (name, id) ∷ []) ≡ cond (same_name q name) (Some id) (id_of q (first ∷ known))
-    by rest true h = let other = taken q name known first h absent in rw (h, other) refl
-    by rest false h = rw h rest
+    by rest here h = grind (arith, taken)
 
 -- a name is found by its namespace's number and its simple part
 pub found_in : (names : NameTable) (space : Space) (name : Name) (simple : List ℕ) (id : Option ℕ) (known : Known) → IsNumbered names space
     → space.namespace ≡ name.namespace → simple ≡ name.simple → known_of names ≡ known
     → ((namespace : List ℕ) → number_of names.numbers namespace ≡ Some space.number
     → id ≡ id_of (record { namespace = namespace; simple = simple }) (known_of names)) → id ≡ id_of name known
-found_in names space name simple id known numbered at spelled same answer =
-    answer name.namespace (ap (number_of names.numbers) (sym at) ∙ numbered)
-    ∙ ap (λ t. id_of (record { namespace = name.namespace; simple = t }) (known_of names)) spelled ∙ ap (id_of name) same
+found_in names space name simple id known numbered at spelled same answer = grind arith
 
 -- a word without a dot is in the enclosing namespace
 pub named_alone : (word enclosing : List ℕ) (name : Name) → has_dot word ≡ false → name_of word enclosing ≡ Some name → enclosing ≡ name.namespace
-named_alone word enclosing name none is = by (is_dotted_name word && not (is_primitive_word (split_name word enclosing).simple)) refl
-  where
-    split : split_name word enclosing ≡ record { namespace = enclosing; simple = word }
-    split = cond-false (has_dot word) _ _ none
-
-    by : (good : Bool) → (is_dotted_name word && not (is_primitive_word (split_name word enclosing).simple)) ≡ good → enclosing ≡ name.namespace
-    by true h =
-        let same : split_name word enclosing ≡ name = same_Some _ _ (sym (cond-true _ (Some (split_name word enclosing)) None h) ∙ is) in
-        sym (ap (λ (n : Name). n.namespace) split) ∙ ap (λ (n : Name). n.namespace) same
-    by false h = let none : None ≡ Some name = sym (cond-false _ (Some (split_name word enclosing)) None h) ∙ is in absurd (cc)
+named_alone word enclosing name none is = grind (arith, cond-false, cond-true, same_Some)
 
 -- ---- one more name in the index
 
@@ -61,19 +45,12 @@ or_none None = inl refl
 or_none (Some x) = inr (x, refl)
 
 is_eq-keys : (a b : Key) → is_eq (key_cmp a b) ≡ ((a.0 == b.0) && bytes_eq (string_bytes a.1) (string_bytes b.1))
-is_eq-keys a b =
-    is_eq-then (nat_cmp a.0 b.0) (string_cmp a.1 b.1)
-    ∙ rw (is_eq-slice_cmp (string_bytes a.1) (string_bytes b.1)) (ap (λ t. t && bytes_eq (string_bytes a.1) (string_bytes b.1)) (unsigned_tied a.0 b.0))
+is_eq-keys a b = grind (arith, is_eq-slice_cmp, is_eq-then)
 
 module _ (known : Known) (numbers : BTreeMap (List ℕ) ℕ) (ids : BTreeMap Key ℕ) (index : IsIndexOf known numbers ids) where
   -- numbers are equal where the namespaces are
   one_number : (one other : List ℕ) (m n : ℕ) → number_of numbers one ≡ Some m → number_of numbers other ≡ Some n → (m == n) ≡ bytes_eq one other
-  one_number one other m n h k =
-      both_ways (m == n) (bytes_eq one other)
-      (λ e. let same : m ≡ n = (Decides-eqb m n).0 e in
-      (bytes_eq-Decides one other).1 (index.distinct_numbers one other n (rw (← same) h) k))
-      (λ e. let same : Some m ≡ Some n = sym h ∙ ap (number_of numbers) (exact-texts one other e) ∙ k in
-      let equal : m ≡ n = cc in (Decides-eqb m n).1 equal)
+  one_number one other m n h k = grind (arith, bytes_eq-Decides, exact-texts)
 
   module _ (name : Name) (number id : ℕ) (simple : String Global) (later : BTreeMap Key ℕ) (numbered : number_of numbers name.namespace ≡ Some number)
       (spelled : string_bytes simple ≡ name.simple) (new : id_of name known ≡ None)
@@ -88,10 +65,7 @@ module _ (known : Known) (numbers : BTreeMap (List ℕ) ℕ) (ids : BTreeMap Key
         ∙ same_name-sym name (record { namespace = namespace; simple = string_bytes s })
 
     past : (n : ℕ) (s : String Global) → btree_map_len numbers ≤ n → is_eq (key_cmp (number, simple) (n, s)) ≡ false
-    past n s h =
-        let below = index.bounded name.namespace number numbered in
-        let other : (number == n) ≡ false = ne_eqb number n (λ e. omega (arith, e, below, h)) in
-        is_eq-keys (number, simple) (n, s) ∙ ap (λ b. b && bytes_eq (string_bytes simple) (string_bytes s)) other
+    past n s h = grind (arith, is_eq-keys, ne_eqb)
 
     pub named_after : IsIndexOf (defining name id known) numbers later
     named_after = record {
@@ -157,8 +131,7 @@ module _ (known : Known) (numbers : BTreeMap (List ℕ) ℕ) (ids : BTreeMap Key
     }
       where
         was_none : (q : List ℕ) → number_of later q ≡ None → (number_of numbers q ≡ None) ⊎ ((n : ℕ) × (number_of numbers q ≡ Some n)) → number_of numbers q ≡ None
-        was_none q h (inl none) = none
-        was_none q h (inr some) = let found : None ≡ Some some.0 = sym h ∙ numbers_kept q some.0 some.1 in absurd (cc)
+        was_none q h some = grind arith
 
   -- a map that is not changed
   unchanged_after : (later : BTreeMap (List ℕ) ℕ) → later.entries ≡ numbers.entries → IsIndexOf known later ids

@@ -1,5 +1,5 @@
 -- Which rows cover a text, and an object by how many members it has.
-use Rattle.avro_schema_json.proofs.Words.{◌≡◌, ℕ, suc, true, false, ◌==◌, List, [], ◌∷◌, length, Option, Some, None, option_map, option_and_then, refl, sym, ap, subst, ◌∙◌, Less, AllByRecursion, Vec, string_cmp, false≢true, Decides-eqb, length-map, is_eq-slice_cmp, Node, node_at, Value, Data, Members, members_view, Entry, symbol_index, text_default, bytes_of_text, object_default, entries_default, default_under, member_keys, only_if, place_of, Covers, kind_of, HasKind, AreKinds, AreNamesDistinct, has_place, symbols_of, HasSymbol, AreSymbols, Row}
+use Rattle.avro_schema_json.proofs.Words.{arith, ◌≡◌, ℕ, suc, true, false, ◌==◌, List, [], ◌∷◌, length, Option, Some, None, option_map, option_and_then, refl, sym, ap, subst, ◌∙◌, Less, AllByRecursion, Vec, string_cmp, false≢true, Decides-eqb, length-map, is_eq-slice_cmp, Node, node_at, Value, Data, Members, members_view, Entry, symbol_index, text_default, bytes_of_text, object_default, entries_default, default_under, member_keys, only_if, place_of, Covers, kind_of, HasKind, AreKinds, AreNamesDistinct, has_place, symbols_of, HasSymbol, AreSymbols, Row}
 use Rattle.std.specs.Prelude.{is_some, String, string_bytes, bytes_eq}
 use Rattle.std.specs.declared.alloc.Global.{Global}
 use Rattle.std.specs.List.{IsDistinct}
@@ -30,23 +30,15 @@ pub text-covered : (nodes : List Node) (last : ℕ) (rows : BTreeMap (ℕ × ℕ
 text-covered nodes last rows labels parents text row kinds enums all m h = by (node_at nodes m) h (kinds m) (enums m text)
   where
     of_bytes : (o : Option (List ℕ)) → bytes_of_text text ≡ o → is_some (option_map Value.bytes o) ≡ true → HasAll rows (4, 0) row
-    of_bytes None is h = absurd (false≢true h)
-    of_bytes (Some b) is h = all.bytes b is
+    of_bytes o is h = grind arith
 
     of_count : (o : Option (List ℕ)) (count : ℕ) → bytes_of_text text ≡ o → is_some (option_and_then (λ b. only_if (length b == count) (Value.fixed b)) o) ≡ true
         → HasKind rows (11, count) (place_of last m) → has_place row (place_of last m) ≡ true
-    of_count None count is h kind = absurd (false≢true h)
-    of_count (Some b) count is h kind =
-        let many : length b ≡ count = (Decides-eqb (length b) count).0 (only (length b == count) (Value.fixed b) h) in
-        all.fixeds b is (place_of last m) (subst (λ (k : ℕ). HasKind rows (11, k) (place_of last m)) (sym many) kind)
+    of_count o count is h kind = grind (arith, only)
 
     by : (n : Node) → is_some (text_default text n) ≡ true → HasKind rows (kind_of n) (place_of last m)
         → (is_some (symbol_index text (symbols_of n)) ≡ true → HasSymbol labels parents last (place_of last m) text) → has_place row (place_of last m) ≡ true
-    by Node.string h kind symbol = all.string (place_of last m) kind
-    by Node.bytes h kind symbol = of_bytes (bytes_of_text text) refl h (place_of last m) kind
-    by (Node.fixed name aliases count) h kind symbol = of_count (bytes_of_text text) count refl h kind
-    by (Node.enum name aliases words default) h kind symbol = all.enums (place_of last m) (symbol (sym (mapped Value.enum (symbol_index text words)) ∙ h))
-    by _ h kind symbol = absurd (false≢true h)
+    by n h kind symbol = grind (arith, mapped)
 
 -- ---- objects
 

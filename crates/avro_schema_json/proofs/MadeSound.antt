@@ -1,5 +1,5 @@
 -- No fault of a tree says that the text is not JSON, or that memory ran out.
-use Rattle.avro_schema_json.proofs.Words.{◌≡◌, ℕ, zero, suc, ◌+◌, ◌<◌, Bool, true, false, not, List, [], ◌∷◌, ◌++◌, Option, Some, None, Result, Ok, Err, length, refl, ap, arith, nat_lt, nat_le, subst, Ordering, sym, ◌∙◌, map, Contains, slice_index_or, codes, is_some, option_and_then, ok_or, if◌then◌else◌, nat_cmp, list_all, match_ordering, slice_cmp, and_parts, false≢true, list_all-append, Name, is_namespace, has_dot, name_of, Node, max_nodes, max_count, NodeFault, unknown_node, faults_of_nodes, Data, Items, no_items, item, Members, no_members, member, get_member, as_str, as_number, as_u64, SchemaError, unless, needed, text_in, as_texts, namespace_from, name_from, name_in, alias_texts_from, alias_texts_in, aliases_in, symbol_index, default_symbol_from, symbols_in, size_in, has_float, faults_of, refusals_of_nodes, or_else, HasFault, completed_nodes, are_all_defaults_read, refusal_of_fault, RawField, Known, Made, Meaning, faulty, in_turn, use_of, id_of, reference, Word, null_word, boolean_word, int_word, long_word, bytes_word, string_word, unsupported_word, type_name, word_of, type_of_word, union_of, container_of, defining, name_faults, record_named, enum_named, fixed_named, definition_of, Form, record_form, enum_form, fixed_form, array_form, map_form, error_form, word_form, no_form, form_of, type_of_form, field_of, no_field, meaning_of, branches_of, meaning_under, fields_under, fields_from, field_meanings, field_meaning, made_of}
+use Rattle.avro_schema_json.proofs.Words.{◌≡◌, ℕ, zero, suc, ◌+◌, ◌<◌, Bool, true, false, not, List, [], ◌∷◌, ◌++◌, Option, Some, None, Result, Ok, Err, length, refl, arith, nat_lt, subst, Ordering, map, Contains, slice_index_or, codes, is_some, ok_or, if◌then◌else◌, nat_cmp, list_all, match_ordering, slice_cmp, and_parts, list_all-append, Name, has_dot, name_of, Node, max_nodes, NodeFault, faults_of_nodes, Data, Items, no_items, item, Members, no_members, member, get_member, SchemaError, unless, needed, text_in, namespace_from, name_from, name_in, alias_texts_from, aliases_in, default_symbol_from, symbols_in, size_in, has_float, faults_of, refusals_of_nodes, or_else, HasFault, completed_nodes, are_all_defaults_read, refusal_of_fault, RawField, Known, Made, Meaning, faulty, in_turn, use_of, id_of, reference, Word, null_word, boolean_word, int_word, long_word, bytes_word, string_word, unsupported_word, type_name, word_of, type_of_word, union_of, container_of, name_faults, record_named, enum_named, fixed_named, definition_of, Form, record_form, enum_form, fixed_form, array_form, map_form, error_form, word_form, no_form, form_of, type_of_form, field_of, no_field, meaning_of, branches_of, meaning_under, fields_under, fields_from, field_meanings, field_meaning, made_of}
 
 -- a fault that a tree can have
 abbrev is_of_tree : SchemaError → Bool
@@ -24,30 +24,18 @@ both : {xs ys : List SchemaError} → AreOfTree xs → AreOfTree ys → AreOfTre
 both {xs} {ys} a b = record { clean = rw (list_all-append is_of_tree xs ys, a.clean, b.clean) refl }
 
 unless-of_tree : (b : Bool) (e : SchemaError) → is_of_tree e ≡ true → AreOfTree (unless b e)
-unless-of_tree true e h = of_none
-unless-of_tree false e h = of_one e h
+unless-of_tree b e h = grind (arith, of_none, of_one)
 
 needed-of_tree : {A : Type 0} (x : A) (o : Option A) → AreOfTree (needed x o).faults
-needed-of_tree x None = of_one SchemaError.InvalidDeclaration refl
-needed-of_tree x (Some y) = of_none
+needed-of_tree x o = grind (arith, of_none, of_one)
 
 -- ---- attributes
 
 namespace-of_tree : (enclosing : List ℕ) (namespace : Option Data) → is_of_tree_or_ok (namespace_from enclosing namespace) ≡ true
-namespace-of_tree enclosing None = refl
-namespace-of_tree enclosing (Some d) = by_text (as_str d) refl
-  where
-    by_test : (text : List ℕ) (b : Bool) → as_str d ≡ Some text → is_namespace text ≡ b → is_of_tree_or_ok (namespace_from enclosing (Some d)) ≡ true
-    by_test text true h k = rw (h, k) refl
-    by_test text false h k = rw (h, k) refl
-
-    by_text : (text : Option (List ℕ)) → as_str d ≡ text → is_of_tree_or_ok (namespace_from enclosing (Some d)) ≡ true
-    by_text None h = rw h refl
-    by_text (Some text) h = by_test text (is_namespace text) h refl
+namespace-of_tree enclosing namespace = grind arith
 
 inner-of_tree : (dot : Bool) (r : Result (List ℕ) SchemaError) → is_of_tree_or_ok r ≡ true → is_of_tree_or_ok (if dot then Ok [] else r) ≡ true
-inner-of_tree true r h = refl
-inner-of_tree false r h = h
+inner-of_tree dot r h = grind arith
 
 name-of_tree : (enclosing : List ℕ) (namespace : Option Data) (text : Option (List ℕ)) → is_of_tree_or_ok (name_from enclosing namespace text) ≡ true
 name-of_tree enclosing namespace None = refl
@@ -56,45 +44,27 @@ name-of_tree enclosing namespace (Some text) =
     (inner-of_tree (has_dot text) (namespace_from enclosing namespace) (namespace-of_tree enclosing namespace))
   where
     named : (space : List ℕ) (o : Option Name) → name_of text space ≡ o → is_of_tree_or_ok (ok_or (name_of text space) SchemaError.InvalidName) ≡ true
-    named space None h = rw h refl
-    named space (Some name) h = rw h refl
+    named space o h = grind arith
 
     within : (r : Result (List ℕ) SchemaError) → (if has_dot text then Ok [] else namespace_from enclosing namespace) ≡ r
         → is_of_tree_or_ok (if has_dot text then Ok [] else namespace_from enclosing namespace) ≡ true
         → is_of_tree_or_ok (name_from enclosing namespace (Some text)) ≡ true
-    within (Err e) h k = let m = rw h at k in rw h m
-    within (Ok space) h k = rw h (named space (name_of text space) refl)
+    within r h k = grind arith
 
 alias_texts-of_tree : (d : Option Data) → AreOfTree (alias_texts_from d).faults
-alias_texts-of_tree None = of_none
-alias_texts-of_tree (Some d) = needed-of_tree [] (as_texts d)
+alias_texts-of_tree d = grind (arith, needed-of_tree, of_none)
 
 aliases-of_tree : (namespace : List ℕ) (ms : Members) → AreOfTree (aliases_in namespace ms).faults
-aliases-of_tree namespace ms =
-    both (alias_texts-of_tree (get_member (codes "aliases") ms))
-    (unless-of_tree (list_all (λ text. is_some (name_of text namespace)) (alias_texts_in ms).value) SchemaError.InvalidName refl)
+aliases-of_tree namespace ms = grind (arith, alias_texts-of_tree, both, unless-of_tree)
 
 default-of_tree : (symbols : List (List ℕ)) (d : Option Data) → AreOfTree (default_symbol_from symbols d).faults
-default-of_tree symbols None = of_none
-default-of_tree symbols (Some d) = by_text (as_str d) refl
-  where
-    by_text : (text : Option (List ℕ)) → as_str d ≡ text → AreOfTree (default_symbol_from symbols (Some d)).faults
-    by_text None h = rw h (of_one SchemaError.InvalidDeclaration refl)
-    by_text (Some word) h = rw h (unless-of_tree (is_some (symbol_index word symbols)) SchemaError.InvalidSymbols refl)
+default-of_tree symbols d = grind (arith, of_none, of_one, unless-of_tree)
 
 symbols-of_tree : (ms : Members) → AreOfTree (symbols_in ms).faults
-symbols-of_tree ms = by_texts (option_and_then as_texts (get_member (codes "symbols") ms)) refl
-  where
-    by_texts : (texts : Option (List (List ℕ))) → option_and_then as_texts (get_member (codes "symbols") ms) ≡ texts → AreOfTree (symbols_in ms).faults
-    by_texts None h = rw h (of_one SchemaError.InvalidDeclaration refl)
-    by_texts (Some symbols) h = rw h (default-of_tree symbols (get_member (codes "default") ms))
+symbols-of_tree ms = grind (arith, default-of_tree, of_one)
 
 size-of_tree : (ms : Members) → AreOfTree (size_in ms).faults
-size-of_tree ms = by_size (option_and_then as_u64 (option_and_then as_number (get_member (codes "size") ms))) refl
-  where
-    by_size : (size : Option ℕ) → option_and_then as_u64 (option_and_then as_number (get_member (codes "size") ms)) ≡ size → AreOfTree (size_in ms).faults
-    by_size None h = rw h (of_one SchemaError.InvalidDeclaration refl)
-    by_size (Some size) h = rw h (unless-of_tree (nat_le size max_count) SchemaError.LimitExceeded refl)
+size-of_tree ms = grind (arith, of_one, unless-of_tree)
 
 -- ---- parts
 
@@ -136,33 +106,23 @@ reference-sound word = record { at = λ enclosing known next. by_name enclosing 
   where
     by_id : (enclosing : List ℕ) (known : Known) (next : ℕ) (name : Name) (id : Option ℕ) → name_of word enclosing ≡ Some name → id_of name known ≡ id
         → AreOfTree (reference word enclosing known next).faults
-    by_id enclosing known next name None h k = rw (h, k) (of_one SchemaError.UnknownName refl)
-    by_id enclosing known next name (Some id) h k = rw (h, k) of_none
+    by_id enclosing known next name id h k = grind (arith, of_none, of_one)
 
     by_name : (enclosing : List ℕ) (known : Known) (next : ℕ) (name : Option Name) → name_of word enclosing ≡ name
         → AreOfTree (reference word enclosing known next).faults
-    by_name enclosing known next None h = rw h (of_one SchemaError.InvalidName refl)
-    by_name enclosing known next (Some name) h = by_id enclosing known next name (id_of name known) h refl
+    by_name enclosing known next name h = grind (arith, of_one)
 
 word-sound : (word : List ℕ) → IsSoundMeaning (type_of_word word)
 word-sound word = by_word (word_of word) refl
   where
     by_word : (w : Word) → word_of word ≡ w → IsSoundMeaning (type_of_word word)
-    by_word null_word h = rw h (use-sound Node.null)
-    by_word boolean_word h = rw h (use-sound Node.boolean)
-    by_word int_word h = rw h (use-sound Node.int)
-    by_word long_word h = rw h (use-sound Node.long)
-    by_word bytes_word h = rw h (use-sound Node.bytes)
-    by_word string_word h = rw h (use-sound Node.string)
-    by_word unsupported_word h = rw h (faulty-sound 0 SchemaError.UnsupportedType refl)
-    by_word type_name h = rw h (reference-sound word)
+    by_word w h = grind (arith, faulty-sound, reference-sound, use-sound)
 
 union-sound : (branches : List (Meaning ℕ)) → AreSound branches → IsSoundMeaning (union_of branches)
 union-sound branches s = record { at = λ enclosing known next. above next of_none (in_turn-sound branches s enclosing known (suc next)) }
 
 container-sound : (node : ℕ → Node) (part : Option (Meaning ℕ)) → IfSound part → IsSoundMeaning (container_of node part)
-container-sound node None s = faulty-sound 0 SchemaError.InvalidDeclaration refl
-container-sound node (Some part) s = record { at = λ enclosing known next. above next of_none (s.at enclosing known (suc next)) }
+container-sound node part s = grind (arith, above, faulty-sound, of_none)
 
 -- ---- definitions
 
@@ -171,9 +131,7 @@ named-of_tree ms known name = both (unless-of_tree (not (is_some (id_of name kno
 
 record-sound : (ms : Members) (fields : Option (List (Meaning RawField))) → IfAllSound fields → (known : Known) (next : ℕ) (name : Name)
     → AreOfTree (record_named ms fields known next name).faults
-record-sound ms None s known next name = above next (named-of_tree ms known name) (of_one SchemaError.InvalidDeclaration refl)
-record-sound ms (Some fields) s known next name =
-    above next (named-of_tree ms known name) (in_turn-sound fields s name.namespace (defining name next known) (suc next))
+record-sound ms fields s known next name = grind (arith, above, in_turn-sound, named-of_tree, of_one)
 
 enum-sound : (ms : Members) (known : Known) (next : ℕ) (name : Name) → AreOfTree (enum_named ms known next name).faults
 enum-sound ms known next name = above next (both (named-of_tree ms known name) (symbols-of_tree ms)) of_none
@@ -190,8 +148,7 @@ definition-sound ms named s = record {
   where
     by_name : (enclosing : List ℕ) (known : Known) (next : ℕ) (r : Result Name SchemaError) → name_in enclosing ms ≡ r
         → is_of_tree_or_ok (name_in enclosing ms) ≡ true → AreOfTree (definition_of ms named enclosing known next).faults
-    by_name enclosing known next (Err e) h k = let m = rw h at k in rw h (of_one e m)
-    by_name enclosing known next (Ok name) h k = rw h (s known next name)
+    by_name enclosing known next r h k = grind (arith, of_one)
 
 form-sound : (ms : Members) (items values : Option (Meaning ℕ)) (fields : Option (List (Meaning RawField))) (form : Form) → IfSound items → IfSound values
     → IfAllSound fields → IsSoundMeaning (type_of_form ms items values fields form)
@@ -205,18 +162,13 @@ form-sound ms items values fields (word_form word) i v f = word-sound word
 form-sound ms items values fields no_form i v f = faulty-sound 0 SchemaError.InvalidDeclaration refl
 
 typed-sound : (ms : Members) (type : Option (Meaning ℕ)) → IfSound type → IsSoundMeaning (field_of ms type)
-typed-sound ms None s = record { at = λ enclosing known next. both (both (needed-of_tree [] (text_in (codes "name") ms)) (alias_texts-of_tree (get_member (codes "aliases") ms))) (of_one SchemaError.InvalidDeclaration refl) }
-typed-sound ms (Some meaning) s = record {
-  at = λ enclosing known next. both (both (needed-of_tree [] (text_in (codes "name") ms)) (alias_texts-of_tree (get_member (codes "aliases") ms))) (s.at enclosing known next);
-}
+typed-sound ms type s = grind (arith, alias_texts-of_tree, both, needed-of_tree, of_one)
 
 no_field-sound : IsSoundMeaning no_field
 no_field-sound = faulty-sound (record { name = []; aliases = []; node = 0; default = None }) SchemaError.InvalidDeclaration refl
 
 chosen : {A : Type 0} (P : A → Type 0) (o : Ordering) (a b : A) → P a → P b → P (match_ordering o a b a)
-chosen P Ordering.Less a b s t = s
-chosen P Ordering.Equal a b s t = t
-chosen P Ordering.Greater a b s t = s
+chosen P o a b s t = grind arith
 
 -- ---- by cases on the tree
 
@@ -263,12 +215,10 @@ contained_at (x ∷ xs) (suc k) e h below at = contained_at xs k e (and_parts (i
 -- ---- the faults of a tree
 
 or_else-of_tree : (xs : List SchemaError) {ys : List SchemaError} → AreOfTree xs → AreOfTree ys → AreOfTree (or_else xs ys)
-or_else-of_tree [] h k = k
-or_else-of_tree (x ∷ xs) h k = h
+or_else-of_tree xs h k = grind arith
 
 refusal-of_tree : (fault : NodeFault) → is_of_tree (refusal_of_fault fault) ≡ true
-refusal-of_tree unknown_node = refl
-refusal-of_tree _ = refl
+refusal-of_tree fault = grind arith
 
 refusals-of_tree : (faults : List NodeFault) → AreOfTree (map refusal_of_fault faults)
 refusals-of_tree [] = of_none
@@ -284,9 +234,7 @@ all-of_tree tree =
 
 -- none of them is one of these
 other : (xs : List SchemaError) (e : SchemaError) → AreOfTree xs → Contains xs e → (e ≡ SchemaError.NotJson → ⊥) × (e ≡ SchemaError.OutOfMemory → ⊥)
-other xs e h c =
-    let good = contained_at xs c.0 e h.clean c.1 c.2 in
-    (λ is. false≢true (sym (ap is_of_tree is) ∙ good), λ is. false≢true (sym (ap is_of_tree is) ∙ good))
+other xs e h c = grind (arith, contained_at)
 
 pub fault-other : (tree : Data) (e : SchemaError) → HasFault tree e → (e ≡ SchemaError.NotJson → ⊥) × (e ≡ SchemaError.OutOfMemory → ⊥)
 fault-other tree e c = other (faults_of tree) e (all-of_tree tree) c

@@ -1,6 +1,6 @@
 -- The marks of JSON as those of its parts are kept.
-use Rattle.avro_schema_json.proofs.Words.{◌≡◌, ℕ, zero, suc, ◌+◌, Bool, true, false, List, [], ◌∷◌, ◌++◌, length, length-append, nat_lt, Option, Some, None, get_or, refl, sym, ap, subst, ◌∙◌, ◌<◌, ◌⊎◌, inl, inr, arith, unwrap_or, Vec, none-some, same_Some, Node, Data, get_item, view, items_view, Tree, get_item_within, place_of, Covers, part_at, IsPartUnder, IsSetOf, IsMarked, marked, Stays, ArePartsMarked, Label, IsStep, AreParents, has_bit, words_of, label_of, has_place, LeadsTo, AreSteps, Mark}
-use Rattle.std.specs.Prelude.{slice_get, if◌then◌else◌, Result, Ok, Err, IfOk}
+use Rattle.avro_schema_json.proofs.Words.{◌≡◌, ℕ, zero, suc, ◌+◌, true, List, [], ◌∷◌, ◌++◌, length, length-append, Option, Some, None, get_or, refl, sym, ap, subst, ◌∙◌, ◌<◌, ◌⊎◌, inl, inr, arith, unwrap_or, Vec, none-some, same_Some, Node, Data, get_item, view, items_view, Tree, get_item_within, place_of, Covers, part_at, IsPartUnder, IsSetOf, IsMarked, marked, Stays, ArePartsMarked, Label, IsStep, AreParents, has_bit, words_of, label_of, has_place, LeadsTo, AreSteps, Mark}
+use Rattle.std.specs.Prelude.{slice_get, Result, Ok, Err, IfOk}
 use Rattle.std.specs.BTreeMap.{BTreeMap}
 use denote.Ref.{Bor}
 use Rattle.avro_schema_json.specs.inside.Parents.{number_of}
@@ -35,11 +35,7 @@ stays-twice one two three first second = record {
 }
 
 pub stays-appended : (before after : Marks) (ps : List Mark) → KeepsRows before.memo.sets after.memo.sets → after.all.items ≡ before.all.items ++ ps → Stays before after
-stays-appended before after ps kept appended = record {
-  rows = kept;
-  longer = rw appended (omega (arith, length-append before.all.items ps));
-  marks = λ i below. rw appended (append-before before.all.items ps i below);
-}
+stays-appended before after ps kept appended = grind (arith, append-before, length-append)
 
 -- ---- marks of parts
 
@@ -55,12 +51,7 @@ pushed (x ∷ ps) p (suc i) q h = elim (pushed ps p i q h) [
 -- one more part
 pub parts-push : (nodes : List Node) (last : ℕ) (before after : Marks) (d : Data) (ps : List Mark) (p : Mark) (e : Data) → Stays before after
     → ArePartsMarked nodes last before d ps → part_at (length ps) d ≡ Some e → IsMarked nodes last after e p → ArePartsMarked nodes last after d (ps ++ p ∷ [])
-parts-push nodes last before after d ps p e stays good here this = λ j f q there at. elim (pushed ps p j q at) [
-  | inl old ↦ still-marked nodes last before after f q stays (good j f q there old)
-  | inr now ↦
-      let same : e ≡ f = same_Some e f (sym here ∙ ap (λ k. part_at k d) now.0 ∙ there) in
-      subst (λ (x : Data). IsMarked nodes last after x q) same (subst (λ (r : Mark). IsMarked nodes last after e r) now.1 this)
-]
+parts-push nodes last before after d ps p e stays good here this = grind (arith, pushed, same_Some, still-marked)
 
 -- what holds parts
 pub whole-marked : (nodes : List Node) (last : ℕ) (before after : Marks) (d : Data) (row : List ℕ) (ps : List Mark) (m : Mark) → Stays before after
@@ -80,12 +71,7 @@ pub record Gathers (tables : Tables) (d : Data) (start now : Marks) (first row :
 
 pub gathers-none : (tables : Tables) (d : Data) (marks : Marks) (row : List ℕ) → AreSteps tables.parents.items marks.memo
     → Gathers tables d marks marks row row []
-gathers-none tables d marks row steps = record {
-  steps = steps;
-  stays = record { rows = λ n words at. at; longer = omega arith; marks = λ i below. refl };
-  covers = λ nodes are covers. covers;
-  parts = λ nodes are j e p here at. absurd (none-some p at);
-}
+gathers-none tables d marks row steps = grind (arith, none-some)
 
 pub gathers-next : (tables : Tables) (d e : Data) (start now after : Marks) (memo : Memo) (first row next : List ℕ) (ps : List Mark) (mark : Mark) (label : ℕ)
     → Gathers tables d start now first row ps → Stays now after → ((nodes : List Node) → AreTables nodes tables → IsMarked nodes tables.last after e mark)
@@ -123,24 +109,16 @@ pub covered-marked : {E : Type 0} (r : Result Mark E) (tables : Tables) (after :
     → ((nodes : List Node) → AreTables nodes tables → Covers nodes tables.last d row)
     → IfOk r (λ mark. (nodes : List Node) → AreTables nodes tables → Covers nodes tables.last e row → IsMarked nodes tables.last after e mark)
     → IfOk r (λ mark. (nodes : List Node) → AreTables nodes tables → IsMarked nodes tables.last after d mark)
-covered-marked (Ok m) tables after d e row same covers all = λ nodes are.
-    subst (λ (x : Data). IsMarked nodes tables.last after x m) (sym same) (all nodes are (subst (λ (x : Data). Covers nodes tables.last x row) same (covers nodes are)))
-covered-marked (Err f) tables after d e row same covers all = tt
+covered-marked r tables after d e row same covers all = grind arith
 
 -- an item at an index
 pub item-at : (xs ys : List Tree) (i j : ℕ) (x : Tree) → xs ≡ ys → j ≡ i → i < length xs → x ≡ get_or xs i x → get_item j (items_view ys) ≡ Some (view x)
-item-at xs ys i j x same number below at =
-    ap (λ k. get_item k (items_view ys)) number ∙ ap (λ (zs : List Tree). get_item i (items_view zs)) (sym same) ∙ sym (get_item_within xs i x below)
-    ∙ ap (λ y. Some (view y)) (sym at)
+item-at xs ys i j x same number below at = grind (arith, get_item_within)
 
 -- ---- steps
 
 place-below : (last m : ℕ) → last < 4096 → place_of last m < 4096
-place-below last m below = by (nat_lt m last) refl
-  where
-    by : (b : Bool) → nat_lt m last ≡ b → (if b then m else last) < 4096
-    by true h = grind (arith, h, below)
-    by false h = below
+place-below last m below = grind arith
 
 -- the parents of what a set has
 stepped : (nodes : List Node) (last : ℕ) (labels : BTreeMap (Bor (List ℕ)) ℕ) (parents : List (BTreeMap ℕ (Vec ℕ))) (label : Label) (k number : ℕ) (sets : Sets)
@@ -177,5 +155,4 @@ part-covered nodes tables _ e number s n before after are under set kept leads =
 
 pub steps-stay : (parents : List (BTreeMap ℕ (Vec ℕ))) (memo : Memo) (after : Sets) → KeepsRows memo.sets after → AreSteps parents memo
     → AreSteps parents (record { sets = after; steps = memo.steps })
-steps-stay parents memo after kept good = λ label s n found.
-    let leads = good label s n found in (leads.0, leads.1, kept s leads.0 leads.2, kept n leads.1 leads.3, leads.4)
+steps-stay parents memo after kept good = grind arith

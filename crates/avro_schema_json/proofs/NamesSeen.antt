@@ -1,13 +1,11 @@
 -- The names of fields as they are gathered.
-use Rattle.avro_schema_json.proofs.Words.{◌≡◌, ℕ, suc, ◌+◌, ◌≤◌, Bool, true, false, ◌||◌, cond, List, [], ◌∷◌, length, Option, Some, None, option_map, drop, refl, ap, sym, ◌∙◌, add-one, String, string_bytes, slice_get, bytes_eq, is_some, Global, list_any, bytes_eq-sym, FieldNode, members_view, Tree, Entry, member_keys, names_only, or-false}
+use Rattle.avro_schema_json.proofs.Words.{arith, ◌≡◌, ℕ, suc, ◌+◌, ◌≤◌, Bool, true, false, ◌||◌, cond, List, ◌∷◌, length, Option, Some, option_map, drop, refl, ap, sym, ◌∙◌, add-one, String, string_bytes, slice_get, bytes_eq, is_some, Global, list_any, bytes_eq-sym, FieldNode, members_view, Tree, Entry, member_keys, names_only, or-false}
 use Rattle.avro_schema_json.proofs.RawSeen.{name_and_node}
 use Rattle.avro_schema_json.proofs.DefaultSteps.{drop_at, field_at-found}
 use Rattle.avro_schema_json.proofs.DefaultsSeen.{drop_past}
 
 gathered : (b : Bool) (before : Option (Unit {0})) (r : Bool) → (is_some (cond b (Some tt) before) || r) ≡ (is_some before || (b || r))
-gathered true None r = refl
-gathered true (Some x) r = refl
-gathered false before r = refl
+gathered b before r = grind arith
 
 -- whether a field has the name
 abbrev pub is_named : List ℕ → FieldNode → Bool
@@ -26,23 +24,15 @@ name_next fields i key id before after name all got put whole =
 
 pub names_end : (fields : List FieldNode) (i : ℕ) (here : Bool) (name : List ℕ) (all : Bool) → length fields ≤ i
     → (here || list_any (is_named name) (drop i fields)) ≡ all → here ≡ all
-names_end fields i here name all past whole =
-    let none : drop i fields ≡ [] = drop_past fields i past in
-    sym (or-false here) ∙ (rw none at whole)
+names_end fields i here name all past whole = grind (arith, drop_past, or-false)
 
 -- ---- keys that are looked up
 
 pub key_named : (fields : List FieldNode) (before left : List Entry) (key : String Global) (x : Tree) (here all : Bool) → before ≡ (key, x) ∷ left
     → here ≡ list_any (is_named (string_bytes key)) fields → all ≡ names_only (member_keys (members_view before)) fields → here ≡ true
     → all ≡ names_only (member_keys (members_view left)) fields
-key_named fields before left key x here all step is whole passes =
-    let named : list_any (is_named (string_bytes key)) fields ≡ true = sym is ∙ passes in
-    let w = rw step at whole in
-    rw named at w
+key_named fields before left key x here all step is whole passes = grind arith
 
 pub key_unnamed : (fields : List FieldNode) (before left : List Entry) (key : String Global) (x : Tree) (here all : Bool) → before ≡ (key, x) ∷ left
     → here ≡ list_any (is_named (string_bytes key)) fields → all ≡ names_only (member_keys (members_view before)) fields → here ≡ false → false ≡ all
-key_unnamed fields before left key x here all step is whole none =
-    let named : list_any (is_named (string_bytes key)) fields ≡ false = sym is ∙ none in
-    let w = rw step at whole in
-    sym (rw named at w)
+key_unnamed fields before left key x here all step is whole none = grind arith

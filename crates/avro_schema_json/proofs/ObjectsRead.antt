@@ -1,5 +1,5 @@
 -- How objects are read: what their members mean.
-use Rattle.avro_schema_json.proofs.Words.{◌≡◌, ℕ, List, [], ◌∷◌, ◌++◌, Option, Some, None, refl, subst, arith, sym, ap, ◌∙◌, inr, BTreeMap, String, Global, option_map, option_and_then, codes, get_by_text, Node, Data, Members, object, get_member, view, members_view, view-lookup, SchemaError, needed, text_in, alias_texts_in, RawField, Meaning, faulty, container_of, meaning_of, fields_under, fields_from, field_meaning, field_of, form_of, array_form, map_form, State, Reads, Refuses, IsRefusal, IsAttribute, Tree as Value}
+use Rattle.avro_schema_json.proofs.Words.{◌≡◌, ℕ, List, [], ◌++◌, Option, Some, None, refl, subst, arith, sym, ap, ◌∙◌, inr, BTreeMap, String, Global, option_map, option_and_then, codes, get_by_text, Node, Data, Members, object, get_member, view, members_view, view-lookup, SchemaError, needed, text_in, alias_texts_in, RawField, Meaning, faulty, container_of, meaning_of, fields_under, fields_from, field_meaning, field_of, form_of, array_form, map_form, State, Reads, Refuses, IsRefusal, IsAttribute, Tree as Value}
 use Rattle.avro_schema_json.proofs.DeclarationLaws.{meaning_under-found, fields_under-found}
 use Rattle.avro_schema_json.proofs.TypesRead.{first-refused, second-refused}
 
@@ -50,9 +50,7 @@ module _ (ms : Members) (enclosing : List ℕ) (before : State) where
   typed d found = rw (meaning_under-found (codes "type") ms, found) refl
 
   pub field-unnamed : (e : SchemaError) → IsRefusal (needed {A = List ℕ} [] (text_in (codes "name") ms)).faults e → Refuses (field_meaning (object ms)) enclosing before e
-  field-unnamed e refused =
-      first-refused ((needed {A = List ℕ} [] (text_in (codes "name") ms)).faults ++ (alias_texts_in ms).faults) _ e
-      (first-refused (needed {A = List ℕ} [] (text_in (codes "name") ms)).faults (alias_texts_in ms).faults e refused)
+  field-unnamed e refused = grind (arith, first-refused)
 
   pub field-refused : (d : Data) (e : SchemaError) → get_member (codes "type") ms ≡ Some d → Refuses (meaning_of d) enclosing before e
       → Refuses (field_meaning (object ms)) enclosing before e
@@ -61,10 +59,7 @@ module _ (ms : Members) (enclosing : List ℕ) (before : State) where
       (second-refused ((needed {A = List ℕ} [] (text_in (codes "name") ms)).faults ++ (alias_texts_in ms).faults) _ e refused)
 
   pub field-untyped : get_member (codes "type") ms ≡ None → Refuses (field_meaning (object ms)) enclosing before SchemaError.InvalidDeclaration
-  field-untyped missing =
-      rw (meaning_under-found (codes "type") ms, missing)
-      (second-refused ((needed {A = List ℕ} [] (text_in (codes "name") ms)).faults ++ (alias_texts_in ms).faults)
-      (SchemaError.InvalidDeclaration ∷ []) SchemaError.InvalidDeclaration (inr (0, omega arith, refl)))
+  field-untyped missing = grind (arith, meaning_under-found, second-refused)
 
   pub field-read : (d : Data) (after : State) (name : List ℕ) (aliases : List (List ℕ)) (node : ℕ) (default : Option Data)
       → IsAttribute (needed [] (text_in (codes "name") ms)) name → IsAttribute (alias_texts_in ms) aliases → get_member (codes "type") ms ≡ Some d

@@ -1,5 +1,5 @@
 -- Parents of places, as they are put.
-use Rattle.avro_schema_json.proofs.Words.{◌≡◌, ℕ, zero, suc, ◌/◌, ◌%◌, ◌<◌, ◌≤◌, Bool, true, false, cond, ◌==◌, List, [], ◌∷◌, ◌++◌, length, set, get_or, Option, Some, None, refl, sym, ap, subst, ◌∙◌, arith, length-set, Vec, bit_at, bit_or, Decides-eqb, none-some, same_Some, slice_get_read, length-map, Name, Node, FieldNode, ids_of, NodeId, place_of, own_ids, Label, has_bit, words_or_none, words_under, words_at, words_of, label_of, HasParent, HasParts, IsField, AreFields, IsParent, KeepsUnder, KeepsParents, KeepsLabels, Equal-is, get_or-set_same, get_or-set_other}
+use Rattle.avro_schema_json.proofs.Words.{◌≡◌, ℕ, ◌/◌, ◌%◌, ◌<◌, ◌≤◌, Bool, true, false, cond, ◌==◌, List, length, set, get_or, Option, Some, None, refl, sym, subst, ◌∙◌, arith, length-set, Vec, bit_at, bit_or, Decides-eqb, none-some, same_Some, slice_get_read, length-map, Name, Node, FieldNode, ids_of, NodeId, place_of, own_ids, Label, has_bit, words_or_none, words_under, words_at, words_of, label_of, HasParent, HasParts, IsField, AreFields, IsParent, KeepsUnder, KeepsParents, KeepsLabels, Equal-is, get_or-set_same, get_or-set_other}
 use Rattle.std.specs.Prelude.{slice_get, Contains, bytes_eq}
 use Rattle.std.specs.Ordering.{nat_cmp, is_eq}
 use Rattle.std.specs.BTreeMap.{BTreeMap}
@@ -13,8 +13,7 @@ use Rattle.avro_schema_json.proofs.EachSeen.{Before, before-all, put-each, set-e
 -- ---- words with bits
 
 pub bit-set : (words : List ℕ) (w new p : ℕ) → w < length words → p / 64 ≡ w → bit_at new (p % 64) ≡ 1 → has_bit (set words w new) p
-bit-set words w new p below here bit =
-    of-bit (set words w new) p (subst (λ k. bit_at (get_or (set words w new) k 0) (p % 64) ≡ 1) (sym here) (rw (get_or-set_same words w new 0 below) bit))
+bit-set words w new p below here bit = grind (arith, get_or-set_same, of-bit)
 
 pub bit-kept : (words : List ℕ) (w old bits p : ℕ) → w < length words → old ≡ get_or words w old → has_bit words p → has_bit (set words w (bit_or old bits)) p
 bit-kept words w old bits p below at h = by (p / 64 == w) refl
@@ -34,9 +33,7 @@ bit-same words more p same h = of-bit more p (rw (same (p / 64)) (bit-of words p
 
 pub label-kept : (old new : BTreeMap (Bor (List ℕ)) ℕ) (name : List ℕ) (label : ℕ) → label_of old name ≡ None
     → ((word : List ℕ) → label_of new word ≡ cond (bytes_eq name word) (Some label) (label_of old word)) → KeepsLabels old new
-label-kept old new name label fresh put =
-    put-each bytes_eq exact-texts (λ word o. (number : ℕ) → label_of old word ≡ Some number → o ≡ Some number) (label_of old) (label_of new) name label put
-    (λ word number at. at) (λ number at. absurd (none-some number (sym fresh ∙ at)))
+label-kept old new name label fresh put = grind (arith, exact-texts, none-some, put-each)
 
 -- ---- what is kept by a key
 
@@ -44,13 +41,7 @@ label-kept old new name label fresh put =
 pub kept-put : {K : Type 0} (same : K → K → Bool) → ((a b : K) → same a b ≡ true → a ≡ b) → (old mid new : K → Option (Vec ℕ)) (key : K) (words : Vec ℕ)
     → ((q : K) → mid q ≡ cond (same key q) None (old q)) → ((q : K) → new q ≡ cond (same key q) (Some words) (mid q))
     → ((p : ℕ) → has_bit (words_or_none (old key)) p → has_bit words.items p) → (k : K) (p : ℕ) → has_bit (words_or_none (old k)) p → has_bit (words_or_none (new k)) p
-kept-put same exact old mid new key words removed put =
-    put-each same exact (λ k o. (p : ℕ) → has_bit (words_or_none (old k)) p → has_bit (words_or_none o) p) old new key words
-    (λ q. put q ∙ ap (cond (same key q) (Some words)) (removed q) ∙ twice (same key q) (old q)) (λ k p h. h)
-  where
-    twice : (b : Bool) (o : Option (Vec ℕ)) → cond b (Some words) (cond b None o) ≡ cond b (Some words) o
-    twice true o = refl
-    twice false o = refl
+kept-put same exact old mid new key words removed put = grind (arith, put-each)
 
 pub same_key : (a b : ℕ) → is_eq (nat_cmp a b) ≡ true → a ≡ b
 same_key a b h = exact_unsigned a b ((Equal-is (nat_cmp a b)).0 h)
@@ -79,27 +70,19 @@ keeps-on a b c first second = (second.0 ∙ first.0, λ part number p h. second.
 
 pub parts-all : (last i number parent : ℕ) (ids : List NodeId) (parents : List (BTreeMap ℕ (Vec ℕ))) → length ids ≤ i
     → Before (ids_of ids) (λ k y. has_bit (words_of parents (place_of last y) number) parent) i → HasParts last (ids_of ids) parents number parent
-parts-all last i number parent ids parents past each y among =
-    let count : length (ids_of ids) ≡ length ids = simp length-map in
-    before-all (ids_of ids) i (λ k z. has_bit (words_of parents (place_of last z) number) parent) (omega (arith, past, count)) each among.0 y
-    (slice_get_read (ids_of ids) (length (ids_of ids)) among.0 y refl among.1 (sym among.2))
+parts-all last i number parent ids parents past each y among = grind (arith, before-all, length-map, slice_get_read)
 
 -- ---- fields
 
 pub field-kept : (nodes : List Node) (last : ℕ) (labels more : BTreeMap (Bor (List ℕ)) ℕ) (old new : List (BTreeMap ℕ (Vec ℕ))) (f : FieldNode) (p : ℕ)
     → KeepsLabels labels more → KeepsParents old new → IsField nodes last labels old f p → IsField nodes last more new f p
-field-kept nodes last labels more old new f p names kept h =
-    (h.0, names f.name h.0 h.1, λ y among. kept.1 (place_of last y) h.0 p (h.2 y among))
+field-kept nodes last labels more old new f p names kept h = grind arith
 
 -- ---- a node as the parent of its parts
 
 module _ (nodes : List Node) (last : ℕ) (labels : BTreeMap (Bor (List ℕ)) ℕ) (parents : List (BTreeMap ℕ (Vec ℕ))) (p : ℕ) where
   pub array-parent : (id : ℕ) → HasParts last (own_ids nodes id) parents 0 p → IsParent nodes last labels parents (Node.array id) p
-  array-parent id parts Label.items t y part among =
-      let same : id ≡ t = same_Some id t part in
-      (0, refl, parts y (subst (λ k. Contains (own_ids nodes k) y) (sym same) among))
-  array-parent id parts Label.values t y part among = absurd (none-some t part)
-  array-parent id parts (Label.named name) t y part among = absurd part
+  array-parent id parts label t y part among = grind (arith, none-some, same_Some)
 
   pub map-parent : (id : ℕ) → HasParts last (own_ids nodes id) parents 1 p → IsParent nodes last labels parents (Node.map_of id) p
   map-parent id parts Label.items t y part among = absurd (none-some t part)
@@ -110,17 +93,10 @@ module _ (nodes : List Node) (last : ℕ) (labels : BTreeMap (Bor (List ℕ)) �
 
   pub record-parent : (name : Name) (aliases : List Name) (fields : List FieldNode) → AreFields nodes last labels parents fields p
       → IsParent nodes last labels parents (Node.record_of name aliases fields) p
-  record-parent name aliases fields each Label.items t y part among = absurd (none-some t part)
-  record-parent name aliases fields each Label.values t y part among = absurd (none-some t part)
-  record-parent name aliases fields each (Label.named word) t y part among =
-      let f = each part.at part.field part.there in
-      let label : label_of labels word ≡ Some f.0 = ap (label_of labels) (sym part.named_so) ∙ f.1 in
-      (f.0, label, f.2 y (subst (λ k. Contains (own_ids nodes k) y) (sym part.node_is) among))
+  record-parent name aliases fields each label t y part among = grind (arith, none-some)
 
 number-kept : (labels more : BTreeMap (Bor (List ℕ)) ℕ) (label : Label) (number : ℕ) → KeepsLabels labels more → number_of labels label ≡ Some number → number_of more label ≡ Some number
-number-kept labels more Label.items number names h = h
-number-kept labels more Label.values number names h = h
-number-kept labels more (Label.named name) number names h = names name number h
+number-kept labels more label number names h = grind arith
 
 pub has-kept : (labels more : BTreeMap (Bor (List ℕ)) ℕ) (old new : List (BTreeMap ℕ (Vec ℕ))) (label : Label) (part p : ℕ) → KeepsLabels labels more
     → KeepsParents old new → HasParent labels old label part p → HasParent more new label part p
@@ -134,6 +110,4 @@ parent-kept nodes last labels more old new n p names kept are = λ label t y par
 -- null is no parent
 pub null-parent : (nodes : List Node) (last : ℕ) (labels : BTreeMap (Bor (List ℕ)) ℕ) (parents : List (BTreeMap ℕ (Vec ℕ))) (p : ℕ)
     → IsParent nodes last labels parents Node.null p
-null-parent nodes last labels parents p Label.items t y part among = absurd (none-some t part)
-null-parent nodes last labels parents p Label.values t y part among = absurd (none-some t part)
-null-parent nodes last labels parents p (Label.named name) t y part among = absurd part
+null-parent nodes last labels parents p label t y part among = grind (arith, none-some)

@@ -1,12 +1,11 @@
 -- How the parts of a declaration are read.
-use Rattle.avro_schema_json.proofs.Words.{◌≡◌, ℕ, true, false, List, [], Option, Some, None, refl, arith, sym, inr, ◌⊎◌, IsErrOf, is_some, ok_or, Result, Ok, Contains, append-nil, Contains-append_right, Name, name_of, SchemaError, name_faults, Known, id_of, reference, State, made_at, IsRead, IsRefusal, limit_faults, beginning_faults}
+use Rattle.avro_schema_json.proofs.Words.{◌≡◌, ℕ, true, false, List, [], Option, Some, None, refl, arith, ◌⊎◌, IsErrOf, is_some, ok_or, Result, Ok, Contains, append-nil, Name, name_of, SchemaError, name_faults, Known, id_of, reference, State, made_at, IsRead, IsRefusal, beginning_faults}
 
 -- ---- references
 
 pub reference-read : (word enclosing : List ℕ) (s : State) (name : Name) (id : ℕ) → name_of word enclosing ≡ Some name
     → id_of name s.known ≡ Some id → IsRead (made_at (reference word) enclosing s) s s id
-reference-read word enclosing s name id is known =
-    rw (is, known) (record { no_faults = refl; result_is = refl; nodes_are = sym (append-nil s.nodes); known_are = refl })
+reference-read word enclosing s name id is known = grind (arith, append-nil)
 
 pub reference-unknown : (word enclosing : List ℕ) (s : State) (name : Name) → name_of word enclosing ≡ Some name
     → id_of name s.known ≡ None → Contains (made_at (reference word) enclosing s).faults SchemaError.UnknownName
@@ -18,12 +17,10 @@ pub ok-or_memory : {A : Type 0} (x : A) (model : Result A SchemaError) → IsErr
 ok-or_memory x model h = grind arith
 
 pub some-from_ok_or : {A : Type 0} (o : Option A) (x : A) (e : SchemaError) → ok_or o e ≡ Ok x → o ≡ Some x
-some-from_ok_or None x e h = cc
-some-from_ok_or (Some y) x e h = cc
+some-from_ok_or o x e h = grind arith
 
 pub not_some : {A : Type 0} (o : Option A) → is_some o ≡ false → o ≡ None
-not_some None h = refl
-not_some (Some x) h = cc
+not_some o h = grind arith
 
 -- ---- beginnings of definitions
 
@@ -36,5 +33,4 @@ name_faults-known name known h = rw h (0, omega arith, refl)
 
 pub beginning-known : (before : State) (named : Result Name SchemaError) (name : Name) → named ≡ Ok name
     → is_some (id_of name before.known) ≡ true → IsRefusal (beginning_faults before named) SchemaError.DuplicateName
-beginning-known before named name is h =
-    inr (rw is (Contains-append_right (limit_faults before) (name_faults name before.known) SchemaError.DuplicateName (name_faults-known name before.known h)))
+beginning-known before named name is h = grind (arith, name_faults-known)

@@ -1,5 +1,5 @@
 -- How the program's nodes and fields are seen before their defaults are read.
-use Rattle.avro_schema_json.proofs.Words.{◌≡◌, ℕ, ◌<◌, ◌≤◌, List, length, Option, Some, None, option_map, get_or, map, refl, ap, ◌∙◌, sym, slice_get, string_bytes, length-map, slice_get-map, slice_get_read, FieldNode, field_without_default, fields_seen, raw_field_of, raw_fields_of, KeptField as RawField}
+use Rattle.avro_schema_json.proofs.Words.{arith, ◌≡◌, ℕ, ◌<◌, ◌≤◌, List, length, Some, option_map, get_or, map, refl, ap, ◌∙◌, sym, slice_get, string_bytes, length-map, slice_get-map, slice_get_read, FieldNode, field_without_default, fields_seen, raw_fields_of, KeptField as RawField}
 
 -- the name and the node of a field
 abbrev pub name_and_node : FieldNode → List ℕ × ℕ
@@ -7,14 +7,7 @@ name_and_node f = (f.name, f.node)
 
 raw_field_at : (fs : List RawField) (i : ℕ)
     → option_map {U = List ℕ × ℕ} (λ f. (string_bytes f.name, f.node.0)) (slice_get fs i) ≡ option_map name_and_node (slice_get (map field_without_default (raw_fields_of fs)) i)
-raw_field_at fs i =
-    seen (slice_get fs i) ∙ ap (λ f. option_map name_and_node (option_map field_without_default f)) (sym (slice_get-map raw_field_of fs i))
-    ∙ ap (option_map name_and_node) (sym (slice_get-map field_without_default (raw_fields_of fs) i))
-  where
-    seen : (f : Option RawField)
-        → option_map {U = List ℕ × ℕ} (λ f. (string_bytes f.name, f.node.0)) f ≡ option_map name_and_node (option_map field_without_default (option_map raw_field_of f))
-    seen None = refl
-    seen (Some f) = refl
+raw_field_at fs i = grind (arith, slice_get-map)
 
 -- the field of an index, by its name
 pub field_item : (fs : List RawField) (i : ℕ) (f : RawField) (name : List ℕ) → i < length fs → f ≡ get_or fs i f → name ≡ string_bytes f.name

@@ -1,5 +1,5 @@
 -- A union in which a branch occurs twice, and a record that has two fields of one name, is a fault of the nodes with their defaults.
-use Rattle.avro_schema_json.proofs.Words.{◌≡◌, ℕ, zero, suc, ◌+◌, ◌<◌, ◌≤◌, Bool, true, false, not, ◌&&◌, cond, List, [], ◌∷◌, ◌++◌, length, map, drop, add-one, filter_map, Option, Some, None, get_or, ◌⊎◌, inl, inr, refl, sym, ap, subst, ◌∙◌, arith, nat_lt, slice_get, is_some, bytes_eq, flat_map, nat_cmp, BTreeSet, Bor, BTreeMap, list_all, list_any, cons_option, AllByRecursion, and_parts, or_parts, false≢true, not-true, false_from_ne_true, Decides-eqb, length-map, list_any-append, bytes_eq-Decides, Name, same_name-self, are_distinct, invalid_union, duplicate_field, breaks, has_fields_rule, IsThere, Node, FieldNode, node_at, node_name, ids_of, field_names, is_edge, is_union, BranchKind, unnamed, named, branch_kind, same_kind, broken-there, RawField, RawNode, field_without_default, node_without_defaults, completed_field, completed_node, without_defaults, all_without_defaults, KeptNode, kind_code, code_by, Repeats, SomeRepeats, RepeatsName, RecordRepeatsName, SomeRepeatsName, AreFieldsDistinct, or-true, label_of, NodeId}
+use Rattle.avro_schema_json.proofs.Words.{◌≡◌, ℕ, zero, suc, ◌+◌, ◌<◌, ◌≤◌, Bool, true, false, not, ◌&&◌, cond, List, [], ◌∷◌, ◌++◌, length, map, drop, add-one, filter_map, Option, Some, None, get_or, ◌⊎◌, refl, sym, ap, subst, ◌∙◌, arith, nat_lt, slice_get, is_some, bytes_eq, flat_map, nat_cmp, BTreeSet, Bor, BTreeMap, list_all, list_any, AllByRecursion, and_parts, or_parts, false≢true, not-true, false_from_ne_true, length-map, list_any-append, bytes_eq-Decides, Name, same_name-self, are_distinct, invalid_union, duplicate_field, breaks, has_fields_rule, IsThere, Node, FieldNode, node_at, node_name, ids_of, field_names, is_edge, is_union, BranchKind, branch_kind, same_kind, broken-there, RawField, RawNode, field_without_default, node_without_defaults, completed_field, completed_node, without_defaults, all_without_defaults, KeptNode, kind_code, code_by, Repeats, SomeRepeats, RepeatsName, RecordRepeatsName, SomeRepeatsName, AreFieldsDistinct, or-true, label_of, NodeId}
 use Rattle.std.specs.BTreeSet.{contains}
 use Rattle.avro_schema.specs.Node.{branches_of}
 use Rattle.avro_schema.specs.SeenKind.{kind_at, has_kind}
@@ -12,36 +12,25 @@ use Rattle.avro_schema_json.proofs.NodesSeen.{node_here, as_many}
 -- ---- one code, one kind
 
 same_kind-self : (k : BranchKind) → same_kind k k ≡ true
-same_kind-self (unnamed a) = (Decides-eqb a a).1 refl
-same_kind-self (named name) = same_name-self name
+same_kind-self k = grind (arith, same_name-self)
 
 same_code : (x y : ℕ) (k j : BranchKind) → (x ≡ y → k ≡ j) → kind_code x (Some k) ≡ kind_code y (Some j) → k ≡ j
-same_code x y (unnamed a) (unnamed b) alike h = let same : a ≡ b = omega (arith, h) in ap unnamed same
-same_code x y (unnamed a) (named name) alike h = absurd (omega (arith, h))
-same_code x y (named name) (unnamed b) alike h = absurd (omega (arith, h))
-same_code x y (named name) (named other) alike h = let same : x ≡ y = omega (arith, h) in alike same
+same_code x y k j alike h = grind arith
 
 has_some : {A : Type 0} (o : Option A) → is_some o ≡ true → (x : A) × (o ≡ Some x)
-has_some None h = absurd (false≢true h)
-has_some (Some x) h = (x, refl)
+has_some o h = grind arith
 
 module _ (nodes : List Node) where
   one_kind : (p q : Option BranchKind) (k j : BranchKind) → p ≡ q → p ≡ Some k → q ≡ Some j → k ≡ j
   one_kind p q k j a e f = cc
 
   kinds_alike : (x y : ℕ) (k j : BranchKind) → kind_at nodes x ≡ Some k → kind_at nodes y ≡ Some j → code_by nodes x ≡ code_by nodes y → same_kind k j ≡ true
-  kinds_alike x y k j e f h =
-      let h' : kind_code x (Some k) ≡ kind_code y (Some j) = ap (kind_code x) (sym e) ∙ h ∙ ap (kind_code y) f in
-      let same : k ≡ j = same_code x y k j (λ xy. one_kind (kind_at nodes x) (kind_at nodes y) k j (ap (kind_at nodes) xy) e f) h' in
-      ap (same_kind k) (sym same) ∙ same_kind-self k
+  kinds_alike x y k j e f h = grind (arith, same_code, same_kind-self)
 
   -- the first of branches that have kinds
   first_kind : (z : ℕ) (zs : List ℕ) → list_all (has_kind nodes) (z ∷ zs) ≡ true
       → (k : BranchKind) × (kind_at nodes z ≡ Some k) × (list_all (has_kind nodes) zs ≡ true) × (filter_map (kind_at nodes) (z ∷ zs) ≡ k ∷ filter_map (kind_at nodes) zs)
-  first_kind z zs some =
-      let parts = and_parts (has_kind nodes z) (list_all (has_kind nodes) zs) some in
-      let found = has_some (kind_at nodes z) parts.0 in
-      (found.0, found.1, parts.1, ap (λ (o : Option BranchKind). cons_option o (filter_map (kind_at nodes) zs)) found.1)
+  first_kind z zs some = grind (arith, and_parts, has_some)
 
   -- no later branch is of the kind of one
   none_later : (y x : ℕ) (k : BranchKind) (xs : List ℕ) (i : ℕ) → kind_at nodes y ≡ Some k → list_all (has_kind nodes) xs ≡ true
@@ -88,8 +77,7 @@ completed_at : {A : Type 0} (f : Node → A) → ((name : Name) (aliases : List 
 completed_at f alike nodes [] m = refl
 completed_at f alike nodes (RawNode.plain n ∷ raws) zero = refl
 completed_at f alike nodes (RawNode.record_of name aliases fields ∷ raws) zero = alike name aliases (map (completed_field nodes) fields) (map field_without_default fields)
-completed_at f alike nodes (RawNode.plain n ∷ raws) (suc m) = completed_at f alike nodes raws m
-completed_at f alike nodes (RawNode.record_of name aliases fields ∷ raws) (suc m) = completed_at f alike nodes raws m
+completed_at f alike nodes (_ ∷ raws) (suc m) = completed_at f alike nodes raws m
 
 completed_edge : (nodes : List Node) (raws : List RawNode) (m p : ℕ) → is_edge (map (completed_node nodes) raws) m p ≡ is_edge (map node_without_defaults raws) m p
 completed_edge nodes raws m p =
@@ -103,10 +91,7 @@ completed_edges nodes raws m (p ∷ ids) = rw (completed_edge nodes raws m p, co
 
 no_union : (nodes : List Node) (id : ℕ) (n : Node) (ids : List ℕ) → branches_of n ≡ Some ids → list_all (is_edge nodes id) ids ≡ true
     → is_union nodes ids ≡ false → breaks invalid_union nodes id n ≡ true
-no_union nodes id (Node.union found) ids is edges h =
-    let same : found ≡ ids = cc in
-    rw (same, edges, h) refl
-no_union nodes id _ ids is edges h = absurd cc
+no_union nodes id n ids is edges h = grind arith
 
 pub repeated-there : (nodes : List Node) (raws : List RawNode) → SomeRepeats (map node_without_defaults raws) → IsThere invalid_union (map (completed_node nodes) raws)
 repeated-there nodes raws some =
@@ -130,25 +115,17 @@ id_at = mapped-get (λ (id : NodeId). id.0)
 
 pub repeat-found : (nodes : List Node) (ids : List NodeId) (codes : BTreeSet ℕ) (i : ℕ) (id : NodeId) (code : ℕ) → i < length ids
     → code ≡ code_by nodes (get_or ids i id).0 → contains nat_cmp codes code ≡ true → AreCodes nodes ids codes i → Repeats nodes (ids_of ids)
-repeat-found nodes ids codes i id code below is there are =
-    let before = are code there in
-    (i, before.0, (get_or ids i id).0, before.1, before.2, id_at ids i id below, before.3, sym is ∙ sym before.4)
+repeat-found nodes ids codes i id code below is there are = grind (arith, id_at)
 
 pub repeat-next : (nodes : List Node) (ids : List NodeId) (old new : BTreeSet ℕ) (i : ℕ) (id : NodeId) (code : ℕ) → i < length ids
     → code ≡ code_by nodes (get_or ids i id).0 → ((m : ℕ) → contains nat_cmp new m ≡ true → (contains nat_cmp old m ≡ true) ⊎ (m ≡ code))
     → AreCodes nodes ids old i → AreCodes nodes ids new (i + 1)
-repeat-next nodes ids old new i id code below is added are = λ m there.
-    elim (added m there) [
-      | inl before ↦ (let found = are m before in (found.0, found.1, omega (arith, found.2), found.3, found.4))
-      | inr same ↦ (i, (get_or ids i id).0, omega arith, id_at ids i id below, sym is ∙ sym same)
-    ]
+repeat-next nodes ids old new i id code below is added are = grind (arith, id_at)
 
 pub some-repeats : (raws : List KeptNode) (i : ℕ) (raw : KeptNode) (ids : List ℕ) → i < length raws → raw ≡ get_or raws i raw
     → Some ids ≡ branches_of (without_defaults raw) → list_all (is_edge (all_without_defaults raws) i) ids ≡ true → Repeats (all_without_defaults raws) ids
     → SomeRepeats (all_without_defaults raws)
-some-repeats raws i raw ids below at are edges repeats =
-    let here : node_at (all_without_defaults raws) i ≡ without_defaults raw = node_here raws i raw below at in
-    (i, ids, omega (arith, as_many raws, below), ap branches_of here ∙ sym are, edges, repeats)
+some-repeats raws i raw ids below at are edges repeats = grind (arith, as_many, node_here)
 
 -- ---- names of fields
 
@@ -189,8 +166,7 @@ completed_names nodes [] = refl
 completed_names nodes (f ∷ fields) = rw (completed_names nodes fields) refl
 
 node_breaks : (n : Node) → RecordRepeatsName n → has_fields_rule n ≡ false
-node_breaks (Node.record_of name aliases fields) r = name_twice fields r.0 r.1 r.2 r.3 r.4 r.5 r.6 r.7
-node_breaks _ r = absurd r
+node_breaks n r = grind (arith, name_twice)
 
 names_break : (nodes : List Node) (raws : List RawNode) (m : ℕ) → RecordRepeatsName (node_at (map node_without_defaults raws) m)
     → has_fields_rule (node_at (map (completed_node nodes) raws) m) ≡ false
@@ -198,8 +174,7 @@ names_break nodes [] m r = absurd r
 names_break nodes (RawNode.plain n ∷ raws) zero r = node_breaks n r
 names_break nodes (RawNode.record_of name aliases fields ∷ raws) zero r =
     rw (completed_names nodes fields) (name_twice (map field_without_default fields) r.0 r.1 r.2 r.3 r.4 r.5 r.6 r.7)
-names_break nodes (RawNode.plain n ∷ raws) (suc m) r = names_break nodes raws m r
-names_break nodes (RawNode.record_of name aliases fields ∷ raws) (suc m) r = names_break nodes raws m r
+names_break nodes (_ ∷ raws) (suc m) r = names_break nodes raws m r
 
 pub repeated_field-there : (nodes : List Node) (raws : List RawNode) → SomeRepeatsName (map node_without_defaults raws) → IsThere duplicate_field (map (completed_node nodes) raws)
 repeated_field-there nodes raws some =
@@ -220,11 +195,7 @@ names-next fields old new i f name at is put are =
 
 pub name-found : (fields : List FieldNode) (names : BTreeMap (Bor (List ℕ)) ℕ) (i : ℕ) (f : FieldNode) (word : List ℕ) → slice_get fields i ≡ Some f → word ≡ f.name
     → is_some (label_of names word) ≡ true → AreFieldNames fields names i → RepeatsName fields
-name-found fields names i f word at is there are = by_found (label_of names word) refl there
-  where
-    by_found : (o : Option ℕ) → label_of names word ≡ o → is_some o ≡ true → RepeatsName fields
-    by_found None e t = absurd (false≢true t)
-    by_found (Some j) e t = let was = are word j e in (i, j, f, was.0, was.1, at, was.2, sym is ∙ was.3)
+name-found fields names i f word at is there are = grind arith
 
 -- the fields that are left have different names, none of which was kept
 abbrev pub AreNew : BTreeMap (Bor (List ℕ)) ℕ → List FieldNode → Type 0
@@ -240,8 +211,7 @@ apart old new name i put (word ∷ words) fresh =
     ((first.0, rest.0), (first.1, rest.1))
   where
     by : (b : Bool) → bytes_eq name word ≡ b → (bytes_eq name word ≡ false) × (label_of old word ≡ None)
-    by false e = (e, rw e at (sym (put word) ∙ fresh.0))
-    by true e = let kept : Some i ≡ None = rw e at (sym (put word) ∙ fresh.0) in absurd cc
+    by b e = grind arith
 
 pub new-next : (fields : List FieldNode) (old new : BTreeMap (Bor (List ℕ)) ℕ) (i : ℕ) (f : FieldNode) (name : List ℕ) → slice_get fields i ≡ Some f → name ≡ f.name
     → label_of old name ≡ None → ((word : List ℕ) → label_of new word ≡ cond (bytes_eq name word) (Some i) (label_of old word))
@@ -258,6 +228,4 @@ none-left fields names i past = rw (drop_past fields i past) (tt, tt)
 
 pub some-names : (raws : List KeptNode) (i : ℕ) (raw : KeptNode) → i < length raws → raw ≡ get_or raws i raw → RecordRepeatsName (without_defaults raw)
     → SomeRepeatsName (all_without_defaults raws)
-some-names raws i raw below at repeats =
-    let here : node_at (all_without_defaults raws) i ≡ without_defaults raw = node_here raws i raw below at in
-    (i, omega (arith, as_many raws, below), subst RecordRepeatsName (sym here) repeats)
+some-names raws i raw below at repeats = grind (arith, as_many, node_here)

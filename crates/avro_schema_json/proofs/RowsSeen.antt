@@ -1,5 +1,5 @@
 -- Rows of bits, word by word.
-use Rattle.avro_schema_json.proofs.Words.{◌≡◌, ◌≢◌, ℕ, ◌/◌, ◌%◌, ◌^◌, ◌*◌, ◌<◌, Bool, true, false, ◌==◌, List, length, get_or, set, refl, ◌∙◌, arith, bit_at, bit_or, get_or-set_same, get_or-set_other, bit_at_or, bit_at_and, bit_at-lt, bit_at_set_same, bit_at-zero, Decides-eqb, has_place, IsWithin, ◌≤◌}
+use Rattle.avro_schema_json.proofs.Words.{◌≡◌, ◌≢◌, ℕ, ◌/◌, ◌%◌, ◌^◌, ◌*◌, ◌<◌, Bool, true, false, ◌==◌, List, length, get_or, set, refl, arith, bit_at, bit_or, get_or-set_same, get_or-set_other, bit_at_or, bit_at_and, bit_at-lt, bit_at_set_same, bit_at-zero, Decides-eqb, has_place, IsWithin, ◌≤◌}
 unfoldable use Rattle.avro_schema_json.specs.inside.Parents.{has_bit}
 use Rattle.std.specs.Prelude.{nat_lt}
 use Rattle.std.proofs.lemmas.List.{get_or_past}
@@ -26,18 +26,11 @@ or-right : (a b i : ℕ) → (bit_at b i == 1) ≡ true → (bit_at (bit_or a b)
 or-right a b i h = is_one (bit_at (bit_or a b) i) (more-right a b i (one (bit_at b i) h))
 
 and-both : (a b i : ℕ) → (bit_at a i == 1) ≡ true → (bit_at b i == 1) ≡ true → (bit_at (bit_and a b) i == 1) ≡ true
-and-both a b i h k =
-    let here = one (bit_at a i) h in
-    let there = one (bit_at b i) k in
-    is_one (bit_at (bit_and a b) i) (bit_at_and a b i ∙ omega (arith, here, there))
+and-both a b i h k = grind (arith, bit_at_and, is_one, one)
 
 -- rows by their words
 pub within-words : (row other : List ℕ) → ((k i : ℕ) → k < 64 → (bit_at (get_or row k 0) i == 1) ≡ true → (bit_at (get_or other k 0) i == 1) ≡ true) → IsWithin row other
-within-words row other words p = by (nat_lt (p / 64) 64) refl
-  where
-    by : (b : Bool) → nat_lt (p / 64) 64 ≡ b → has_place row p ≡ true → has_place other p ≡ true
-    by true h = rw h (λ there. words (p / 64) (p % 64) (grind (arith, h)) there)
-    by false h = rw h (λ there. refl)
+within-words row other words p = grind arith
 
 pub or-within : (row old other : List ℕ) → ((k : ℕ) → k < 64 → get_or row k 0 ≡ bit_or (get_or old k 0) (get_or other k 0)) → IsWithin old row × IsWithin other row
 or-within row old other words = (
@@ -47,11 +40,7 @@ or-within row old other words = (
 
 pub and-within : (row old other : List ℕ) → ((k : ℕ) → k < 64 → get_or row k 0 ≡ bit_and (get_or old k 0) (get_or other k 0))
     → (p : ℕ) → has_place old p ≡ true → has_place other p ≡ true → has_place row p ≡ true
-and-within row old other words p = by (nat_lt (p / 64) 64) refl
-  where
-    by : (b : Bool) → nat_lt (p / 64) 64 ≡ b → has_place old p ≡ true → has_place other p ≡ true → has_place row p ≡ true
-    by true h = rw h (λ here there. rw (words (p / 64) (grind (arith, h))) (and-both (get_or old (p / 64) 0) (get_or other (p / 64) 0) (p % 64) here there))
-    by false h = rw h (λ here there. refl)
+and-within row old other words p = grind (arith, and-both)
 
 -- bits of one word more
 pub put-within : (row : List ℕ) (w bits : ℕ) → w < length row → IsWithin row (set row w (bit_or (get_or row w 0) bits))
@@ -59,21 +48,10 @@ put-within row w bits below = within-words row _ (λ k i inside there. by k i th
   where
     by : (k i : ℕ) → (bit_at (get_or row k 0) i == 1) ≡ true → (b : Bool) → (k == w) ≡ b
         → (bit_at (get_or (set row w (bit_or (get_or row w 0) bits)) k 0) i == 1) ≡ true
-    by k i there true h =
-        let same : k ≡ w = (Decides-eqb k w).0 h in
-        rw (same, get_or-set_same row w (bit_or (get_or row w 0) bits) 0 below) (or-left (get_or row w 0) bits i (rw (← same) there))
-    by k i there false h =
-        let other : k ≢ w = λ e. grind (arith, h, e) in
-        rw (get_or-set_other row w k (bit_or (get_or row w 0) bits) 0 other) there
+    by k i there b h = grind (arith, get_or-set_other, get_or-set_same, or-left)
 
 pub put-added : (row : List ℕ) (w bits p : ℕ) → w < length row → p / 64 ≡ w → bit_at bits (p % 64) ≡ 1 → has_place (set row w (bit_or (get_or row w 0) bits)) p ≡ true
-put-added row w bits p below here there = by (nat_lt (p / 64) 64) refl
-  where
-    by : (b : Bool) → nat_lt (p / 64) 64 ≡ b → has_place (set row w (bit_or (get_or row w 0) bits)) p ≡ true
-    by false h = rw h refl
-    by true h =
-        rw (h, here, get_or-set_same row w (bit_or (get_or row w 0) bits) 0 below)
-        (or-right (get_or row w 0) bits (p % 64) (is_one (bit_at bits (p % 64)) there))
+put-added row w bits p below here there = grind (arith, get_or-set_same, is_one, or-right)
 
 -- the bit of a place itself
 pub bit-itself : (k : ℕ) → k < 64 → bit_at (1 * 2 ^ k % 18446744073709551616) k ≡ 1
@@ -87,11 +65,7 @@ bit-itself k below =
 
 -- a place that a row has is a bit of its word
 pub bit-there : (row : List ℕ) (p w : ℕ) → p / 64 ≡ w → w < 64 → has_place row p ≡ true → bit_at (get_or row w 0) (p % 64) ≡ 1
-bit-there row p w here below there = by (nat_lt (p / 64) 64) refl there
-  where
-    by : (b : Bool) → nat_lt (p / 64) 64 ≡ b → has_place row p ≡ true → bit_at (get_or row w 0) (p % 64) ≡ 1
-    by true h t = let g : (bit_at (get_or row (p / 64) 0) (p % 64) == 1) ≡ true = rw h at t in rw (← here) (one (bit_at (get_or row (p / 64) 0) (p % 64)) g)
-    by false h t = absurd (grind (arith, h, here, below))
+bit-there row p w here below there = grind (arith, one)
 
 -- 0 has no bit
 pub no-bit : (i n : ℕ) → n ≡ 0 → bit_at n i ≡ 1 → ⊥
@@ -112,13 +86,10 @@ pub words-within : (old words row : List ℕ) (i : ℕ) → ((k : ℕ) → k < 6
 words-within old words row i past put = (within-words old row (λ k j below there. kept k j there (nat_lt k i) refl), λ p has. added p (bit-of words p has) (nat_lt (p / 64) 64) refl)
   where
     kept : (k j : ℕ) → (bit_at (get_or old k 0) j == 1) ≡ true → (b : Bool) → nat_lt k i ≡ b → (bit_at (get_or row k 0) j == 1) ≡ true
-    kept k j there true h = rw ((put k).0 (grind (arith, h))) (or-left (get_or old k 0) (get_or words k 0) j there)
-    kept k j there false h = rw ((put k).1 (grind (arith, h))) there
+    kept k j there b h = grind (arith, or-left)
 
     here : (p : ℕ) → bit_at (get_or words (p / 64) 0) (p % 64) ≡ 1 → p / 64 < 64 → (b : Bool) → nat_lt (p / 64) i ≡ b → (bit_at (get_or row (p / 64) 0) (p % 64) == 1) ≡ true
-    here p has below true h = rw ((put (p / 64)).0 (grind (arith, h))) (is_one _ (more-right (get_or old (p / 64) 0) (get_or words (p / 64) 0) (p % 64) has))
-    here p has below false h =
-        absurd (no-bit (p % 64) (get_or words (p / 64) 0) (get_or_past words (p / 64) 0 (past (p / 64) below (grind (arith, h)))) has)
+    here p has below b h = grind (arith, get_or_past, is_one, more-right, no-bit)
 
     added : (p : ℕ) → bit_at (get_or words (p / 64) 0) (p % 64) ≡ 1 → (b : Bool) → nat_lt (p / 64) 64 ≡ b → has_place row p ≡ true
     added p has false h = rw h refl

@@ -32,9 +32,7 @@ module _ {A : Type 0} (part : Meaning A) (space : List ℕ) {before inside : Sta
     (node : A → RawNode) (faults : List SchemaError) where
   -- what a part makes inside the node
   inside-made : made_at part space inside ≡ part space known (suc (length before.nodes))
-  inside-made =
-      let next : length inside.nodes ≡ suc (length before.nodes) = ap length held.nodes_are ∙ length-append before.nodes (RawNode.plain Node.null ∷ []) ∙ omega arith in
-      rw (held.known_are, next) refl
+  inside-made = grind (arith, length-append)
 
   pub node_with-read : (after last : State) (result : A) → faults ≡ [] → Reads part space inside after result
       → last.nodes ≡ slice_set after.nodes id (node result) → last.known ≡ after.known
@@ -82,9 +80,7 @@ module _ {A : Type 0} (meaning : Value → Meaning A) (meanings : List Value →
     (reading : IsReading whole (made_at (in_turn (meanings (drop i items))) enclosing now) before now results) where
   module _ (item : Value) (within : i < length items) (is : item ≡ get_or items i item) where
     at_item : IsReading whole (made_at (in_turn (meaning item ∷ meanings (drop (i + 1) items))) enclosing now) before now results
-    at_item =
-        subst (λ (ms : List (Meaning A)). IsReading whole (made_at (in_turn ms) enclosing now) before now results)
-        (ap meanings (drop_more items i item within) ∙ ap (λ x. meanings (x ∷ drop (i + 1) items)) (sym is) ∙ of_next item (drop (i + 1) items)) reading
+    at_item = grind (arith, drop_more)
 
     pub item-read : (later : State) (result : A) → Reads (meaning item) enclosing now later result
         → IsReading whole (made_at (in_turn (meanings (drop (i + 1) items))) enclosing later) before later (results ++ result ∷ [])
@@ -106,15 +102,7 @@ module _ {A : Type 0} (meaning : Value → Meaning A) (meanings : List Value →
     item-refused e refused = rw at_item.faults_are (first-refused (made_at (meaning item) enclosing now).faults _ e refused)
 
   pub items-read : length items ≤ i → IsRead whole before now results
-  items-read past =
-      let none : meanings (drop i items) ≡ [] = ap meanings (drop_of_length-le items past) ∙ of_none in
-      let done = subst (λ (ms : List (Meaning A)). IsReading whole (made_at (in_turn ms) enclosing now) before now results) none reading in
-      record {
-        no_faults = done.faults_are;
-        result_is = done.results_are ∙ append-nil results;
-        nodes_are = sym (done.nodes_are ∙ append-nil now.nodes);
-        known_are = sym done.known_are;
-      }
+  items-read past = grind (arith, append-nil, drop_of_length-le)
 
 -- the meanings of branches and of fields
 abbrev pub branch_meanings : List Value → List (Meaning ℕ)

@@ -1,6 +1,6 @@
 -- What the marks say, as the walk goes down.
-use Rattle.avro_schema_json.proofs.Words.{◌≡◌, ℕ, zero, suc, ◌+◌, ◌<◌, false, cond, List, [], ◌∷◌, ◌++◌, length, length-append, drop, Option, Some, None, get_or, refl, sym, ap, subst, ◌∙◌, arith, Ordering, unwrap_or, AllByRecursion, string_cmp, slice_cmp, get_by, false≢true, none-some, same_Some, Node, node_at, ids_of, Value, NodeId, Data, Members, get_member, view, members_view, Tree, Entry, member_here, member_later, first_fit, place_of, Covers, pair_cmp, IsSetOf, marked, member_at, part_at, own_default, has_place, nodes_of, IsKnown, FitsNoneBefore, HasNoneBefore, first_of, AreFirsts, AreMemberMarks, Mark}
-use Rattle.std.specs.Prelude.{is_some, slice_get, bytes_eq, String, string_bytes}
+use Rattle.avro_schema_json.proofs.Words.{◌≡◌, ℕ, zero, suc, ◌+◌, ◌<◌, false, cond, List, [], ◌∷◌, ◌++◌, length, length-append, drop, Option, Some, None, get_or, refl, sym, ap, subst, ◌∙◌, arith, Ordering, unwrap_or, AllByRecursion, string_cmp, slice_cmp, get_by, none-some, same_Some, Node, node_at, ids_of, Value, NodeId, Data, Members, get_member, view, members_view, Tree, Entry, member_here, member_later, first_fit, place_of, Covers, pair_cmp, IsSetOf, member_at, part_at, own_default, has_place, nodes_of, IsKnown, FitsNoneBefore, HasNoneBefore, first_of, AreFirsts, AreMemberMarks, Mark}
+use Rattle.std.specs.Prelude.{slice_get, bytes_eq, String, string_bytes}
 use Rattle.std.specs.declared.alloc.Global.{Global}
 use Rattle.std.specs.List.Sorted.{IsStrictlySortedBy}
 use Rattle.std.specs.Map.{keys_of}
@@ -19,16 +19,10 @@ use Rattle.avro_schema_json.proofs.MarksSeen.{marked-set}
 
 pub known-part : (walk : Walk) (d e : Data) (m : Mark) (j : ℕ) → IsKnown walk d (Some m) → j < m.count → part_at j d ≡ Some e
     → IsKnown walk e (slice_get walk.marks.now.all.items (m.parts + j))
-known-part walk d e m j (marked set ends parts) below here = by (slice_get walk.marks.now.all.items (m.parts + j)) refl
-  where
-    by : (o : Option Mark) → slice_get walk.marks.now.all.items (m.parts + j) ≡ o → IsKnown walk e o
-    by None at = tt
-    by (Some p) at = parts j e p below here at
+known-part walk d e m j known below here = grind arith
 
 pub known-same : (walk : Walk) (d e : Data) (o : Option Mark) → Some d ≡ Some e → IsKnown walk d o → IsKnown walk e o
-known-same walk d e o is known =
-    let same : d ≡ e = same_Some d e is in
-    subst (λ (x : Data). IsKnown walk x o) same known
+known-same walk d e o is known = grind (arith, same_Some)
 
 -- the mark of one more member
 pub member-known : (walk : Walk) (ms : Members) (old new : BTreeMap (Bor (List ℕ)) (Option Mark)) (key : List ℕ) (o : Option Mark) → AreMemberMarks walk ms old
@@ -43,18 +37,11 @@ member-known walk ms old new key o good put this =
 -- the JSON is no default of a node that its set has not
 unfit : (nodes : List Node) (last : ℕ) (d : Data) (row : List ℕ) (id : ℕ) → Covers nodes last d row → has_place row (place_of last id) ≡ false
     → own_default nodes d (node_at nodes id) ≡ None
-unfit nodes last d row id covers not = by (own_default nodes d (node_at nodes id)) refl
-  where
-    by : (o : Option Value) → own_default nodes d (node_at nodes id) ≡ o → own_default nodes d (node_at nodes id) ≡ None
-    by None e = e
-    by (Some v) e = absurd (false≢true (sym not ∙ covers id (ap is_some e)))
+unfit nodes last d row id covers not = grind arith
 
 known-set : (walk : Walk) (d : Data) (mark : Option Mark) (m : Mark) → mark ≡ Some m → IsKnown walk d mark
     → IsSetOf (nodes_of walk) walk.last walk.marks.now.memo.sets d m.set
-known-set walk d None m is known = absurd (none-some m is)
-known-set walk d (Some n) m is known =
-    let same : n ≡ m = same_Some n m is in
-    subst (λ (k : Mark). IsSetOf (nodes_of walk) walk.last walk.marks.now.memo.sets d k.set) same (marked-set (nodes_of walk) walk.last walk.marks.now d n known)
+known-set walk d mark m is known = grind (arith, marked-set, none-some, same_Some)
 
 pub not-fit : (walk : Walk) (d : Data) (mark : Option Mark) (m : Mark) (row : List ℕ) (id : ℕ) → mark ≡ Some m → row_at walk.marks.now.memo.sets m.set ≡ Some row
     → has_place row (place_of walk.last id) ≡ false → IsKnown walk d mark → own_default (nodes_of walk) d (node_at (nodes_of walk) id) ≡ None
@@ -66,14 +53,11 @@ not-fit walk d mark m row id is found not known =
 pub none-before : (walk : Walk) (d : Data) (mark : Option Mark) (m : Mark) (ids : List ℕ) (first : ℕ) → mark ≡ Some m
     → ((row : List ℕ) → row_at walk.marks.now.memo.sets m.set ≡ Some row → HasNoneBefore walk.last row ids first)
     → IsKnown walk d mark → FitsNoneBefore (nodes_of walk) d ids first
-none-before walk d mark m ids first is none known = λ j id below at.
-    let set = known-set walk d mark m is known in unfit (nodes_of walk) walk.last d set.0 id set.2 (none set.0 set.1 j id below at)
+none-before walk d mark m ids first is none known = grind (arith, known-set, unfit)
 
 pub none-in : (walk : Walk) (set : ℕ) (words ids : List ℕ) (first : ℕ) → row_at walk.marks.now.memo.sets set ≡ Some words → HasNoneBefore walk.last words ids first
     → (row : List ℕ) → row_at walk.marks.now.memo.sets set ≡ Some row → HasNoneBefore walk.last row ids first
-none-in walk set words ids first found none row at =
-    let same : words ≡ row = same_Some words row (sym found ∙ at) in
-    subst (λ (r : List ℕ). HasNoneBefore walk.last r ids first) same none
+none-in walk set words ids first found none row at = grind (arith, same_Some)
 
 pub none-next : (last : ℕ) (row : List ℕ) (ids : List NodeId) (i : ℕ) (x : NodeId) → i < length ids → HasNoneBefore last row (ids_of ids) i
     → has_place row (place_of last (get_or ids i x).0) ≡ false → HasNoneBefore last row (ids_of ids) (i + 1)

@@ -1,18 +1,17 @@
 -- Results of resolution that are faults, and data that have one.
-use Rattle.std.proofs.Common.{◌≡◌, ℕ, zero, suc, ◌<◌, Bool, true, false, ◌&&◌, cond, List, [], ◌∷◌, Option, Some, None, Result, Ok, Err, inl, inr, length, get_or, ap, refl, sym, ◌∙◌, subst, arith}
+use Rattle.std.proofs.Common.{◌≡◌, ℕ, suc, ◌<◌, Bool, true, false, List, [], ◌∷◌, Option, Some, None, Result, Ok, Err, inl, inr, length, get_or, ap, refl, sym, ◌∙◌, subst, arith}
 use Rattle.std.proofs.lemmas.Bool.{false≢true, true≢false, and_from}
 use Rattle.std.proofs.lemmas.List.Quantifiers.{position-Some}
 use Rattle.std.proofs.lemmas.Option.{unwrap_or-slice_get}
-use Rattle.std.specs.Prelude.{slice_get, is_some, bytes_eq, position, option_and_then}
+use Rattle.std.specs.Prelude.{slice_get, is_some, bytes_eq, position}
 use Rattle.std.specs.List.{list_any}
 use Rattle.std.specs.Str.{is_utf8, chars}
 use Rattle.avro_schema.specs.Value.{Value, Values, no_values, value, no_entries, entry, values_count}
-use Rattle.avro_schema.specs.Node.{Node, FieldNode, node_at, branches_of, items_node, values_node, field_ids}
-use Rattle.avro_schema.specs.Fits.{fits, entries_fit, is_some_and, is_count, are_bytes, is_text}
-use Rattle.avro_compare.specs.Fault.{ResolutionFault, fault_here, no_match}
-use Rattle.avro_compare.specs.Match.{is_match}
+use Rattle.avro_schema.specs.Node.{Node, FieldNode, node_at, branches_of, field_ids}
+use Rattle.avro_schema.specs.Fits.{fits, is_count, are_bytes}
+use Rattle.avro_compare.specs.Fault.{ResolutionFault}
 use Rattle.avro_compare.specs.Source.{reader_field, missing_field}
-use Rattle.avro_compare.specs.Resolve.{Resolved, Sourced, inside, result_map, both, matched, through, part_at, fields_at, record_or_missing, with_sourced, resolve, resolve_items, resolve_entries, resolve_sources}
+use Rattle.avro_compare.specs.Resolve.{Resolved, Sourced, inside, result_map, both, matched, through, fields_at, record_or_missing, with_sourced, resolve, resolve_sources}
 use Rattle.avro_compare.proofs.public.NodeKinds.{is_plain_value}
 use Rattle.avro_compare.proofs.public.Symbols.{bytes_eq-sym}
 use Rattle.avro_certificate.proofs.public.LeafData.{empty_text}
@@ -25,58 +24,41 @@ IsFault (Err e) = Unit {0}
 
 -- which one
 pub the_fault : {A : Type 0} (x : Result A ResolutionFault) → IsFault x → (fault : ResolutionFault) × (x ≡ Err fault)
-the_fault (Ok a) h = absurd h
-the_fault (Err e) h = (e, refl)
+the_fault x h = grind arith
 
 pub is_fault : {A : Type 0} (x : Result A ResolutionFault) (fault : ResolutionFault) → x ≡ Err fault → IsFault x
 is_fault x fault e = subst (λ (y : Result _ ResolutionFault). IsFault y) (sym e) tt
 
 pub fault_inside : {A : Type 0} (step : ℕ) (x : Result A ResolutionFault) → IsFault x → IsFault (inside step x)
-fault_inside step (Ok a) h = h
-fault_inside step (Err e) h = tt
+fault_inside step x h = grind arith
 
 pub fault_map : {A B : Type 0} (f : A → B) (x : Result A ResolutionFault) → IsFault x → IsFault (result_map f x)
-fault_map f (Ok a) h = h
-fault_map f (Err e) h = tt
+fault_map f x h = grind arith
 
 pub fault_first : {A B C : Type 0} (f : A → B → C) (x : Result A ResolutionFault) (y : Result B ResolutionFault) → IsFault x → IsFault (both f x y)
-fault_first f (Ok a) y h = absurd h
-fault_first f (Err e) y h = tt
+fault_first f x y h = grind arith
 
 pub fault_second : {A B C : Type 0} (f : A → B → C) (x : Result A ResolutionFault) (y : Result B ResolutionFault) → IsFault y → IsFault (both f x y)
-fault_second f (Ok a) (Ok b) h = absurd h
-fault_second f (Ok a) (Err e) h = tt
-fault_second f (Err e) y h = tt
+fault_second f x y h = grind arith
 
 -- nodes that match or not
 pub fault_matched : (writer reader : List Node) (n q : Node) (f : Node → Resolved) → IsFault (f q) → IsFault (matched writer reader n q f)
-fault_matched writer reader n q f h = chosen (is_match writer reader n q)
-  where
-    chosen : (b : Bool) → IsFault (cond b (f q) (Err (fault_here no_match)))
-    chosen true = h
-    chosen false = tt
+fault_matched writer reader n q f h = grind arith
 
 -- a later field
 pub fault_later : (o : Option FieldNode) (index : ℕ) (resolve : FieldNode → Resolved) (later : Result Sourced ResolutionFault) → IsFault later
     → IsFault (with_sourced o index resolve later)
-fault_later None index resolve later h = h
-fault_later (Some f) index resolve later h = fault_second (λ v found. (index, v) ∷ found) (inside index (resolve f)) later h
+fault_later o index resolve later h = grind (arith, fault_second)
 
 -- what a plain node makes of a datum that is no union's
 pub plain_form : (writer reader : List Node) (n : Node) (v : Value) → is_plain_value v ≡ true
     → (f : Node → Resolved) × ((q : Node) → resolve writer reader n q v ≡ through writer reader n q f)
 plain_form writer reader n (Value.union k v) plain = absurd (false≢true plain)
-plain_form writer reader n Value.null plain = (_, λ q. refl)
 plain_form writer reader n _ plain = (_, λ q. refl)
 
 -- a datum of a plain node is no union's
 pub value_of_plain : (nodes : List Node) (n : Node) (v : Value) → branches_of n ≡ None → fits nodes n v ≡ true → is_plain_value v ≡ true
-value_of_plain nodes n (Value.union k v) plain h = absurd (no_branch n plain h)
-  where
-    no_branch : (n : Node) → branches_of n ≡ None
-        → is_some_and (λ id. fits nodes (node_at nodes id) v) (option_and_then (λ ids. slice_get ids k) (branches_of n)) ≡ true → ⊥
-    no_branch n e m = false≢true (rw e at m)
-value_of_plain nodes n _ plain h = refl
+value_of_plain nodes n v plain h = grind arith
 
 -- a byte that begins no text
 pub not_a_text : is_utf8 (255 ∷ []) ≡ false
@@ -86,8 +68,7 @@ not_a_text = refl
 -- what is not a union is matched
 pub through_is_matched : (writer reader : List Node) (n q : Node) (f : Node → Resolved) → branches_of q ≡ None
     → through writer reader n q f ≡ matched writer reader n q f
-through_is_matched writer reader n (Node.union ids) f plain = absurd (grind arith)
-through_is_matched writer reader n _ f plain = refl
+through_is_matched writer reader n q f plain = grind arith
 
 -- where one passes, its index
 pub any_at : {A : Type 0} (test : A → Bool) (xs : List A) → list_any test xs ≡ true → (k : ℕ) × ((x : A) × (slice_get xs k ≡ Some x) × (test x ≡ true) × (k < length xs))
@@ -113,9 +94,7 @@ module _ (writer reader : List Node) where
   pub field_faults : (fields theirs : List FieldNode) (index p : ℕ) (f : FieldNode) (v : Value) (rest : Values) → reader_field fields theirs index ≡ Some f
       → slice_get (field_ids fields) index ≡ Some p → IsFault (resolve writer reader (node_at writer p) (node_at reader f.node) v)
       → IsFault (resolve_sources writer reader fields theirs index (value v rest))
-  field_faults fields theirs index p f v rest found here h = rw (found, here)
-      (fault_first (λ v later. (index, v) ∷ later) (inside index (resolve writer reader (node_at writer p) (node_at reader f.node) v))
-      (resolve_sources writer reader fields theirs (suc index) rest) (fault_inside index (resolve writer reader (node_at writer p) (node_at reader f.node) v) h))
+  field_faults fields theirs index p f v rest found here h = grind (arith, fault_first, fault_inside)
 
   -- a record of which a field is missing
   pub missing_errs : (a b : _) (xs ys : _) (fields theirs : List FieldNode) (v : Value) → fits writer (Node.record_of a xs fields) v ≡ true
@@ -126,8 +105,7 @@ module _ (writer reader : List Node) where
       (chosen (missing_field fields theirs) m)
     where
       chosen : (o : Option ℕ) → is_some o ≡ true → IsFault (record_or_missing fields theirs o (resolve_sources writer reader fields theirs 0 vs))
-      chosen None s = absurd (false≢true s)
-      chosen (Some index) s = tt
+      chosen o s = grind arith
   missing_errs a b xs ys fields theirs (Value.array vs) h m = absurd (false≢true (and_right (is_count (values_count vs)) false h))
   missing_errs a b xs ys fields theirs (Value.map_of es) h m = absurd (false≢true (and_right _ false h))
   missing_errs a b xs ys fields theirs (Value.fixed c) h m = absurd (false≢true (and_right (are_bytes c) false h))
@@ -136,37 +114,18 @@ module _ (writer reader : List Node) where
   -- a record of which a field errs
   pub record_faults : (a b : _) (xs ys : _) (fields theirs : List FieldNode) (vs : Values) → IsFault (resolve_sources writer reader fields theirs 0 vs)
       → IsFault (resolve writer reader (Node.record_of a xs fields) (Node.record_of b ys theirs) (Value.record_of vs))
-  record_faults a b xs ys fields theirs vs f =
-      fault_matched writer reader (Node.record_of a xs fields) (Node.record_of b ys theirs)
-      (λ q. record_or_missing fields (fields_at q) (missing_field fields (fields_at q)) (resolve_sources writer reader fields (fields_at q) 0 vs))
-      (not_missing (missing_field fields theirs) (resolve_sources writer reader fields theirs 0 vs) f)
-    where
-      not_missing : (o : Option ℕ) (x : Result Sourced ResolutionFault) → IsFault x → IsFault (record_or_missing fields theirs o x)
-      not_missing None x f = fault_map _ x f
-      not_missing (Some index) x f = tt
+  record_faults a b xs ys fields theirs vs f = grind (arith, fault_map, fault_matched)
 
   -- an array of one item that errs
   pub array_faults : (a b : ℕ) (v : Value) → IsFault (resolve writer reader (node_at writer a) (node_at reader b) v)
       → IsFault (resolve writer reader (Node.array a) (Node.array b) (Value.array (value v no_values)))
-  array_faults a b v f =
-      fault_matched writer reader (Node.array a) (Node.array b)
-      (λ q. result_map Value.array (resolve_items writer reader (node_at writer a) (part_at reader (items_node q)) 0 (value v no_values)))
-      (fault_map Value.array (resolve_items writer reader (node_at writer a) (node_at reader b) 0 (value v no_values))
-      (fault_first value (inside 0 (resolve writer reader (node_at writer a) (node_at reader b) v)) (Ok no_values)
-      (fault_inside 0 (resolve writer reader (node_at writer a) (node_at reader b) v) f)))
+  array_faults a b v f = grind (arith, fault_first, fault_inside, fault_map, fault_matched)
 
   -- a map of one entry that errs
   pub map_faults : (a b : ℕ) (v : Value) → IsFault (resolve writer reader (node_at writer a) (node_at reader b) v)
       → IsFault (resolve writer reader (Node.map_of a) (Node.map_of b) (Value.map_of (entry [] v no_entries)))
-  map_faults a b v f =
-      fault_matched writer reader (Node.map_of a) (Node.map_of b)
-      (λ q. result_map Value.map_of (resolve_entries writer reader (node_at writer a) (part_at reader (values_node q)) 0 (entry [] v no_entries)))
-      (fault_map Value.map_of (resolve_entries writer reader (node_at writer a) (node_at reader b) 0 (entry [] v no_entries))
-      (fault_first (entry []) (inside 0 (resolve writer reader (node_at writer a) (node_at reader b) v)) (Ok no_entries)
-      (fault_inside 0 (resolve writer reader (node_at writer a) (node_at reader b) v) f)))
+  map_faults a b v f = grind (arith, fault_first, fault_inside, fault_map, fault_matched)
 
   -- a map of one entry fits
   pub map_fits : (a : ℕ) (v : Value) → fits writer (node_at writer a) v ≡ true → fits writer (Node.map_of a) (Value.map_of (entry [] v no_entries)) ≡ true
-  map_fits a v fit = and_from _ (is_some_and (λ id. entries_fit writer (node_at writer id) (entry [] v no_entries)) (Some a))
-      (and_from (is_text [] && true) true (and_from (is_text []) true empty_text refl) refl)
-      (and_from (fits writer (node_at writer a) v) true fit refl)
+  map_fits a v fit = grind (arith, and_from, empty_text)

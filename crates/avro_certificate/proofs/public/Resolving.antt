@@ -1,5 +1,5 @@
 -- Each datum of a node in a closed set resolves.
-use Rattle.std.proofs.Common.{◌≡◌, ℕ, zero, suc, true, false, ◌&&◌, List, [], ◌∷◌, Option, Some, None, Ok, length, drop, refl, sym, ◌∙◌, subst, arith}
+use Rattle.std.proofs.Common.{◌≡◌, ℕ, zero, suc, true, false, ◌&&◌, List, [], ◌∷◌, Option, Some, None, Ok, length, drop, refl, sym, subst, arith}
 use Rattle.std.proofs.lemmas.Bool.{false≢true}
 use Rattle.std.proofs.lemmas.List.Folds.{list_all-map}
 use Rattle.std.specs.Prelude.{slice_get, unwrap_or, option_and_then, nat_lt}
@@ -24,13 +24,7 @@ array_into : (writer reader : List Node) (dead : List ℕ) (pairs : List Pair) (
     → match_within steps writer reader (Node.array a) q ≡ true → list_all (stands dead pairs) (children_of writer reader w r (Node.array a) q) ≡ true
     → ((b : ℕ) → stands dead pairs (record { w = a; r = b }) ≡ true → Succeeds (resolve_items writer reader (node_at writer a) (node_at reader b) 0 vs))
     → Succeeds (result_map Value.array (resolve_items writer reader (node_at writer a) (part_at reader (items_node q)) 0 vs))
-array_into writer reader dead pairs vs steps w r a (Node.union ids) plain m s each = absurd (grind arith)
-array_into writer reader dead pairs vs (suc steps) w r a (Node.array b) plain m s each =
-    succeeds_map Value.array (resolve_items writer reader (node_at writer a) (node_at reader b) 0 vs) (each b (and_left _ true s))
-array_into writer reader dead pairs vs zero w r a (Node.array b) plain m s each =
-    succeeds_map Value.array (resolve_items writer reader (node_at writer a) (node_at reader b) 0 vs) (each b (and_left _ true s))
-array_into writer reader dead pairs vs zero w r a _ plain m s each = absurd (false≢true m)
-array_into writer reader dead pairs vs (suc steps) w r a _ plain m s each = absurd (false≢true m)
+array_into writer reader dead pairs vs steps w r a q plain m s each = grind (arith, and_left, succeeds_map)
 
 -- the same for any pair of nodes
 succeeds_array : (writer reader : List Node) (dead : List ℕ) (pairs : List Pair) (vs : Values) (w : ℕ) (n q : Node)
@@ -39,22 +33,14 @@ succeeds_array : (writer reader : List Node) (dead : List ℕ) (pairs : List Pai
     → Succeeds (resolve_items writer reader (node_at writer a) (node_at reader b) 0 vs))
     → Succeeds (through writer reader n q
     (λ m. result_map Value.array (resolve_items writer reader (part_at writer (items_node n)) (part_at reader (items_node m)) 0 vs)))
-succeeds_array writer reader dead pairs vs w (Node.array a) q way h each = way.gives _
-    (array_into writer reader dead pairs vs (length writer) w way.id a (node_at reader way.id) way.plain way.matches way.children (λ b s. each a b s h))
-succeeds_array writer reader dead pairs vs w _ q way h each = absurd (false≢true h)
+succeeds_array writer reader dead pairs vs w n q way h each = grind (arith, array_into)
 
 -- a map's entries
 map_into : (writer reader : List Node) (dead : List ℕ) (pairs : List Pair) (es : Entries) (steps w r a : ℕ) (q : Node) → branches_of q ≡ None
     → match_within steps writer reader (Node.map_of a) q ≡ true → list_all (stands dead pairs) (children_of writer reader w r (Node.map_of a) q) ≡ true
     → ((b : ℕ) → stands dead pairs (record { w = a; r = b }) ≡ true → Succeeds (resolve_entries writer reader (node_at writer a) (node_at reader b) 0 es))
     → Succeeds (result_map Value.map_of (resolve_entries writer reader (node_at writer a) (part_at reader (values_node q)) 0 es))
-map_into writer reader dead pairs es steps w r a (Node.union ids) plain m s each = absurd (grind arith)
-map_into writer reader dead pairs es (suc steps) w r a (Node.map_of b) plain m s each =
-    succeeds_map Value.map_of (resolve_entries writer reader (node_at writer a) (node_at reader b) 0 es) (each b (and_left _ true s))
-map_into writer reader dead pairs es zero w r a (Node.map_of b) plain m s each =
-    succeeds_map Value.map_of (resolve_entries writer reader (node_at writer a) (node_at reader b) 0 es) (each b (and_left _ true s))
-map_into writer reader dead pairs es zero w r a _ plain m s each = absurd (false≢true m)
-map_into writer reader dead pairs es (suc steps) w r a _ plain m s each = absurd (false≢true m)
+map_into writer reader dead pairs es steps w r a q plain m s each = grind (arith, and_left, succeeds_map)
 
 -- the same for any pair of nodes
 succeeds_map_of : (writer reader : List Node) (dead : List ℕ) (pairs : List Pair) (es : Entries) (w : ℕ) (n q : Node)
@@ -63,16 +49,13 @@ succeeds_map_of : (writer reader : List Node) (dead : List ℕ) (pairs : List Pa
     → Succeeds (resolve_entries writer reader (node_at writer a) (node_at reader b) 0 es))
     → Succeeds (through writer reader n q
     (λ m. result_map Value.map_of (resolve_entries writer reader (part_at writer (values_node n)) (part_at reader (values_node m)) 0 es)))
-succeeds_map_of writer reader dead pairs es w (Node.map_of a) q way h each = way.gives _
-    (map_into writer reader dead pairs es (length writer) w way.id a (node_at reader way.id) way.plain way.matches way.children (λ b s. each a b s h))
-succeeds_map_of writer reader dead pairs es w _ q way h each = absurd (false≢true h)
+succeeds_map_of writer reader dead pairs es w n q way h each = grind (arith, map_into)
 
 -- a symbol
 enum_into : (writer reader : List Node) (steps : ℕ) (n q : Node) (k : ℕ) → is_some_and (λ symbols. nat_lt k (length symbols)) (symbols_of n) ≡ true
     → branches_of q ≡ None → match_within steps writer reader n q ≡ true → has_fault_of_kind n q ≡ false → Succeeds (enum_as (symbol_at n k) q)
 enum_into writer reader steps (Node.enum a xs symbols x) (Node.union ids) k h plain m faultless = absurd (grind arith)
-enum_into writer reader zero (Node.enum a xs symbols x) (Node.enum b ys theirs y) k h plain m faultless = succeeds_enum symbols theirs k y h faultless
-enum_into writer reader (suc steps) (Node.enum a xs symbols x) (Node.enum b ys theirs y) k h plain m faultless = succeeds_enum symbols theirs k y h faultless
+enum_into writer reader steps (Node.enum a xs symbols x) (Node.enum b ys theirs y) k h plain m faultless = succeeds_enum symbols theirs k y h faultless
 enum_into writer reader zero (Node.enum a xs symbols x) _ k h plain m faultless = absurd (false≢true m)
 enum_into writer reader (suc steps) (Node.enum a xs symbols x) _ k h plain m faultless = absurd (false≢true m)
 enum_into writer reader steps _ q k h plain m faultless = absurd (false≢true h)
@@ -86,14 +69,7 @@ record_into : (writer reader : List Node) (dead : List ℕ) (pairs : List Pair) 
     → fields_fit writer (field_ids fields) vs ≡ true → Succeeds (resolve_sources writer reader fields theirs 0 vs))
     → Succeeds (record_or_missing (fields_at n) (fields_at q) (missing_field (fields_at n) (fields_at q))
     (resolve_sources writer reader (fields_at n) (fields_at q) 0 vs))
-record_into writer reader dead pairs vs steps w r (Node.record_of a xs fields) (Node.union ids) h plain m faultless s each = absurd (grind arith)
-record_into writer reader dead pairs vs zero w r (Node.record_of a xs fields) (Node.record_of b ys theirs) h plain m faultless s each =
-    succeeds_record fields theirs (missing_field fields theirs) (resolve_sources writer reader fields theirs 0 vs) faultless (each fields theirs s h)
-record_into writer reader dead pairs vs (suc steps) w r (Node.record_of a xs fields) (Node.record_of b ys theirs) h plain m faultless s each =
-    succeeds_record fields theirs (missing_field fields theirs) (resolve_sources writer reader fields theirs 0 vs) faultless (each fields theirs s h)
-record_into writer reader dead pairs vs zero w r (Node.record_of a xs fields) _ h plain m faultless s each = absurd (false≢true m)
-record_into writer reader dead pairs vs (suc steps) w r (Node.record_of a xs fields) _ h plain m faultless s each = absurd (false≢true m)
-record_into writer reader dead pairs vs steps w r _ q h plain m faultless s each = absurd (false≢true h)
+record_into writer reader dead pairs vs steps w r n q h plain m faultless s each = grind (arith, succeeds_record)
 
 -- the branch that a datum takes of the writer's union, with the same reader's node
 union_into : (writer reader : List Node) (dead : List ℕ) (pairs : List Pair) (v : Value) (k w r : ℕ) (n q : Node)
@@ -105,8 +81,7 @@ union_into : (writer reader : List Node) (dead : List ℕ) (pairs : List Pair) (
 union_into writer reader dead pairs v k w r (Node.union ids) q h s each = taken (slice_get ids k) refl h
   where
     child : (id : ℕ) → slice_get ids k ≡ Some id → stands dead pairs (record { w = id; r = r }) ≡ true
-    child id here = all_at (λ p. stands dead pairs (record { w = p; r = r })) ids k id
-        (sym (list_all-map (stands dead pairs) (λ p. record { w = p; r = r }) ids) ∙ s) here
+    child id here = grind (arith, all_at, list_all-map, stands)
 
     taken : (o : Option ℕ) → slice_get ids k ≡ o → is_some_and (λ id. fits writer (node_at writer id) v) o ≡ true
         → Succeeds (inside 0 (resolve writer reader (branch_node writer ids k) (node_at reader r) v))
@@ -118,7 +93,7 @@ union_into writer reader dead pairs v k w r _ q h s each = absurd (false≢true 
 -- what stands at an index begins the rest from there on
 pub slice_get_of_drop : {A : Type 0} (xs ys : List A) (n : ℕ) (x : A) → drop n xs ≡ x ∷ ys → slice_get xs n ≡ Some x
 slice_get_of_drop [] ys zero x e = absurd (grind arith)
-slice_get_of_drop [] ys (suc n) x e = absurd (grind arith)
+slice_get_of_drop [] ys _ x e = absurd (grind arith)
 slice_get_of_drop (z ∷ zs) ys zero x e = grind arith
 slice_get_of_drop (z ∷ zs) ys (suc n) x e = slice_get_of_drop zs ys n x e
 

@@ -1,6 +1,5 @@
 -- Lists that rise, element by element.
-use Rattle.std.proofs.Common.{◌≡◌, ℕ, Bool, true, false, ◌&&◌, List, [], ◌∷◌, Option, Some, None, map, refl, sym, ap, ◌∙◌, cond, arith}
-use Rattle.std.proofs.lemmas.Bool.{false≢true}
+use Rattle.std.proofs.Common.{◌≡◌, ℕ, Bool, true, ◌&&◌, List, [], ◌∷◌, Option, Some, None, map, refl, ap, ◌∙◌, cond, arith}
 use Rattle.std.proofs.lemmas.Bool.Decides.{nat_tests}
 use Rattle.std.specs.Prelude.{nat_lt}
 use Rattle.std.specs.List.{list_all}
@@ -15,15 +14,11 @@ rises_after before last [] = true
 rises_after before last (x ∷ xs) = follows before last x && rises_after before (Some x) xs
 
 pub both_true : (a b : Bool) → a ≡ true → b ≡ true → (a && b) ≡ true
-both_true true b h k = k
-both_true false b h k = absurd (false≢true h)
+both_true a b h k = grind arith
 
 -- tests that pass alike are one
 same_test : (a b : Bool) → (a ≡ true → b ≡ true) → (b ≡ true → a ≡ true) → a ≡ b
-same_test true true f g = refl
-same_test true false f g = sym (f refl)
-same_test false true f g = g refl
-same_test false false f g = refl
+same_test a b f g = grind arith
 
 module _ {A : Type 0} (before : A → A → Bool) (through : (a b c : A) → before a b ≡ true → before b c ≡ true → before a c ≡ true) where
   all_after : (a b : A) (xs : List A) → before a b ≡ true → list_all (before b) xs ≡ true → list_all (before a) xs ≡ true
@@ -63,11 +58,7 @@ pairs_rise = steps_rise is_before before_through
 -- what is kept of a list of numbers
 
 bounded_small : (n : ℕ) → is_small (bounded n) ≡ is_small n
-bounded_small n = decided (is_small n) refl
-  where
-    decided : (b : Bool) → is_small n ≡ b → is_small (cond b n 4096) ≡ is_small n
-    decided true e = refl
-    decided false e = sym e
+bounded_small n = grind arith
 
 small_kept : (n : ℕ) → is_small n ≡ true → bounded n ≡ n
 small_kept n h = ap (λ b. cond b n 4096) h

@@ -1,11 +1,10 @@
 -- What a schema's union is made of, and a union's first branch that matches.
-use Rattle.std.proofs.Common.{◌≡◌, ℕ, zero, suc, ◌+◌, Bool, true, false, ◌&&◌, List, [], ◌∷◌, Option, Some, None, length, refl, subst, cond, arith}
-use Rattle.std.specs.Prelude.{is_some, slice_get, unwrap_or, nat_lt, nat_le, filter_map}
+use Rattle.std.proofs.Common.{◌≡◌, ℕ, zero, suc, ◌+◌, Bool, true, false, List, [], ◌∷◌, Some, None, length, refl, subst, cond, arith}
+use Rattle.std.specs.Prelude.{is_some, slice_get, nat_lt, filter_map}
 use Rattle.std.specs.List.{list_all}
-use Rattle.avro_schema.specs.Node.{Node, node_at, branches_of, node_name}
+use Rattle.avro_schema.specs.Node.{Node, node_at, branches_of}
 use Rattle.avro_schema.specs.Distinct.{are_distinct}
-use Rattle.avro_schema.specs.WellFormed.{branch_kind, same_kind, meets_its_rules, are_good_nodes, is_schema, max_nodes}
-use Rattle.avro_name.specs.Name.{same_name}
+use Rattle.avro_schema.specs.WellFormed.{branch_kind, same_kind, meets_its_rules, are_good_nodes, is_schema}
 use Rattle.avro_compare.specs.Match.{is_match, first_match_from, first_match}
 use Rattle.avro_certificate.proofs.public.Tests.{and_left, and_right, all_at}
 use Rattle.avro_compare.proofs.public.NodeKinds.{no_union}
@@ -23,15 +22,7 @@ good_at nodes id (m ∷ ms) (suc k) n good here = good_at nodes (suc id) ms k n 
 
 -- each node of a schema meets the rules of its kind
 pub meets_rules_at : (nodes : List Node) (id : ℕ) → is_schema nodes ≡ true → meets_its_rules nodes (node_at nodes id) ≡ true
-meets_rules_at nodes id good = found (slice_get nodes id) refl
-  where
-    all_good : are_good_nodes nodes 0 nodes ≡ true
-    all_good = and_right (nat_lt 0 (length nodes) && nat_le (length nodes) max_nodes) (are_good_nodes nodes 0 nodes)
-        (and_left _ (are_distinct same_name (filter_map node_name nodes)) good)
-
-    found : (n : Option Node) → slice_get nodes id ≡ n → meets_its_rules nodes (unwrap_or n Node.null) ≡ true
-    found None here = refl
-    found (Some n) here = good_at nodes 0 nodes id n all_good here
+meets_rules_at nodes id good = grind (arith, and_left, and_right, good_at)
 
 -- a branch of a schema's union is no union
 pub plain_branch : (nodes : List Node) (id : ℕ) (ids : List ℕ) (k b : ℕ) → is_schema nodes ≡ true → node_at nodes id ≡ Node.union ids
@@ -57,7 +48,4 @@ first_match_at index writer reader w (b ∷ bs) k h = step (is_match writer read
 -- the first branch that matches stands among the branches
 pub first_match_within : (writer reader : List Node) (w : Node) (ids : List ℕ) (k : ℕ) → first_match writer reader w ids ≡ Some k
     → (b : ℕ) × (slice_get ids k ≡ Some b)
-first_match_within writer reader w ids k h =
-    let found = first_match_at 0 writer reader w ids k h in
-    let same : found.0 ≡ k = omega (arith, found.1) in
-    (found.2.0, subst (λ (i : ℕ). slice_get ids i ≡ Some found.2.0) same found.2.1)
+first_match_within writer reader w ids k h = grind (arith, first_match_at)

@@ -41,15 +41,7 @@ first_child : (test : Pair → Bool) (ids : List ℕ) (source index : ℕ) (g f 
     → cond (source == index) (Some g) rest ≡ Some f → test (record { w = unwrap_or (slice_get ids source) 0; r = g.node }) ≡ true
     → (rest ≡ Some f → test (record { w = unwrap_or (slice_get ids index) 0; r = f.node }) ≡ true)
     → test (record { w = unwrap_or (slice_get ids index) 0; r = f.node }) ≡ true
-first_child test ids source index g f rest found passes later = chosen (source == index) refl found
-  where
-    same_field : (a b : FieldNode) → Some a ≡ Some b → a ≡ b
-    same_field a b e = cc
-
-    chosen : (b : Bool) → (source == index) ≡ b → cond b (Some g) rest ≡ Some f → test (record { w = unwrap_or (slice_get ids index) 0; r = f.node }) ≡ true
-    chosen true e h = subst (λ (p : ℕ). test (record { w = unwrap_or (slice_get ids p) 0; r = f.node }) ≡ true) (eqb-true source index e)
-        (subst (λ (x : FieldNode). test (record { w = unwrap_or (slice_get ids source) 0; r = x.node }) ≡ true) (same_field g f h) passes)
-    chosen false e h = later h
+first_child test ids source index g f rest found passes later = grind (arith, eqb-true)
 
 -- the child of a reader's field whose source is at an index
 pub source_child : (test : Pair → Bool) (fields theirs : List FieldNode) (index : ℕ) (f : FieldNode) → reader_field fields theirs index ≡ Some f
@@ -61,12 +53,7 @@ source_child test fields (g ∷ gs) index f here all = step (source_of fields g)
         → (reader_field fields gs index ≡ Some f → list_all test (field_children fields gs) ≡ true
         → test (record { w = unwrap_or (slice_get (field_ids fields) index) 0; r = f.node }) ≡ true)
         → test (record { w = unwrap_or (slice_get (field_ids fields) index) 0; r = f.node }) ≡ true
-    step None e later = later (rw e at here) (rw e at all)
-    step (Some source) e later =
-        let found = rw e at here in
-        let tests = rw e at all in
-        first_child test (field_ids fields) source index g f (reader_field fields gs index) found (and_left _ _ tests)
-        (λ there. later there (and_right _ _ tests))
+    step o e later = grind (arith, and_left, and_right, first_child)
 
 module _ (writer reader : List Node) (dead : List ℕ) (pairs : List Pair) (dead_set : is_dead writer dead ≡ true)
     (closed : list_all (is_closed_at writer reader dead pairs) pairs ≡ true) where
@@ -112,15 +99,11 @@ module _ (writer reader : List Node) (dead : List ℕ) (pairs : List Pair) (dead
     where
       their_plain : (k : ℕ) → first_match writer reader (node_at writer w) ids ≡ Some k
           → branches_of (node_at reader (unwrap_or (slice_get ids k) 0)) ≡ None
-      their_plain k taken =
-          let found = first_match_within writer reader (node_at writer w) ids k taken in
-          subst (λ (o : Option ℕ). branches_of (node_at reader (unwrap_or o 0)) ≡ None) (sym found.1) (plain_branch reader r ids k found.0 formed here found.1)
+      their_plain k taken = grind (arith, first_match_within, plain_branch)
 
       child : (k : ℕ) → first_match writer reader (node_at writer w) ids ≡ Some k
           → stands dead pairs (record { w = w; r = unwrap_or (slice_get ids k) 0 }) ≡ true
-      child k taken = and_left (stands dead pairs (record { w = w; r = unwrap_or (slice_get ids k) 0 })) true
-          (subst (λ (ps : List Pair). list_all (stands dead pairs) ps ≡ true)
-          (children_of_union writer reader w r (node_at writer w) ids k plain taken) is_sound.children)
+      child k taken = grind (arith, and_left, children_of_union)
 
       within : (k : ℕ) → first_match writer reader (node_at writer w) ids ≡ Some k
           → Reaches writer reader dead pairs w (node_at writer w) (node_at reader (unwrap_or (slice_get ids k) 0))

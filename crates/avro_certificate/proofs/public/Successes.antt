@@ -1,14 +1,13 @@
 -- When a resolution succeeds.
-use Rattle.std.proofs.Common.{◌≡◌, ℕ, ℤ, Bool, true, false, List, [], ◌∷◌, Option, Some, None, Result, Ok, Err, length, refl, sym, ◌∙◌, inl, inr, cond, arith}
-use Rattle.std.proofs.lemmas.Bool.{false≢true, true≢false, ltb-true, lt-ltb, cond-true}
+use Rattle.std.proofs.Common.{◌≡◌, ℕ, ℤ, Bool, true, false, List, [], ◌∷◌, Option, Some, None, Result, Ok, Err, length, sym, ◌∙◌, inl, inr, arith}
+use Rattle.std.proofs.lemmas.Bool.{true≢false, ltb-true, lt-ltb, cond-true}
 use Rattle.std.specs.Prelude.{is_some, slice_get, unwrap_or, nat_lt, position, bytes_eq}
 use Rattle.std.specs.List.{list_any, position_or_len}
-use Rattle.avro_schema.specs.Value.{Value}
 use Rattle.avro_schema.specs.Node.{Node, FieldNode, branches_of}
 use Rattle.avro_schema.specs.Fits.{is_bytes_node}
-use Rattle.avro_compare.specs.Fault.{ResolutionFault, fault_here, no_match}
+use Rattle.avro_compare.specs.Fault.{ResolutionFault}
 use Rattle.avro_compare.specs.Match.{is_match}
-use Rattle.avro_compare.specs.Resolve.{Resolved, inside, result_map, both, matched, through, int_as, bytes_as, string_as, enum_or_default, record_or_missing, Sourced, with_sourced, field_values}
+use Rattle.avro_compare.specs.Resolve.{Resolved, inside, result_map, both, matched, through, int_as, bytes_as, string_as, enum_or_default, record_or_missing, Sourced, with_sourced}
 use Rattle.avro_compare.specs.Children.{has_fault_of_kind, lacks_symbol}
 use Rattle.avro_compare.proofs.public.Symbols.{bytes_eq-sym}
 use Rattle.avro_certificate.proofs.public.Tests.{not_false, or_cases, or_from_left, or_from_right, none_at, prefix_len_below}
@@ -20,57 +19,43 @@ Succeeds (Err e) = ⊥
 
 -- inside a part
 pub succeeds_inside : {A : Type 0} (step : ℕ) (x : Result A ResolutionFault) → Succeeds x → Succeeds (inside step x)
-succeeds_inside step (Ok a) h = tt
-succeeds_inside step (Err e) h = h
+succeeds_inside step x h = grind arith
 
 -- with another value
 pub succeeds_map : {A B : Type 0} (f : A → B) (x : Result A ResolutionFault) → Succeeds x → Succeeds (result_map f x)
-succeeds_map f (Ok a) h = tt
-succeeds_map f (Err e) h = h
+succeeds_map f x h = grind arith
 
 -- one result and then another
 pub succeeds_both : {A B C : Type 0} (f : A → B → C) (x : Result A ResolutionFault) (y : Result B ResolutionFault)
     → Succeeds x → Succeeds y → Succeeds (both f x y)
-succeeds_both f (Ok a) (Ok b) h k = tt
-succeeds_both f (Ok a) (Err e) h k = k
-succeeds_both f (Err e) y h k = h
+succeeds_both f x y h k = grind arith
 
 -- nodes that match
 pub succeeds_matched : (writer reader : List Node) (w r : Node) (resolve : Node → Resolved) → is_match writer reader w r ≡ true
     → Succeeds (resolve r) → Succeeds (matched writer reader w r resolve)
-succeeds_matched writer reader w r resolve h s = chosen (is_match writer reader w r) h
-  where
-    chosen : (b : Bool) → b ≡ true → Succeeds (cond b (resolve r) (Err (fault_here no_match)))
-    chosen true e = s
-    chosen false e = absurd (false≢true e)
+succeeds_matched writer reader w r resolve h s = grind arith
 
 -- where the reader's node is no union
 pub through_plain : (writer reader : List Node) (w r : Node) (resolve : Node → Resolved) → branches_of r ≡ None
     → Succeeds (matched writer reader w r resolve) → Succeeds (through writer reader w r resolve)
-through_plain writer reader w (Node.union ids) resolve plain s = absurd (grind arith)
-through_plain writer reader w _ resolve plain s = s
+through_plain writer reader w r resolve plain s = grind arith
 
 -- and back
 pub matched_plain : (writer reader : List Node) (w r : Node) (resolve : Node → Resolved) → branches_of r ≡ None
     → Succeeds (through writer reader w r resolve) → Succeeds (matched writer reader w r resolve)
-matched_plain writer reader w (Node.union ids) resolve plain s = absurd (grind arith)
-matched_plain writer reader w _ resolve plain s = s
+matched_plain writer reader w r resolve plain s = grind arith
 
 -- an int
 pub succeeds_int : (i : ℤ) (q : Node) → Succeeds (int_as i q)
-succeeds_int i Node.long = tt
-succeeds_int i _ = tt
+succeeds_int i q = grind arith
 
 -- bytes, but not for a string
 pub succeeds_bytes : (b : List ℕ) (n q : Node) → is_bytes_node n ≡ true → has_fault_of_kind n q ≡ false → Succeeds (bytes_as b q)
-succeeds_bytes b Node.bytes Node.string h faultless = absurd (true≢false faultless)
-succeeds_bytes b Node.bytes _ h faultless = tt
-succeeds_bytes b _ _ h faultless = absurd (false≢true h)
+succeeds_bytes b n q h faultless = grind (arith, true≢false)
 
 -- a text
 pub succeeds_string : (t : List ℕ) (q : Node) → Succeeds (string_as t q)
-succeeds_string t Node.bytes = tt
-succeeds_string t _ = tt
+succeeds_string t q = grind arith
 
 -- tests that agree pass alike
 list_any-same : {A : Type 0} (f g : A → Bool) (xs : List A) → ((x : A) → f x ≡ g x) → list_any f xs ≡ true → list_any g xs ≡ true
@@ -104,12 +89,9 @@ succeeds_enum symbols theirs k None within lacks =
 -- a record without a missing field
 pub succeeds_record : (writer reader : List FieldNode) (missing : Option ℕ) (sourced : Result Sourced ResolutionFault) → is_some missing ≡ false
     → Succeeds sourced → Succeeds (record_or_missing writer reader missing sourced)
-succeeds_record writer reader None sourced h s = succeeds_map (λ found. Value.record_of (field_values writer found reader)) sourced s
-succeeds_record writer reader (Some index) sourced h s = absurd (true≢false h)
+succeeds_record writer reader missing sourced h s = grind (arith, succeeds_map, true≢false)
 
 -- a writer's field, some reader's source or not
 pub succeeds_sourced : (o : Option FieldNode) (index : ℕ) (resolve : FieldNode → Resolved) (later : Result Sourced ResolutionFault)
     → ((f : FieldNode) → o ≡ Some f → Succeeds (resolve f)) → Succeeds later → Succeeds (with_sourced o index resolve later)
-succeeds_sourced None index resolve later here s = s
-succeeds_sourced (Some f) index resolve later here s =
-    succeeds_both (λ v found. (index, v) ∷ found) (inside index (resolve f)) later (succeeds_inside index (resolve f) (here f refl)) s
+succeeds_sourced o index resolve later here s = grind (arith, succeeds_both, succeeds_inside)

@@ -1,5 +1,5 @@
 -- What a test of a list says of its elements.
-use Rattle.std.proofs.Common.{◌≡◌, ℕ, zero, suc, Bool, true, false, not, ◌&&◌, ◌||◌, List, [], ◌∷◌, ◌++◌, Some, length, ◌<◌, ◌⊎◌, inl, inr, refl, sym, ◌∙◌, subst, arith}
+use Rattle.std.proofs.Common.{◌≡◌, ℕ, zero, suc, Bool, true, false, not, ◌&&◌, ◌||◌, List, [], ◌∷◌, ◌++◌, Some, length, ◌<◌, ◌⊎◌, inl, inr, refl, sym, subst, arith}
 use Rattle.std.proofs.lemmas.Bool.{false≢true, true≢false, eqb-true}
 use Rattle.std.specs.Prelude.{◌==◌, slice_get, unwrap_or}
 use Rattle.std.specs.List.{list_all, list_any, prefix_len}
@@ -8,53 +8,43 @@ use Rattle.avro_certificate.specs.Closed.{is_among, same_pair, is_among_pairs}
 
 -- what passes both tests passes the first
 pub and_left : (a b : Bool) → (a && b) ≡ true → a ≡ true
-and_left true b h = refl
-and_left false b h = h
+and_left a b h = grind arith
 
 -- and the second
 pub and_right : (a b : Bool) → (a && b) ≡ true → b ≡ true
-and_right true b h = h
-and_right false b h = absurd (false≢true h)
+and_right a b h = grind arith
 
 -- what passes neither test does not pass the first
 pub or_left : (a b : Bool) → (a || b) ≡ false → a ≡ false
-or_left true b h = h
-or_left false b h = refl
+or_left a b h = grind arith
 
 -- nor the second
 pub or_right : (a b : Bool) → (a || b) ≡ false → b ≡ false
-or_right true b h = absurd (true≢false h)
-or_right false b h = h
+or_right a b h = grind (arith, true≢false)
 
 -- of two tests the first or the second passes
 pub or_cases : (a b : Bool) → (a || b) ≡ true → (a ≡ true) ⊎ (b ≡ true)
-or_cases true b h = inl refl
-or_cases false b h = inr h
+or_cases a b h = grind arith
 
 -- the one that is left
 pub or_not : (a b : Bool) → (a || b) ≡ true → (a ≡ true → ⊥) → b ≡ true
-or_not true b h refuted = absurd (refuted refl)
-or_not false b h refuted = h
+or_not a b h refuted = grind arith
 
 -- what passes the first of two tests passes one of them
 pub or_from_left : (a b : Bool) → a ≡ true → (a || b) ≡ true
-or_from_left true b h = refl
-or_from_left false b h = absurd (false≢true h)
+or_from_left a b h = grind arith
 
 -- and so does what passes the second
 pub or_from_right : (a b : Bool) → b ≡ true → (a || b) ≡ true
-or_from_right true b h = refl
-or_from_right false b h = h
+or_from_right a b h = grind arith
 
 -- a denied test
 pub not_true : (a : Bool) → not a ≡ true → a ≡ false
-not_true true h = sym h
-not_true false h = refl
+not_true a h = grind arith
 
 -- a test denied twice
 pub not_false : (a : Bool) → not a ≡ false → a ≡ true
-not_false true h = refl
-not_false false h = sym h
+not_false a h = grind arith
 
 -- what all pass, one of them passes
 pub all_among : (test : ℕ → Bool) (xs : List ℕ) (x : ℕ) → list_all test xs ≡ true → is_among xs x ≡ true → test x ≡ true
@@ -66,10 +56,7 @@ all_among test (y ∷ ys) x all among = elim (or_cases (y == x) (is_among ys x) 
 
 -- pairs of the same nodes are one
 pub same_pair-true : (p q : Pair) → same_pair p q ≡ true → p ≡ q
-same_pair-true p q h = pair_path (eqb-true p.w q.w (and_left (p.w == q.w) (p.r == q.r) h)) (eqb-true p.r q.r (and_right (p.w == q.w) (p.r == q.r) h))
-  where
-    pair_path : p.w ≡ q.w → p.r ≡ q.r → p ≡ q
-    pair_path a b = λ i. record { w = a i; r = b i }
+same_pair-true p q h = grind (arith, and_left, and_right, eqb-true)
 
 -- the same for a pair
 pub all_among_pairs : (test : Pair → Bool) (ps : List Pair) (p : Pair) → list_all test ps ≡ true → is_among_pairs ps p ≡ true → test p ≡ true
@@ -99,10 +86,7 @@ prefix_len_below test (x ∷ xs) some = first (test x) refl (prefix_len_below te
   where
     first : (b : Bool) → test x ≡ b → (list_any test xs ≡ true → prefix_len (λ y. not (test y)) xs < length xs)
         → prefix_len (λ y. not (test y)) (x ∷ xs) < length (x ∷ xs)
-    first true e later = rw e (omega arith)
-    first false e later =
-        let h = later (or_not (test x) (list_any test xs) some (λ p. true≢false (sym p ∙ e))) in
-        rw e (omega arith)
+    first b e later = grind (arith, or_not, true≢false)
 
 -- each of a list of one more
 pub each_more : {A : Type 0} (P : A → Type 0) (xs : List A) (x : A) → ((k : ℕ) (y : A) → slice_get xs k ≡ Some y → P y) → P x

@@ -1,5 +1,5 @@
 -- The pairs that a pair of nodes leads to are pairs of nodes.
-use Rattle.std.proofs.Common.{◌≡◌, ℕ, zero, suc, Bool, true, false, ◌&&◌, List, [], ◌∷◌, Option, Some, None, length, map, refl, sym, subst, arith}
+use Rattle.std.proofs.Common.{◌≡◌, ℕ, zero, suc, Bool, true, ◌&&◌, List, [], ◌∷◌, Option, Some, None, length, map, refl, sym, subst, arith}
 use Rattle.std.proofs.lemmas.Bool.{and_from, lt-ltb, ltb-true}
 use Rattle.std.specs.Prelude.{slice_get, unwrap_or, nat_lt}
 use Rattle.std.specs.List.{list_all}
@@ -55,10 +55,7 @@ module _ (writer reader : List Node) where
         chosen (source_of fields f) refl (fields_within fields theirs h (and_right (nat_lt f.node (length reader)) (are_within reader (field_ids theirs)) k))
       where
         chosen : (o : Option ℕ) → source_of fields f ≡ o → list_all is_within (field_children fields theirs) ≡ true → list_all is_within (field_children fields (f ∷ theirs)) ≡ true
-        chosen None e later = rw e later
-        chosen (Some source) e later = rw e (and_from (is_within (record { w = unwrap_or (slice_get (field_ids fields) source) 0; r = f.node })) _
-            (pair_within (unwrap_or (slice_get (field_ids fields) source) 0) f.node (or_root writer (field_ids fields) source root h)
-            (and_left (nat_lt f.node (length reader)) (are_within reader (field_ids theirs)) k)) later)
+        chosen o e later = grind (arith, and_from, and_left, or_root)
 
     plain_within : (w r : ℕ) (n q : Node) → branches_of n ≡ None → branches_of q ≡ None → are_within writer (edges_of n) ≡ true → are_within reader (edges_of q) ≡ true
         → list_all is_within (children_of writer reader w r n q) ≡ true
@@ -73,13 +70,7 @@ module _ (writer reader : List Node) where
 
     choice_within : (w r : ℕ) (n : Node) (ids : List ℕ) → branches_of n ≡ None → nat_lt w (length writer) ≡ true → are_within reader ids ≡ true
         → (o : Option ℕ) → first_match writer reader n ids ≡ o → list_all is_within (children_of writer reader w r n (Node.union ids)) ≡ true
-    choice_within w r n ids plain h k (Some b) e = subst (λ (ps : List Pair). list_all is_within ps ≡ true) (sym (children_of_union writer reader w r n ids b plain e))
-        (one_within w (unwrap_or (slice_get ids b) 0) h (or_root reader ids b their_root k))
-    choice_within w r n ids plain h k None e = subst (λ (ps : List Pair). list_all is_within ps ≡ true) (sym (no_choice n plain e)) refl
-      where
-        no_choice : (m : Node) → branches_of m ≡ None → first_match writer reader m ids ≡ None → children_of writer reader w r m (Node.union ids) ≡ []
-        no_choice (Node.union ps) p f = absurd (grind arith)
-        no_choice _ p f = rw f refl
+    choice_within w r n ids plain h k o e = grind (arith, children_of_union, or_root)
 
     from_roots : (w r : ℕ) (n q : Node) → nat_lt w (length writer) ≡ true → nat_lt r (length reader) ≡ true
         → are_within writer (edges_of n) ≡ true → are_within reader (edges_of q) ≡ true → list_all is_within (children_of writer reader w r n q) ≡ true

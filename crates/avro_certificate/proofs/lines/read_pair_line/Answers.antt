@@ -5,23 +5,13 @@ use Rattle.avro_certificate.proofs.LineTexts.{pair_line_is, pair_path, word_same
 use Rattle.avro_certificate.proofs.lines.read_pair_line.Goals as goal
 
 pub returns-in_err-numerals : goal.returns-in_err-numerals
-returns-in_err-numerals c =
-    let none = c.in_err-numerals.ensures in
-    rw c.from_residual.ensures (λ p more e. none _ (e ∙ pair_line_is p more))
+returns-in_err-numerals c = grind (arith, pair_line_is)
 
 pub returns-in_err-writer : goal.returns-in_err-writer
-returns-in_err-writer c =
-    let behind = c.in_ok-numerals.ensures in
-    let none = c.in_err-writer.ensures in
-    rw c.from_residual-in_err-writer.ensures (λ p more e. none p.w _ (word_same (codes "pair ") _ _ (sym behind ∙ e ∙ pair_line_is p more)))
+returns-in_err-writer c = grind (arith, pair_line_is, word_same)
 
 pub returns-in_err-reader : goal.returns-in_err-reader
-returns-in_err-reader c =
-    let behind = c.in_ok-numerals.ensures in
-    let first = c.in_ok-writer.ensures in
-    let none = c.in_err-reader.ensures in
-    rw c.from_residual-in_err-reader.ensures (λ p more e. none p.r more
-    (number_same 32 first.0 p.w _ _ (omega arith) (sym first.1 ∙ word_same (codes "pair ") _ _ (sym behind ∙ e ∙ pair_line_is p more))).1)
+returns-in_err-reader c = grind (arith, number_same, pair_line_is, word_same)
 
 pub returns : goal.returns
 returns c =

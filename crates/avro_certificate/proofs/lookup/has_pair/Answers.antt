@@ -1,5 +1,4 @@
-use Rattle.std.proofs.Common.{◌≡◌, ◌≤◌, true, List, length, sym, ◌∙◌, subst, ap, arith}
-use Rattle.std.proofs.lemmas.Bool.Decides.{nat_tests}
+use Rattle.std.proofs.Common.{◌≡◌, true, List, sym, ◌∙◌, subst, ap, arith}
 use Rattle.avro_compare.specs.Children.{Pair}
 use Rattle.avro_certificate.specs.Closed.{same_pair, is_among_pairs}
 use Rattle.avro_certificate.specs.CertificateText.{is_rising, is_before}
@@ -8,13 +7,7 @@ use Rattle.avro_certificate.proofs.Halving.{pair_past, pair_at, other_number, te
 use Rattle.avro_certificate.proofs.lookup.has_pair.Goals as goal
 
 pub returns-in-None : goal.returns-in-None
-returns-in-None c =
-    let t : Pair = record { w = c.args.w; r = c.args.r } in
-    let rising = subst (λ (l : List Pair). is_rising is_before l ≡ true) (sym c.pairs-pairs.ensures.pairs) c.pairs-pairs.ensures.rising in
-    let point = c.position_of-position.ensures rising in
-    let none = c.in-None.ensures.lookup in
-    let past : length c.pairs-pairs.result.now ≤ c.position_of-position.result = grind (arith, nat_tests) in
-    sym (pair_past c.pairs-pairs.result.now t c.position_of-position.result point past) ∙ ap (λ l. is_among_pairs l t) c.pairs-pairs.ensures.pairs
+returns-in-None c = grind (arith, pair_past)
 
 pub returns-then-pair-w : goal.returns-then-pair-w
 returns-then-pair-w c =

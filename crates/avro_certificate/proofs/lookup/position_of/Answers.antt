@@ -1,7 +1,4 @@
-use Rattle.std.proofs.Common.{arith, sym, ◌∙◌, ◌≡◌, ◌+◌, ◌-◌, ◌/◌, ◌<◌, ℕ, length, subst}
-use Rattle.std.specs.Prelude.{false}
-use Rattle.std.specs.List.{AllWithin}
-use Rattle.avro_certificate.specs.CertificateText.{is_before}
+use Rattle.std.proofs.Common.{arith, sym, ◌∙◌, ◌+◌, ◌-◌, ◌/◌, ◌<◌, length}
 use Rattle.avro_certificate.specs.SeenPair.{pair_of}
 use Rattle.avro_certificate.proofs.Halving.{before_up_to, none_from}
 use Rattle.avro_certificate.proofs.lookup.position_of.Goals as goal
@@ -33,9 +30,3 @@ loop-low-preserved c =
             (sym c.comes_before.ensures ∙ c.if-comes_before.false),
       ),
     )
-
-pub returns : goal.returns
-returns c = λ rising.
-    let all = c.loop-low.invariant.2 rising in
-    let met : c.loop-low.high ≡ c.loop-low.low = omega (arith, c.loop-low.invariant.0, c.loop-low-test.false) in
-    (all.0, subst (λ (k : ℕ). AllWithin (λ y. is_before (pair_of y) (pair_of c.args.other) ≡ false) c.args.pairs.now k (length c.args.pairs.now)) met all.1)

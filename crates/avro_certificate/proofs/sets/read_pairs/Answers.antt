@@ -19,9 +19,3 @@ pub loop-pair-smaller : goal.loop-pair-smaller
 loop-pair-smaller c =
     let line = c.in-Some.ensures in
     shorter pair_line pair_line_some line.0 c.loop-pair.rest.now c.in-Some.more.now line.1
-
-pub returns-clause-found : goal.returns-clause-found
-returns-clause-found c =
-    let read = c.loop-pair.invariant in
-    let none = c.in_default.ensures in
-    (read.values, read.written, read.seen, none)

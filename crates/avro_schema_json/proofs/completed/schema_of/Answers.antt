@@ -1,4 +1,4 @@
-use Rattle.avro_schema_json.proofs.Words.{◌≡◌, ◌<◌, ◌⊎◌, inl, inr, true, false, List, length, map, refl, sym, ap, subst, ◌∙◌, Contains, Option, Some, None, IfSome, option_map, length-map, err_from_is_err_and, Node, NodeFault, invalid_union, duplicate_field, limit_exceeded, fault_of, IsThere, IsRefused, draft_nodes, is_schema, Value, SchemaError, KeptNode, RawNode, unless, refusals_of_nodes, or_else, nodes_without_defaults, completed_nodes, are_all_defaults_read, all_without_defaults, refusal_of_fault, refusal_of, defaults_of_node, nodes_with_defaults, raw_nodes_of, SomeRepeats, SomeRepeatsName, unwrap_or}
+use Rattle.avro_schema_json.proofs.Words.{arith, ◌≡◌, ◌<◌, ◌⊎◌, inl, inr, true, false, List, length, map, refl, sym, ap, subst, ◌∙◌, Contains, Option, Some, None, IfSome, option_map, length-map, err_from_is_err_and, Node, NodeFault, invalid_union, duplicate_field, limit_exceeded, fault_of, IsThere, IsRefused, draft_nodes, is_schema, Value, SchemaError, KeptNode, RawNode, unless, refusals_of_nodes, or_else, nodes_without_defaults, completed_nodes, are_all_defaults_read, all_without_defaults, refusal_of_fault, refusal_of, defaults_of_node, nodes_with_defaults, raw_nodes_of, SomeRepeats, SomeRepeatsName, unwrap_or}
 use Rattle.avro_schema.specs.declared.fault.DraftError.{DraftError}
 use Rattle.avro_schema_json.proofs.RepeatsSeen.{repeated-there, repeated_field-there}
 use Rattle.avro_schema_json.proofs.DeclarationLaws.{no_refusals-from_is_schema}
@@ -18,9 +18,7 @@ abbrev faults_with : List RawNode → List SchemaError
 faults_with raws = or_else (refusals_of_nodes (completed_nodes raws)) (unless (are_all_defaults_read raws) SchemaError.InvalidDefault)
 
 of_fault : (raws : List RawNode) (fault : NodeFault) → IsThere fault (completed_nodes raws) → Contains (faults_with raws) (refusal_of_fault fault)
-of_fault raws fault there =
-    or_else-first (refusals_of_nodes (completed_nodes raws)) (unless (are_all_defaults_read raws) SchemaError.InvalidDefault) (refusal_of_fault fault)
-    (refusal-contains fault (completed_nodes raws) there)
+of_fault raws fault there = grind (arith, or_else-first, refusal-contains)
 
 of_named : (raws : List RawNode) (fault : Option NodeFault) → IfSome fault (λ f. IsThere f (completed_nodes raws))
     → (unwrap_or (option_map refusal_of_fault fault) SchemaError.OutOfMemory ≡ SchemaError.OutOfMemory)

@@ -9,14 +9,10 @@ use Rattle.avro_schema_json.proofs.WalkSeen.{branch-pass, begins_late, left-firs
 use Rattle.avro_schema_json.proofs.defaults.+defaults.Goals as goal
 
 pub known_default-returns-in-Some-clause-default : goal.known_default-returns-in-Some-clause-default
-known_default-returns-in-Some-clause-default t c =
-    let nodes = nodes_of c.args.walk.now in
-    rw (default-union nodes (view c.args.tree.now) (node_at nodes c.args.id.0) (ids_of c.in-Some.ids.now) (sym c.in-Some.ensures)) c.branch_default.ensures.default
+known_default-returns-in-Some-clause-default t c = grind (arith, default-union)
 
 pub known_default-returns-in-None-clause-default : goal.known_default-returns-in-None-clause-default
-known_default-returns-in-None-clause-default t c =
-    let nodes = nodes_of c.args.walk.now in
-    rw (default-no_union nodes (view c.args.tree.now) (node_at nodes c.args.id.0) (sym c.in-None.ensures)) c.default_at.ensures.default
+known_default-returns-in-None-clause-default t c = grind (arith, default-no_union)
 
 pub branch_default-loop-i-init : goal.branch_default-loop-i-init
 branch_default-loop-i-init t c =
@@ -154,6 +150,4 @@ field_defaults-returns-clause-default t c =
     fields_end nodes es (fields_seen fs) l.field-index (fields_left nodes es (fields_seen fs)) l.values.items (fields_past fs l.field-index c.loop-field-test.false) l.invariant.left
 
 pub object_default-returns-in-Some-clause-default : goal.object_default-returns-in-Some-clause-default
-object_default-returns-in-Some-clause-default t c =
-    let read = rw c.in-Some.is at c.in_ok-entries-in-Map.ensures.default in
-    rw (c.in-Map.is, value_of-Map c.in-Some.entries) (ap (option_map Value.map_of) read)
+object_default-returns-in-Some-clause-default t c = grind (arith, value_of-Map)

@@ -3,9 +3,7 @@ use Rattle.avro_schema_json.proofs.DefaultsSeen.{node_at-raws}
 use Rattle.avro_schema_json.proofs.raw_nodes.raw_at.Goals as goal
 
 behind : (found : Option (Bor RawNode)) → node_or_null found ≡ without_defaults (unwrap_or (option_map (λ x. x.now) found) RawNode.Null)
-behind None = refl
-behind (Some x) = refl
+behind found = grind arith
 
 pub returns : goal.returns
-returns c =
-    behind c.get.result ∙ ap without_defaults (c.get.ensures.lookup.4 (omega arith) RawNode.Null) ∙ node_at-raws c.args.raws.now c.args.id.0 RawNode.Null refl
+returns c = grind (arith, behind, node_at-raws)

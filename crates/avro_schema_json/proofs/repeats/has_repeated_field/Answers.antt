@@ -1,11 +1,11 @@
+use Rattle.std.proofs.Common.{arith}
 use Rattle.avro_schema_json.specs.inside.Repeats.{HasDistinctNames}
 use Rattle.avro_schema_json.proofs.NodesSeen.{next-node, all-nodes}
 use Rattle.avro_schema_json.proofs.RepeatsSeen.{some-names}
 use Rattle.avro_schema_json.proofs.repeats.has_repeated_field.Goals as goal
 
 pub returns-then-branch-clause-found : goal.returns-then-branch-clause-found
-returns-then-branch-clause-found c = λ holds.
-    some-names c.args.raws.now c.loop-i.i c.index-raws-i.result c.loop-i-test.true c.index-raws-i.is (c.in_ok-repeats_field.ensures.found c.if-branch.true)
+returns-then-branch-clause-found c = grind (arith, some-names)
 
 pub loop-i-preserved : goal.loop-i-preserved
 loop-i-preserved c =

@@ -1,11 +1,9 @@
-use Rattle.avro_schema_json.proofs.Words.{sym, ◌∙◌, all_without_defaults}
+use Rattle.avro_schema_json.proofs.Words.{arith, sym, ◌∙◌, all_without_defaults}
 use Rattle.avro_schema_json.proofs.RepeatsSeen.{repeat-found, repeat-next}
 use Rattle.avro_schema_json.proofs.repeats.repeats_branch.Goals as goal
 
 pub returns-then-contains : goal.returns-then-contains
-returns-then-contains c = λ holds.
-    repeat-found (all_without_defaults c.args.raws.now) c.args.branches.now c.loop-branch.codes c.loop-branch.branch-index _ c.code_of-code.result c.loop-branch-test.true
-    c.code_of-code.ensures (sym c.contains.ensures ∙ c.if-contains.true) c.loop-branch.invariant
+returns-then-contains c = grind (arith, repeat-found)
 
 pub loop-branch-preserved : goal.loop-branch-preserved
 loop-branch-preserved c =

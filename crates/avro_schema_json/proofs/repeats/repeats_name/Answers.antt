@@ -1,12 +1,11 @@
-use Rattle.avro_schema_json.proofs.Words.{◌≡◌, List, ℕ, false, Option, Some, None, refl, sym, ap, ◌∙◌, slice_get, string_bytes, is_some, label_of, btree_map_updates_str, fields_seen, KeptField as RawField}
+use Rattle.avro_schema_json.proofs.Words.{arith, ◌≡◌, List, ℕ, false, Option, Some, None, refl, sym, ap, ◌∙◌, slice_get, string_bytes, is_some, label_of, btree_map_updates_str, fields_seen, KeptField as RawField}
 use Rattle.avro_schema_json.proofs.DefaultSteps.{field_at-found}
 use Rattle.avro_schema_json.proofs.RawSeen.{field_item, fields_past}
 use Rattle.avro_schema_json.proofs.RepeatsSeen.{name-found, names-next, new-next, none-left}
 use Rattle.avro_schema_json.proofs.repeats.repeats_name.Goals as goal
 
 none-there : (o : Option ℕ) → is_some o ≡ false → o ≡ None
-none-there None h = refl
-none-there (Some x) h = absurd cc
+none-there o h = grind arith
 
 pub returns-then-contains_key-clause-found : goal.returns-then-contains_key-clause-found
 returns-then-contains_key-clause-found c = λ holds.

@@ -1,4 +1,4 @@
-use Rattle.std.proofs.Common.{◌≤◌, length, true, false, inl, inr, arith}
+use Rattle.std.proofs.Common.{true, false, inl, inr, arith}
 use Rattle.std.proofs.lemmas.Result.{err_from_is_err_and}
 use Rattle.avro_certificate.specs.SeenPair.{pairs_of}
 use Rattle.avro_certificate.proofs.Lengths.{length-certificate}
@@ -6,14 +6,10 @@ use Rattle.avro_certificate.proofs.ReadText.{kept_of, small_at, rising_at, pairs
 use Rattle.avro_certificate.proofs.kept.Certificate.read.Goals as goal
 
 pub returns-in_err-dead-clause-complete : goal.returns-in_err-dead-clause-complete
-returns-in_err-dead-clause-complete c = λ dead pairs certified small.
-    let p = err_from_is_err_and c.from_residual.result c.from_residual.ensures.1 in
-    rw (p.1, p.2) (no_lines c.in_err-dead.field-0.0 c.args.text.now _ dead pairs c.in_err-dead.ensures.refused certified)
+returns-in_err-dead-clause-complete c = grind (arith, err_from_is_err_and, no_lines)
 
 pub returns-in_err-dead-clause-refused : goal.returns-in_err-dead-clause-refused
-returns-in_err-dead-clause-refused c =
-    let p = err_from_is_err_and c.from_residual.result c.from_residual.ensures.1 in
-    rw (p.1, p.2) (refusal c.in_err-dead.field-0.0 c.args.text.now c.in_err-dead.ensures.refused)
+returns-in_err-dead-clause-refused c = grind (arith, err_from_is_err_and, refusal)
 
 pub returns-then-not-are_small-clause-complete : goal.returns-then-not-are_small-clause-complete
 returns-then-not-are_small-clause-complete c =
@@ -84,6 +80,4 @@ returns-clause-complete c =
     λ dead pairs certified theirs. text_kept c.args.text.now c.in_ok-dead.dead.items (pairs_of c.in_ok-dead.pairs.items) kept dead pairs certified theirs
 
 pub returns-then-text-gt-MAX_LEN-clause-complete : goal.returns-then-text-gt-MAX_LEN-clause-complete
-returns-then-text-gt-MAX_LEN-clause-complete c = λ dead pairs certified small.
-    let short : length c.args.text.now ≤ 268435456 = length-certificate dead pairs c.args.text.now certified small in
-    absurd (omega arith)
+returns-then-text-gt-MAX_LEN-clause-complete c = grind (arith, length-certificate)

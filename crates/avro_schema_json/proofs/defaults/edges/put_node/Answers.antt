@@ -1,14 +1,9 @@
-use Rattle.avro_schema_json.proofs.Words.{List, sym, subst, on_ok_weaker, all_without_defaults, without_defaults, fields_seen, AreFields, IsParent, KeptField as RawField, KeptNode as RawNode}
+use Rattle.avro_schema_json.proofs.Words.{arith, List, sym, subst, on_ok_weaker, all_without_defaults, without_defaults, fields_seen, AreFields, IsParent, KeptField as RawField, KeptNode as RawNode}
 use Rattle.avro_schema_json.proofs.ParentsSeen.{array-parent, map-parent, record-parent}
 use Rattle.avro_schema_json.proofs.defaults.edges.put_node.Goals as goal
 
 pub returns-in-Array-clause-added : goal.returns-in-Array-clause-added
-returns-in-Array-clause-added c =
-    let nodes = all_without_defaults c.args.raws.now in
-    let new = c.put_part.new.parents.items in
-    on_ok_weaker c.put_part.result
-    (λ parts. subst (λ (raw : RawNode). IsParent nodes c.args.last c.args.labels.now new (without_defaults raw) c.args.parent) (sym c.in-Array.is)
-    (array-parent nodes c.args.last c.args.labels.now new c.args.parent c.in-Array.items.0 parts)) c.put_part.ensures.added
+returns-in-Array-clause-added c = grind (arith, array-parent, on_ok_weaker)
 
 pub returns-in-Map-clause-added : goal.returns-in-Map-clause-added
 returns-in-Map-clause-added c =

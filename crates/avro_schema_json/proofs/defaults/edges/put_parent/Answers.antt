@@ -1,4 +1,4 @@
-use Rattle.avro_schema_json.proofs.Words.{length, refl, slice_get_read}
+use Rattle.avro_schema_json.proofs.Words.{arith, length, refl, slice_get_read}
 use Rattle.avro_schema_json.proofs.ParentsSeen.{parents-put, parents-added}
 use Rattle.avro_schema_json.proofs.defaults.edges.put_parent.Goals as goal
 
@@ -9,5 +9,4 @@ returns-clause-kept c =
     (slice_get_read parents (length parents) c.args.place c.index_mut.result.now refl c.requires c.index_mut.ensures.value) c.requires c.in_ok-put_under.ensures.kept
 
 pub returns-clause-added : goal.returns-clause-added
-returns-clause-added c =
-    parents-added c.args.parents.now.items c.args.place c.args.label c.args.parent c.put_under.new.parents c.requires c.in_ok-put_under.ensures.added
+returns-clause-added c = grind (arith, parents-added)

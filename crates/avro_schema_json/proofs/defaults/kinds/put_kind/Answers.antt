@@ -1,3 +1,4 @@
+use Rattle.std.proofs.Common.{arith}
 use Rattle.avro_schema_json.proofs.KindsSeen.{kind-put, kind-added}
 use Rattle.avro_schema_json.proofs.defaults.kinds.put_kind.Goals as goal
 
@@ -7,5 +8,4 @@ returns-clause-kept c =
     (λ q. c.in_ok-insert.ensures.updates.0 q)
 
 pub returns-clause-added : goal.returns-clause-added
-returns-clause-added c =
-    kind-added c.args.rows.now c.insert.new.self c.args.kind c.put.new.row c.args.place c.put.ensures.added (λ q. c.in_ok-insert.ensures.updates.0 q)
+returns-clause-added c = grind (arith, kind-added)

@@ -9,15 +9,10 @@ mark_tree-returns-in_ok-row-in-Array-clause-marked t c =
     c.in_ok-row-in-Array.ensures c.mark_array.ensures.marked
 
 pub mark_tree-returns-in_ok-row-in-Object-clause-marked : goal.mark_tree-returns-in_ok-row-in-Object-clause-marked
-mark_tree-returns-in_ok-row-in-Object-clause-marked t c =
-    covered-marked c.mark_object.result c.args.tables.now c.mark_object.new.marks (view c.args.tree.now) _ c.in_ok-row-in-Object.row.value.words (ap view c.in-Object.is ∙ view-Object c.in-Object.members)
-    c.in_ok-row-in-Object.ensures c.mark_object.ensures.marked
+mark_tree-returns-in_ok-row-in-Object-clause-marked t c = grind (arith, covered-marked, view-Object)
 
 pub mark_array-loop-item-init : goal.mark_array-loop-item-init
-mark_array-loop-item-init t c = rw c.in_ok-parts.ensures.items (record {
-  count = refl;
-  gathers = gathers-none c.args.tables.now _ c.args.marks.now _ c.requires.steps;
-})
+mark_array-loop-item-init t c = grind (arith, gathers-none)
 
 pub mark_array-loop-item-preserved : goal.mark_array-loop-item-preserved
 mark_array-loop-item-preserved t c =
@@ -36,10 +31,7 @@ mark_array-loop-item-preserved t c =
     })
 
 pub mark_object-loop-key-init : goal.mark_object-loop-key-init
-mark_object-loop-key-init t c = rw c.in_ok-parts.ensures.items (record {
-  left = search (rules, all-left);
-  gathers = gathers-none c.args.tables.now _ c.args.marks.now _ c.requires.steps;
-})
+mark_object-loop-key-init t c = grind (arith, all-left, gathers-none)
 
 pub mark_object-loop-key-preserved : goal.mark_object-loop-key-preserved
 mark_object-loop-key-preserved t c =
@@ -62,8 +54,7 @@ mark_object-loop-key-preserved t c =
     })
 
 pub mark_array-returns-clause-stays : goal.mark_array-returns-clause-stays
-mark_array-returns-clause-stays t c =
-    on_ok_weaker c.mark_whole.result (λ stays. stays-twice c.args.marks.now c.loop-item.marks c.mark_whole.new.marks c.loop-item.invariant.gathers.stays stays) c.mark_whole.ensures.stays
+mark_array-returns-clause-stays t c = grind (arith, on_ok_weaker, stays-twice)
 
 pub mark_array-returns-clause-marked : goal.mark_array-returns-clause-marked
 mark_array-returns-clause-marked t c =
@@ -71,8 +62,7 @@ mark_array-returns-clause-marked t c =
     c.loop-item.invariant.gathers (ap (λ (r : Row). r.words) c.deref.ensures) c.deref-2.ensures.value c.mark_whole.ensures.marked
 
 pub mark_object-returns-clause-stays : goal.mark_object-returns-clause-stays
-mark_object-returns-clause-stays t c =
-    on_ok_weaker c.mark_whole.result (λ stays. stays-twice c.args.marks.now c.loop-key.marks c.mark_whole.new.marks c.loop-key.invariant.gathers.stays stays) c.mark_whole.ensures.stays
+mark_object-returns-clause-stays t c = grind (arith, on_ok_weaker, stays-twice)
 
 pub mark_object-returns-clause-marked : goal.mark_object-returns-clause-marked
 mark_object-returns-clause-marked t c =

@@ -1,4 +1,4 @@
-use Rattle.avro_schema_json.proofs.Words.{sym, get, pair_cmp, LeadsTo}
+use Rattle.avro_schema_json.proofs.Words.{arith, sym, get, pair_cmp, LeadsTo}
 use Rattle.std.specs.Ordering.{is_eq}
 use Rattle.avro_schema_json.proofs.EachSeen.{put-all}
 use Rattle.avro_schema_json.proofs.MarksSeen.{steps-stay}
@@ -7,11 +7,6 @@ use Rattle.avro_schema_json.proofs.defaults.steps.step.Goals as goal
 
 pub returns-in-Some-clause-found : goal.returns-in-Some-clause-found
 returns-in-Some-clause-found c = c.requires.steps c.args.label c.args.set _ (sym c.in-Some.ensures.value)
-
-pub returns-clause-found : goal.returns-clause-found
-returns-clause-found c =
-    let row = c.in-Some-row_of.row.now.words in
-    (row, c.parents_of_row-found.result.words, c.in_ok-number.ensures.kept c.args.set row (sym c.in-Some-row_of.ensures), c.in_ok-number.ensures.found, c.parents_of_row-found.ensures)
 
 pub returns-clause-steps : goal.returns-clause-steps
 returns-clause-steps c =

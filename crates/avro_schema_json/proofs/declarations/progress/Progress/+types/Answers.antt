@@ -1,4 +1,4 @@
-use Rattle.avro_schema_json.proofs.Words.{ℕ, ◌∷◌, [], List, Option, IfOk, IfErr, codes, refl, sym, ap, ◌∙◌, subst, map-append, err_from_is_err_and, Node, ids_of, view, items_view, members_view, view-Array, view-Object, SchemaError, RawNode, RawField, Meaning, meaning_of, in_turn, field_meaning, field_meanings, fields_under, made_at, Reads, Refuses, fields_meaning, state_of, raw_field_of, raw_fields_of}
+use Rattle.avro_schema_json.proofs.Words.{arith, ℕ, ◌∷◌, [], List, Option, IfOk, IfErr, codes, refl, sym, ap, ◌∙◌, subst, map-append, err_from_is_err_and, Node, ids_of, view, items_view, members_view, view-Array, view-Object, SchemaError, RawNode, RawField, Meaning, meaning_of, in_turn, field_meaning, field_meanings, fields_under, made_at, Reads, Refuses, fields_meaning, state_of, raw_field_of, raw_fields_of}
 use Rattle.avro_schema_json.proofs.DefinitionsRead.{record-definition, unbegun, misnamed, part-refused, definition-read}
 use Rattle.avro_schema_json.proofs.ObjectsRead.{member-found, member-missing, refuses-faulty, object-array, object-no_items, object-map, object-no_values, fields-found, fields-missing, field-unnamed, field-refused, field-untyped, field-read}
 use Rattle.avro_schema_json.proofs.TypesRead.{held-added, node_with-read, node_with-part, reading-begun, item-read, item-refused, items-read, branch_meanings, list_meanings, next_branch, next_field}
@@ -27,11 +27,7 @@ read_map-returns-clause-read t c =
     (state_of c.read_type.new.self) (state_of c.put.new.self) c.in_ok-part.part.0 refl c.in_ok-part.ensures.read c.put.ensures.nodes c.put.ensures.names
 
 pub read_field-returns-in_err-name-clause-refused : goal.read_field-returns-in_err-name-clause-refused
-read_field-returns-in_err-name-clause-refused t c =
-    let p = err_from_is_err_and c.from_residual.result c.from_residual.ensures.1 in
-    let seen = ap view c.in-Object.is ∙ view-Object c.in-Object.members in
-    let ms = members_view c.in-Object.members.entries in
-    rw (p.1, p.2, seen) (field-unnamed ms c.args.enclosing.now.namespace (state_of c.args.self.now) c.in_err-name.field-0.0 c.in_err-name.ensures.refused)
+read_field-returns-in_err-name-clause-refused t c = grind (arith, err_from_is_err_and, field-unnamed, view-Object)
 
 pub read_field-returns-in_err-node-in-Some-clause-refused : goal.read_field-returns-in_err-node-in-Some-clause-refused
 read_field-returns-in_err-node-in-Some-clause-refused t c =
@@ -56,9 +52,7 @@ read_field-returns-clause-read t c =
     (member-found (codes "type") c.in-Object.members c.in-Some.tree.now c.in-Some.ensures.value) c.in_ok-node-in-Some.ensures.read c.member.ensures)
 
 pub read_fields-loop-item-init : goal.read_fields-loop-item-init
-read_fields-loop-item-init t c =
-    rw c.new-fields.ensures.items
-    ((λ namespace number h. h), reading-begun (made_at (in_turn (field_meanings (items_view c.deref-item-items.result.now))) c.args.enclosing.now.namespace (state_of c.args.self.now)) (state_of c.args.self.now))
+read_fields-loop-item-init t c = grind (arith, reading-begun)
 
 pub read_fields-returns-in_err-read_field-clause-refused : goal.read_fields-returns-in_err-read_field-clause-refused
 read_fields-returns-in_err-read_field-clause-refused t c =
@@ -100,11 +94,7 @@ read_object-returns-in-Some-clause-refused t c =
     subst (λ (m : Meaning _). IfErr c.read_array.result (Refuses m c.args.enclosing.now.namespace (state_of c.args.self.now))) (sym is) c.read_array.ensures.refused
 
 pub read_object-returns-in-None-clause-refused : goal.read_object-returns-in-None-clause-refused
-read_object-returns-in-None-clause-refused t c =
-    let ms = members_view c.args.members.now.entries in
-    let is = object-no_items ms c.in-Array.ensures (member-missing (codes "items") c.args.members.now c.in-None.ensures.value) in
-    subst (λ (m : Meaning _). Refuses m c.args.enclosing.now.namespace (state_of c.args.self.now) SchemaError.InvalidDeclaration) (sym is)
-    (refuses-faulty {A = ℕ} 0 SchemaError.InvalidDeclaration c.args.enclosing.now.namespace (state_of c.args.self.now))
+read_object-returns-in-None-clause-refused t c = grind (arith, member-missing, object-no_items, refuses-faulty)
 
 pub read_object-returns-in-Some-get-clause-read : goal.read_object-returns-in-Some-get-clause-read
 read_object-returns-in-Some-get-clause-read t c =
@@ -120,11 +110,7 @@ read_object-returns-in-Some-get-clause-refused t c =
     subst (λ (m : Meaning _). IfErr c.read_map.result (Refuses m c.args.enclosing.now.namespace (state_of c.args.self.now))) (sym is) c.read_map.ensures.refused
 
 pub read_object-returns-in-None-get-clause-refused : goal.read_object-returns-in-None-get-clause-refused
-read_object-returns-in-None-get-clause-refused t c =
-    let ms = members_view c.args.members.now.entries in
-    let is = object-no_values ms c.in-Map.ensures (member-missing (codes "values") c.args.members.now c.in-None-get.ensures.value) in
-    subst (λ (m : Meaning _). Refuses m c.args.enclosing.now.namespace (state_of c.args.self.now) SchemaError.InvalidDeclaration) (sym is)
-    (refuses-faulty {A = ℕ} 0 SchemaError.InvalidDeclaration c.args.enclosing.now.namespace (state_of c.args.self.now))
+read_object-returns-in-None-get-clause-refused t c = grind (arith, member-missing, object-no_values, refuses-faulty)
 
 pub read_record-returns-in_err-id-clause-refused : goal.read_record-returns-in_err-id-clause-refused
 read_record-returns-in_err-id-clause-refused t c =

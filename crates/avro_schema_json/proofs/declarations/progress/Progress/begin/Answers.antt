@@ -1,4 +1,4 @@
-use Rattle.avro_schema_json.proofs.Words.{refl, subst, sym, ap, ◌∙◌, is_some, members_view, Node, name_in, RawNode, defining, id_of, State, IsAdded, state_of}
+use Rattle.avro_schema_json.proofs.Words.{arith, refl, subst, sym, ap, ◌∙◌, is_some, members_view, Node, name_in, RawNode, defining, id_of, State, IsAdded, state_of}
 use Rattle.avro_schema_json.proofs.KnownFound.{found_in}
 use Rattle.avro_schema_json.proofs.PartsRead.{ok-or_memory, not_some, name_faults-new, beginning-known}
 use Rattle.avro_schema_json.proofs.declarations.progress.Progress.begin.Goals as goal
@@ -30,8 +30,7 @@ returns-in_err-add-clause-kept c = λ namespace number h.
     c.add.ensures.kept namespace number (c.reserve.ensures.kept namespace number (c.space_of.ensures.kept namespace number h))
 
 pub returns-clause-kept : goal.returns-clause-kept
-returns-clause-kept c = λ namespace number h.
-    c.add.ensures.kept namespace number (c.reserve.ensures.kept namespace number (c.space_of.ensures.kept namespace number h))
+returns-clause-kept c = grind arith
 
 pub returns-clause-begun : goal.returns-clause-begun
 returns-clause-begun c =
