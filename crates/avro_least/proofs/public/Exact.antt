@@ -25,9 +25,6 @@ use Rattle.avro_certificate.proofs.public.FaultyResults.{any_at}
 
 module _ (writer reader : List Node) (limit : ℕ) (table : LeastTable) (keys : List ℕ) (entries : List (Option Least))
     (formed : is_schema writer ≡ true) (theirs : is_schema reader ≡ true) (tables : AreTables writer reader limit table keys entries) where
-  abbrev erring : ErringTable
-  erring = erring_of (length reader) table keys entries
-
   abbrev known : Pair → Bool
   known = is_known (length reader) table keys
 
