@@ -25,9 +25,6 @@ use Rattle.avro_certificate.proofs.public.FaultyResults.{any_at}
 
 module _ (writer reader : List Node) (limit : ℕ) (table : LeastTable) (keys : List ℕ) (entries : List (Option Least))
     (formed : is_schema writer ≡ true) (theirs : is_schema reader ≡ true) (tables : AreTables writer reader limit table keys entries) where
-  abbrev known : Pair → Bool
-  known = is_known (length reader) table keys
-
   -- what a pair asks for comes to
   abbrev step : ℕ → ℕ → Option Least
   step w r = asked_value limit (table) (erring_of (length reader) table keys entries) w r (asked writer reader (node_at writer w) (node_at reader r))
