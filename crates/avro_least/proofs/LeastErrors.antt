@@ -1,5 +1,5 @@
 -- No datum of a node that errs is below the pair's entry.
-use Rattle.std.proofs.Common.{◌≡◌, ℕ, zero, suc, Bool, true, false, cond, List, [], ◌∷◌, drop, length, Option, Some, None, Result, Ok, Err, refl, sym, subst, arith, slice_get, unwrap_or, option_and_then, nat_lt, is_some}
+use Rattle.std.proofs.Common.{◌≡◌, ℕ, suc, Bool, true, false, cond, List, [], ◌∷◌, drop, length, Option, Some, None, Result, Ok, Err, refl, sym, subst, arith, slice_get, unwrap_or, option_and_then, nat_lt, is_some}
 use Rattle.std.proofs.lemmas.Bool.{false≢true}
 use Rattle.avro_schema.specs.Value.{Value, Values, Entries, no_values, value, no_entries, entry, size, depth, values_size, values_depth, entries_size, entries_depth, values_count}
 use Rattle.avro_schema.specs.Node.{Node, FieldNode, node_at, branches_of, items_node, values_node, fields_of, symbols_of, field_ids}
