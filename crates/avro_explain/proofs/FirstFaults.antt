@@ -8,7 +8,7 @@ use Rattle.avro_schema.specs.Node.{Node, FieldNode, node_at, branches_of, items_
 use Rattle.avro_schema.specs.Fits.{fits, each_fits, entries_fit, fields_fit, is_some_and, is_count, are_bytes, is_bytes_node}
 use Rattle.avro_schema.specs.WellFormed.{is_schema}
 use Rattle.avro_compare.specs.Fault.{ResolutionFault, fault_here, fault_in, no_match, not_utf8}
-use Rattle.avro_compare.specs.Match.{match_within, is_match, first_match}
+use Rattle.avro_compare.specs.Match.{Matches, arrays, enums, maps, reader_union, records, is_match, first_match}
 use Rattle.avro_compare.specs.Source.{source_of, is_index, reader_field, missing_field_from, missing_field}
 use Rattle.avro_compare.specs.Resolve.{Resolved, inside, result_map, matched, through, into_branch, int_as, bytes_as, string_as, enum_as, enum_or_default, part_at, symbol_at, fields_at, field_values, branch_node, record_or_missing, resolve, resolve_items, resolve_entries, resolve_sources}
 use Rattle.avro_compare.specs.Children.{Pair}
@@ -16,6 +16,7 @@ use Rattle.avro_certificate.specs.Closed.{is_among, is_among_pairs, is_dead}
 use Rattle.avro_certificate.specs.Compatible.{ErrsWith}
 use Rattle.avro_certificate.specs.Evidence.{IsReached, roots, child}
 use Rattle.avro_certificate.proofs.public.DeadNodes.{no_dead_datum}
+use Rattle.avro_compare.proofs.public.MatchTest.{match_within-sound}
 use Rattle.avro_compare.proofs.public.NodeKinds.{is_plain_value, plain_node, union_of_branches}
 use Rattle.avro_certificate.proofs.public.Resolving.{slice_get_of_drop, drop_more}
 use Rattle.avro_certificate.proofs.public.Shapes.{first_match_within, plain_branch}
@@ -206,11 +207,11 @@ module _ (writer reader : List Node) (dead : List ℕ) (dead_set : is_dead write
   blames_bytes bs w b _ _ from to live plain theirs m h = absurd (false≢true h)
 
   -- a symbol
-  blames_symbol : (w b k : ℕ) (n q : Node) (steps : ℕ) → node_at writer w ≡ n → node_at reader b ≡ q → is_among dead w ≡ false → branches_of (node_at writer w) ≡ None
-      → branches_of (node_at reader b) ≡ None → is_match writer reader (node_at writer w) (node_at reader b) ≡ true → match_within steps writer reader n q ≡ true → branches_of q ≡ None
+  blames_symbol : (w b k : ℕ) (n q : Node) → node_at writer w ≡ n → node_at reader b ≡ q → is_among dead w ≡ false → branches_of (node_at writer w) ≡ None
+      → branches_of (node_at reader b) ≡ None → is_match writer reader (node_at writer w) (node_at reader b) ≡ true → Matches writer reader n q → branches_of q ≡ None
       → is_some_and (λ symbols. nat_lt k (length symbols)) (symbols_of n) ≡ true → Blames (From w b) (enum_as (symbol_at n k) q)
-  blames_symbol w b k (Node.enum a xs symbols x) (Node.union ids) steps from to live plain theirs m inside their_plain h = absurd (grind arith)
-  blames_symbol w b k (Node.enum a xs symbols x) (Node.enum c ys others y) steps from to live plain theirs m inside their_plain h =
+  blames_symbol w b k (Node.enum a xs symbols x) _ from to live plain theirs m reader_union their_plain h = absurd (grind arith)
+  blames_symbol w b k (Node.enum a xs symbols x) _ from to live plain theirs m (enums {b = c} {b_aliases = ys} {ys = others} {y = y} alike) their_plain h =
       decided (position (λ t. bytes_eq t (unwrap_or (slice_get symbols k) [])) others) y (some_position (unwrap_or (slice_get symbols k) []) others) refl
     where
       decided : (o d : Option ℕ) → is_some o ≡ list_any (bytes_eq (unwrap_or (slice_get symbols k) [])) others → y ≡ d → Blames (From w b) (enum_or_default o d)
@@ -221,19 +222,17 @@ module _ (writer reader : List Node) (dead : List ℕ) (dead_set : is_dead write
           fault_at w b found.0 (Detail.NoSymbol found.1.0) live (kind_there w b found.0 (Detail.NoSymbol found.1.0) plain theirs m
           (ap (λ (p : Node). slice_get (details_of_kind p (node_at reader b)) found.0) from ∙ ap (λ (p : Node). slice_get (details_of_kind (Node.enum a xs symbols x) p) found.0) to
           ∙ ap (λ (d : Option ℕ). slice_get (details_of_kind (Node.enum a xs symbols x) (Node.enum c ys others d)) found.0) g ∙ found.1.1))
-  blames_symbol w b k (Node.enum a xs symbols x) _ zero from to live plain theirs m inside their_plain h = absurd (false≢true inside)
-  blames_symbol w b k (Node.enum a xs symbols x) _ (suc steps) from to live plain theirs m inside their_plain h = absurd (false≢true inside)
-  blames_symbol w b k _ q steps from to live plain theirs m inside their_plain h = absurd (false≢true h)
+  blames_symbol w b k _ q from to live plain theirs m inside their_plain h = absurd (false≢true h)
 
   -- a record whose fields are those of others, or that lacks one
-  blames_record : (vs : Values) (w b : ℕ) (n q : Node) (steps : ℕ) → node_at writer w ≡ n → node_at reader b ≡ q → is_among dead w ≡ false → branches_of (node_at writer w) ≡ None
-      → branches_of (node_at reader b) ≡ None → is_match writer reader (node_at writer w) (node_at reader b) ≡ true → match_within steps writer reader n q ≡ true → branches_of q ≡ None
+  blames_record : (vs : Values) (w b : ℕ) (n q : Node) → node_at writer w ≡ n → node_at reader b ≡ q → is_among dead w ≡ false → branches_of (node_at writer w) ≡ None
+      → branches_of (node_at reader b) ≡ None → is_match writer reader (node_at writer w) (node_at reader b) ≡ true → Matches writer reader n q → branches_of q ≡ None
       → is_some_and (λ fields. fields_fit writer (field_ids fields) vs) (fields_of n) ≡ true
       → ((fields theirs : List FieldNode) → leads_at writer reader w b ≡ field_leads 0 fields theirs → fields_fit writer (field_ids fields) vs ≡ true
       → Blames (From w b) (resolve_sources writer reader fields theirs 0 vs))
       → Blames (From w b) (record_or_missing (fields_at n) (fields_at q) (missing_field (fields_at n) (fields_at q)) (resolve_sources writer reader (fields_at n) (fields_at q) 0 vs))
-  blames_record vs w b (Node.record_of a xs fields) (Node.union ids) steps from to live plain theirs m inside their_plain h each = absurd (grind arith)
-  blames_record vs w b (Node.record_of a xs fields) (Node.record_of c ys others) steps from to live plain theirs m inside their_plain h each =
+  blames_record vs w b (Node.record_of a xs fields) _ from to live plain theirs m reader_union their_plain h each = absurd (grind arith)
+  blames_record vs w b (Node.record_of a xs fields) _ from to live plain theirs m (records {gs = others} alike) their_plain h each =
       decided (missing_field fields others) refl
     where
       decided : (o : Option ℕ) → missing_field fields others ≡ o → Blames (From w b) (record_or_missing fields others o (resolve_sources writer reader fields others 0 vs))
@@ -243,37 +242,31 @@ module _ (writer reader : List Node) (dead : List ℕ) (dead_set : is_dead write
           (ap (λ (p : Node). slice_get (details_of_kind p (node_at reader b)) found.0) from ∙ ap (λ (p : Node). slice_get (details_of_kind (Node.record_of a xs fields) p) found.0) to ∙ found.1))
       decided None e = blames_map (From w b) (λ found. Value.record_of (field_values fields found others)) (resolve_sources writer reader fields others 0 vs)
           (each fields others (ap (λ (p : Node). leads_of writer reader w b p (node_at reader b)) from ∙ ap (leads_of writer reader w b (Node.record_of a xs fields)) to) h)
-  blames_record vs w b (Node.record_of a xs fields) _ zero from to live plain theirs m inside their_plain h each = absurd (false≢true inside)
-  blames_record vs w b (Node.record_of a xs fields) _ (suc steps) from to live plain theirs m inside their_plain h each = absurd (false≢true inside)
-  blames_record vs w b _ q steps from to live plain theirs m inside their_plain h each = absurd (false≢true h)
+  blames_record vs w b _ q from to live plain theirs m inside their_plain h each = absurd (false≢true h)
 
   -- items
-  blames_array : (vs : Values) (w b : ℕ) (n q : Node) (steps : ℕ) → node_at writer w ≡ n → node_at reader b ≡ q → match_within steps writer reader n q ≡ true → branches_of q ≡ None
+  blames_array : (vs : Values) (w b : ℕ) (n q : Node) → node_at writer w ≡ n → node_at reader b ≡ q → Matches writer reader n q → branches_of q ≡ None
       → is_some_and (λ id. each_fits writer (node_at writer id) vs) (items_node n) ≡ true
       → ((x y : ℕ) → leads_at writer reader w b ≡ lead_by Step.Items x y ∷ [] → each_fits writer (node_at writer x) vs ≡ true
       → Blames (From w b) (resolve_items writer reader (node_at writer x) (node_at reader y) 0 vs))
       → Blames (From w b) (result_map Value.array (resolve_items writer reader (part_at writer (items_node n)) (part_at reader (items_node q)) 0 vs))
-  blames_array vs w b (Node.array x) (Node.union ids) steps from to inside plain h each = absurd (grind arith)
-  blames_array vs w b (Node.array x) (Node.array y) steps from to inside plain h each =
+  blames_array vs w b (Node.array x) _ from to reader_union plain h each = absurd (grind arith)
+  blames_array vs w b (Node.array x) _ from to (arrays {b = y} inner) plain h each =
       blames_map (From w b) Value.array (resolve_items writer reader (node_at writer x) (node_at reader y) 0 vs)
       (each x y (ap (λ (p : Node). leads_of writer reader w b p (node_at reader b)) from ∙ ap (leads_of writer reader w b (Node.array x)) to) h)
-  blames_array vs w b (Node.array x) _ zero from to inside plain h each = absurd (false≢true inside)
-  blames_array vs w b (Node.array x) _ (suc steps) from to inside plain h each = absurd (false≢true inside)
-  blames_array vs w b _ q steps from to inside plain h each = absurd (false≢true h)
+  blames_array vs w b _ q from to inside plain h each = absurd (false≢true h)
 
   -- entries
-  blames_map_of : (es : Entries) (w b : ℕ) (n q : Node) (steps : ℕ) → node_at writer w ≡ n → node_at reader b ≡ q → match_within steps writer reader n q ≡ true → branches_of q ≡ None
+  blames_map_of : (es : Entries) (w b : ℕ) (n q : Node) → node_at writer w ≡ n → node_at reader b ≡ q → Matches writer reader n q → branches_of q ≡ None
       → is_some_and (λ id. entries_fit writer (node_at writer id) es) (values_node n) ≡ true
       → ((x y : ℕ) → leads_at writer reader w b ≡ lead_by Step.Values x y ∷ [] → entries_fit writer (node_at writer x) es ≡ true
       → Blames (From w b) (resolve_entries writer reader (node_at writer x) (node_at reader y) 0 es))
       → Blames (From w b) (result_map Value.map_of (resolve_entries writer reader (part_at writer (values_node n)) (part_at reader (values_node q)) 0 es))
-  blames_map_of es w b (Node.map_of x) (Node.union ids) steps from to inside plain h each = absurd (grind arith)
-  blames_map_of es w b (Node.map_of x) (Node.map_of y) steps from to inside plain h each =
+  blames_map_of es w b (Node.map_of x) _ from to reader_union plain h each = absurd (grind arith)
+  blames_map_of es w b (Node.map_of x) _ from to (maps {b = y} inner) plain h each =
       blames_map (From w b) Value.map_of (resolve_entries writer reader (node_at writer x) (node_at reader y) 0 es)
       (each x y (ap (λ (p : Node). leads_of writer reader w b p (node_at reader b)) from ∙ ap (leads_of writer reader w b (Node.map_of x)) to) h)
-  blames_map_of es w b (Node.map_of x) _ zero from to inside plain h each = absurd (false≢true inside)
-  blames_map_of es w b (Node.map_of x) _ (suc steps) from to inside plain h each = absurd (false≢true inside)
-  blames_map_of es w b _ q steps from to inside plain h each = absurd (false≢true h)
+  blames_map_of es w b _ q from to inside plain h each = absurd (false≢true h)
 
   -- the branch that a datum takes of the writer's union
   blames_union : (v : Value) (k w r : ℕ) (n : Node) → node_at writer w ≡ n → is_among dead w ≡ false
@@ -312,13 +305,13 @@ module _ (writer reader : List Node) (dead : List ℕ) (dead_set : is_dead write
     blames (Value.array vs) w r h = blames_through w r
         (λ q. result_map Value.array (resolve_items writer reader (part_at writer (items_node (node_at writer w))) (part_at reader (items_node q)) 0 vs))
         (lives (Value.array vs) w h) (plain_of (Value.array vs) w refl h)
-        (λ b p m. blames_array vs w b (node_at writer w) (node_at reader b) (length writer) refl refl m p
+        (λ b p m. blames_array vs w b (node_at writer w) (node_at reader b) refl refl (match_within-sound (length writer) writer reader (node_at writer w) (node_at reader b) m) p
         (and_right (is_count (values_count vs)) (is_some_and (λ id. each_fits writer (node_at writer id) vs) (items_node (node_at writer w))) h)
         (λ x y is f. blames_items vs x y 0 w b (lives (Value.array vs) w h) is f))
     blames (Value.map_of es) w r h = blames_through w r
         (λ q. result_map Value.map_of (resolve_entries writer reader (part_at writer (values_node (node_at writer w))) (part_at reader (values_node q)) 0 es))
         (lives (Value.map_of es) w h) (plain_of (Value.map_of es) w refl h)
-        (λ b p m. blames_map_of es w b (node_at writer w) (node_at reader b) (length writer) refl refl m p
+        (λ b p m. blames_map_of es w b (node_at writer w) (node_at reader b) refl refl (match_within-sound (length writer) writer reader (node_at writer w) (node_at reader b) m) p
         (and_right _ (is_some_and (λ id. entries_fit writer (node_at writer id) es) (values_node (node_at writer w))) h)
         (λ x y is f. blames_entries es x y 0 w b (lives (Value.map_of es) w h) is f))
     blames (Value.union k v) w r h = blames_union v k w r (node_at writer w) refl (lives (Value.union k v) w h) h (λ id f. blames v id r f)
@@ -326,10 +319,10 @@ module _ (writer reader : List Node) (dead : List ℕ) (dead_set : is_dead write
         (λ q. record_or_missing (fields_at (node_at writer w)) (fields_at q) (missing_field (fields_at (node_at writer w)) (fields_at q))
         (resolve_sources writer reader (fields_at (node_at writer w)) (fields_at q) 0 vs))
         (lives (Value.record_of vs) w h) (plain_of (Value.record_of vs) w refl h)
-        (λ b p m. blames_record vs w b (node_at writer w) (node_at reader b) (length writer) refl refl (lives (Value.record_of vs) w h) (plain_of (Value.record_of vs) w refl h) p m m p h
+        (λ b p m. blames_record vs w b (node_at writer w) (node_at reader b) refl refl (lives (Value.record_of vs) w h) (plain_of (Value.record_of vs) w refl h) p m (match_within-sound (length writer) writer reader (node_at writer w) (node_at reader b) m) p h
         (λ fields theirs is f. blames_sources vs fields theirs 0 w b (lives (Value.record_of vs) w h) is (field_ids fields) refl f))
     blames (Value.enum k) w r h = blames_through w r (enum_as (symbol_at (node_at writer w) k)) (lives (Value.enum k) w h) (plain_of (Value.enum k) w refl h)
-        (λ b p m. blames_symbol w b k (node_at writer w) (node_at reader b) (length writer) refl refl (lives (Value.enum k) w h) (plain_of (Value.enum k) w refl h) p m m p h)
+        (λ b p m. blames_symbol w b k (node_at writer w) (node_at reader b) refl refl (lives (Value.enum k) w h) (plain_of (Value.enum k) w refl h) p m (match_within-sound (length writer) writer reader (node_at writer w) (node_at reader b) m) p h)
     blames (Value.fixed x) w r h = blames_through w r (λ q. Ok (Value.fixed x)) (lives (Value.fixed x) w h) (plain_of (Value.fixed x) w refl h) (λ b p m. tt)
 
     -- the items

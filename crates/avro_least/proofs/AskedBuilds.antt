@@ -52,9 +52,6 @@ module _ (writer reader : List Node) (limit : ℕ) (table : LeastTable) (erring 
       → known (record { w = w; r = r }) ≡ true → IsWithin limit (erring w r) → PartsPass known w r a
   closed_of known ex w r a is kn within = subst (λ (x : Asked). PartsPass known w r x) (sym is) (ex.closed w r kn within)
 
-  pub none_left : (left w r : ℕ) (a : Asked) (v : Value) → left ≡ 0 → BuildsAsked writer reader limit table erring left w r a v
-  none_left left w r a v none ns is known ex kn within few = absurd (omega (arith, none, few, ex.some w r kn within))
-
   pub whole_builds : (left w r : ℕ) (v : Value) → Builds writer table left w v → BuildsAsked writer reader limit table erring left w r Asked.whole v
   whole_builds left w r v b ns is known ex kn within few =
       let step : table w ≡ erring w r = step_of known ex w r Asked.whole is kn within in

@@ -37,32 +37,26 @@ module _ {A : Type 0} where
     pub high_ordered : AreAscending 0 high
     high_ordered = ascends_high 0 low high (subst (λ (xs : List (ℕ × A)). AreAscending 0 xs) is order)
 
-    pub high_same : (e : ℕ × A) (rest : List (ℕ × A)) → high ≡ e ∷ rest → e.0 ≤ k → entry_at es k ≡ entry_at high k
-    high_same e rest same there =
-        let whole : es ≡ low ++ e ∷ rest = is ∙ ap (λ (xs : List (ℕ × A)). low ++ xs) same in
-        ap (λ (xs : List (ℕ × A)). entry_at xs k) whole
-        ∙ in_high 0 k low e rest (subst (λ (xs : List (ℕ × A)). AreAscending 0 xs) whole order) there
-        ∙ ap (λ (xs : List (ℕ × A)). entry_at xs k) (sym same)
-
-    pub low_same : (e : ℕ × A) (rest : List (ℕ × A)) → high ≡ e ∷ rest → k < e.0 → entry_at es k ≡ entry_at low k
-    low_same e rest same there =
-        let ordered = subst (λ (xs : List (ℕ × A)). AreAscending 0 xs) same high_ordered in
-        ap (λ (xs : List (ℕ × A)). entry_at xs k) is
-        ∙ in_low 0 e.0 k low high (subst (λ (xs : List (ℕ × A)). AreAscending e.0 xs) (sym same) (omega arith, ordered.1)) there
-
     pub high_read : (d : ℕ × A) → 0 < length high → (slice_index_or high 0 d).0 ≤ k → entry_at es k ≡ entry_at high k
     high_read d some there = by high refl some there
       where
         by : (xs : List (ℕ × A)) → high ≡ xs → 0 < length xs → (slice_index_or xs 0 d).0 ≤ k → entry_at es k ≡ entry_at high k
         by [] e some there = absurd (omega (arith, some))
-        by (x ∷ xs) e some there = high_same x xs e there
+        by (x ∷ xs) e some there =
+            let whole : es ≡ low ++ x ∷ xs = is ∙ ap (λ (ys : List (ℕ × A)). low ++ ys) e in
+            ap (λ (ys : List (ℕ × A)). entry_at ys k) whole
+            ∙ in_high 0 k low x xs (subst (λ (ys : List (ℕ × A)). AreAscending 0 ys) whole order) there
+            ∙ ap (λ (ys : List (ℕ × A)). entry_at ys k) (sym e)
 
     pub low_read : (d : ℕ × A) → 0 < length high → k < (slice_index_or high 0 d).0 → entry_at es k ≡ entry_at low k
     low_read d some there = by high refl some there
       where
         by : (xs : List (ℕ × A)) → high ≡ xs → 0 < length xs → k < (slice_index_or xs 0 d).0 → entry_at es k ≡ entry_at low k
         by [] e some there = absurd (omega (arith, some))
-        by (x ∷ xs) e some there = low_same x xs e there
+        by (x ∷ xs) e some there =
+            let ordered = subst (λ (ys : List (ℕ × A)). AreAscending 0 ys) e high_ordered in
+            ap (λ (ys : List (ℕ × A)). entry_at ys k) is
+            ∙ in_low 0 x.0 k low high (subst (λ (ys : List (ℕ × A)). AreAscending x.0 ys) (sym e) (omega arith, ordered.1)) there
 
   -- of one entry at most
   pub first_alone : (es : List (ℕ × A)) (k : ℕ) → length es ≤ 1 → first_entry es k ≡ entry_at es k

@@ -1,17 +1,18 @@
 -- No datum of a node that errs is below the pair's entry.
-use Rattle.std.proofs.Common.{◌≡◌, ℕ, zero, suc, Bool, true, false, cond, List, [], ◌∷◌, drop, length, Option, Some, None, Result, Ok, Err, refl, sym, subst, arith, slice_get, unwrap_or, option_and_then, nat_lt, is_some}
+use Rattle.std.proofs.Common.{◌≡◌, ℕ, suc, Bool, true, false, cond, List, [], ◌∷◌, drop, length, Option, Some, None, Result, Ok, Err, refl, sym, subst, arith, slice_get, unwrap_or, option_and_then, nat_lt, is_some}
 use Rattle.std.proofs.lemmas.Bool.{false≢true}
 use Rattle.avro_schema.specs.Value.{Value, Values, Entries, no_values, value, no_entries, entry, size, depth, values_size, values_depth, entries_size, entries_depth, values_count}
 use Rattle.avro_schema.specs.Node.{Node, FieldNode, node_at, branches_of, items_node, values_node, fields_of, symbols_of, field_ids}
 use Rattle.avro_schema.specs.Fits.{fits, each_fits, entries_fit, fields_fit, is_some_and, is_count, are_bytes, is_bytes_node}
 use Rattle.avro_schema.specs.WellFormed.{is_schema}
 use Rattle.avro_compare.specs.Fault.{ResolutionFault, fault_here, no_match}
-use Rattle.avro_compare.specs.Match.{is_match, match_within, first_match}
+use Rattle.avro_compare.specs.Match.{Matches, arrays, enums, maps, reader_union, records, is_match, first_match}
 use Rattle.avro_compare.specs.Source.{reader_field, missing_field}
 use Rattle.avro_compare.specs.Resolve.{Resolved, inside, result_map, matched, into_branch, through, int_as, bytes_as, string_as, enum_as, part_at, symbol_at, fields_at, branch_node, record_or_missing, resolve, resolve_items, resolve_entries, resolve_sources}
 use Rattle.avro_least.specs.Tables.{Least, LeastTable, ErringTable, AtMost, AreLow, err_of, err_inside, err_of_fields, err_of_field, best_of, all_of, around, together, one}
 use Rattle.avro_compare.specs.Children.{lacks_symbol}
 use Rattle.avro_certificate.proofs.public.Tests.{and_left, and_right}
+use Rattle.avro_compare.proofs.public.MatchTest.{match_within-sound}
 use Rattle.avro_compare.proofs.public.NodeKinds.{is_plain_value, plain_node, union_of_branches}
 use Rattle.avro_certificate.proofs.public.Shapes.{plain_branch, first_match_within}
 use Rattle.avro_certificate.proofs.public.Successes.{Succeeds, succeeds_enum, succeeds_int, succeeds_string}
@@ -108,22 +109,20 @@ module _ (writer reader : List Node) (limit : ℕ) (table : LeastTable) (erring 
   -- a symbol
   inner_enum : (w : ℕ) (n : Node) (k : ℕ) → is_some_and (λ symbols. nat_lt k (length symbols)) (symbols_of n) ≡ true
       → Inner writer reader limit table erring w n (enum_as (symbol_at n k)) 1 1
-  inner_enum w n k h q plain m = into (length writer) n q h plain m
+  inner_enum w n k h q plain m = into n q h plain (match_within-sound (length writer) writer reader n q m)
     where
       lacked : (n q : Node) (t : Bool) → (t ≡ false → Succeeds (enum_as (symbol_at n k) q))
           → OnErr (enum_as (symbol_at n k) q) (AtMost (cond t (Some one) None) 1 1)
       lacked n q true f = on_err (enum_as (symbol_at n k) q) _ (record { fewer = omega arith; shallower = λ k. omega arith })
       lacked n q false f = blames_good (λ e. ⊥) (enum_as (symbol_at n k) q) (f refl)
 
-      into : (steps : ℕ) (n q : Node) → is_some_and (λ symbols. nat_lt k (length symbols)) (symbols_of n) ≡ true
-          → branches_of q ≡ None → match_within steps writer reader n q ≡ true
+      into : (n q : Node) → is_some_and (λ symbols. nat_lt k (length symbols)) (symbols_of n) ≡ true
+          → branches_of q ≡ None → Matches writer reader n q
           → OnErr (enum_as (symbol_at n k) q) (AtMost (err_inside limit table erring w n q) 1 1)
-      into steps (Node.enum a xs symbols x) (Node.union ids) h plain m = absurd (grind arith)
-      into steps (Node.enum a xs symbols x) (Node.enum b ys theirs y) h plain m =
+      into (Node.enum a xs symbols x) _ h plain reader_union = absurd (grind arith)
+      into (Node.enum a xs symbols x) _ h plain (enums {b = b} {b_aliases = ys} {ys = theirs} {y = y} m) =
           lacked (Node.enum a xs symbols x) (Node.enum b ys theirs y) (lacks_symbol symbols theirs y) (λ e. succeeds_enum symbols theirs k y h e)
-      into zero (Node.enum a xs symbols x) _ h plain m = absurd (false≢true m)
-      into (suc steps) (Node.enum a xs symbols x) _ h plain m = absurd (false≢true m)
-      into steps _ q h plain m = absurd (false≢true h)
+      into _ q h plain m = absurd (false≢true h)
 
   -- an array's items
   inner_array : (w : ℕ) (n : Node) (vs : Values) → is_some_and (λ id. each_fits writer (node_at writer id) vs) (items_node n) ≡ true
@@ -132,7 +131,7 @@ module _ (writer reader : List Node) (limit : ℕ) (table : LeastTable) (erring 
       → Inner writer reader limit table erring w n
       (λ q. result_map Value.array (resolve_items writer reader (part_at writer (items_node n)) (part_at reader (items_node q)) 0 vs))
       (suc (values_size vs)) (suc (values_depth vs))
-  inner_array w n vs h each q plain m = into (length writer) n q h plain m
+  inner_array w n vs h each q plain m = into n q h plain (match_within-sound (length writer) writer reader n q m)
     where
       parts : (a b : ℕ) → each_fits writer (node_at writer a) vs ≡ true
           → OnErr (result_map Value.array (resolve_items writer reader (node_at writer a) (node_at reader b) 0 vs))
@@ -140,15 +139,12 @@ module _ (writer reader : List Node) (limit : ℕ) (table : LeastTable) (erring 
       parts a b f = blames_map _ Value.array (resolve_items writer reader (node_at writer a) (node_at reader b) 0 vs)
           (on_mono (resolve_items writer reader (node_at writer a) (node_at reader b) 0 vs) _ _ (under_around limit (erring a b) (values_size vs) (values_depth vs)) (each a b f))
 
-      into : (steps : ℕ) (n q : Node) → is_some_and (λ id. each_fits writer (node_at writer id) vs) (items_node n) ≡ true
-          → branches_of q ≡ None → match_within steps writer reader n q ≡ true
+      into : (n q : Node) → is_some_and (λ id. each_fits writer (node_at writer id) vs) (items_node n) ≡ true → branches_of q ≡ None → Matches writer reader n q
           → OnErr (result_map Value.array (resolve_items writer reader (part_at writer (items_node n)) (part_at reader (items_node q)) 0 vs))
           (AtMost (err_inside limit table erring w n q) (suc (values_size vs)) (suc (values_depth vs)))
-      into steps (Node.array a) (Node.union ids) h plain m = absurd (grind arith)
-      into steps (Node.array a) (Node.array b) h plain m = parts a b h
-      into zero (Node.array a) _ h plain m = absurd (false≢true m)
-      into (suc steps) (Node.array a) _ h plain m = absurd (false≢true m)
-      into steps _ q h plain m = absurd (false≢true h)
+      into (Node.array a) _ h plain reader_union = absurd (grind arith)
+      into (Node.array a) _ h plain (arrays {b = b} m) = parts a b h
+      into _ q h plain m = absurd (false≢true h)
 
   -- a map's entries
   inner_map : (w : ℕ) (n : Node) (es : Entries) → is_some_and (λ id. entries_fit writer (node_at writer id) es) (values_node n) ≡ true
@@ -157,7 +153,7 @@ module _ (writer reader : List Node) (limit : ℕ) (table : LeastTable) (erring 
       → Inner writer reader limit table erring w n
       (λ q. result_map Value.map_of (resolve_entries writer reader (part_at writer (values_node n)) (part_at reader (values_node q)) 0 es))
       (suc (entries_size es)) (suc (entries_depth es))
-  inner_map w n es h each q plain m = into (length writer) n q h plain m
+  inner_map w n es h each q plain m = into n q h plain (match_within-sound (length writer) writer reader n q m)
     where
       parts : (a b : ℕ) → entries_fit writer (node_at writer a) es ≡ true
           → OnErr (result_map Value.map_of (resolve_entries writer reader (node_at writer a) (node_at reader b) 0 es))
@@ -165,15 +161,13 @@ module _ (writer reader : List Node) (limit : ℕ) (table : LeastTable) (erring 
       parts a b f = blames_map _ Value.map_of (resolve_entries writer reader (node_at writer a) (node_at reader b) 0 es)
           (on_mono (resolve_entries writer reader (node_at writer a) (node_at reader b) 0 es) _ _ (under_around limit (erring a b) (entries_size es) (entries_depth es)) (each a b f))
 
-      into : (steps : ℕ) (n q : Node) → is_some_and (λ id. entries_fit writer (node_at writer id) es) (values_node n) ≡ true
-          → branches_of q ≡ None → match_within steps writer reader n q ≡ true
+      into : (n q : Node) → is_some_and (λ id. entries_fit writer (node_at writer id) es) (values_node n) ≡ true
+          → branches_of q ≡ None → Matches writer reader n q
           → OnErr (result_map Value.map_of (resolve_entries writer reader (part_at writer (values_node n)) (part_at reader (values_node q)) 0 es))
           (AtMost (err_inside limit table erring w n q) (suc (entries_size es)) (suc (entries_depth es)))
-      into steps (Node.map_of a) (Node.union ids) h plain m = absurd (grind arith)
-      into steps (Node.map_of a) (Node.map_of b) h plain m = parts a b h
-      into zero (Node.map_of a) _ h plain m = absurd (false≢true m)
-      into (suc steps) (Node.map_of a) _ h plain m = absurd (false≢true m)
-      into steps _ q h plain m = absurd (false≢true h)
+      into (Node.map_of a) _ h plain reader_union = absurd (grind arith)
+      into (Node.map_of a) _ h plain (maps {b = b} m) = parts a b h
+      into _ q h plain m = absurd (false≢true h)
 
   -- a record's fields
   inner_record : (w : ℕ) (n : Node) (vs : Values) → is_some_and (λ fields. fields_fit writer (field_ids fields) vs) (fields_of n) ≡ true
@@ -185,7 +179,7 @@ module _ (writer reader : List Node) (limit : ℕ) (table : LeastTable) (erring 
       (λ q. record_or_missing (fields_at n) (fields_at q) (missing_field (fields_at n) (fields_at q))
       (resolve_sources writer reader (fields_at n) (fields_at q) 0 vs))
       (suc (values_size vs)) (suc (values_depth vs))
-  inner_record w n vs h own each q plain m = into (length writer) n q h plain m
+  inner_record w n vs h own each q plain m = into n q h plain (match_within-sound (length writer) writer reader n q m)
     where
       parts : (fields theirs : List FieldNode) (o : Option ℕ) → fields_fit writer (field_ids fields) vs ≡ true
           → OnErr (record_or_missing fields theirs o (resolve_sources writer reader fields theirs 0 vs))
@@ -195,15 +189,13 @@ module _ (writer reader : List Node) (limit : ℕ) (table : LeastTable) (erring 
           (under_around limit (err_of_fields limit table erring fields theirs 0 (field_ids fields)) (values_size vs) (values_depth vs)) (each fields theirs f))
       parts fields theirs (Some index) f = own
 
-      into : (steps : ℕ) (n q : Node) → is_some_and (λ fields. fields_fit writer (field_ids fields) vs) (fields_of n) ≡ true
-          → branches_of q ≡ None → match_within steps writer reader n q ≡ true
+      into : (n q : Node) → is_some_and (λ fields. fields_fit writer (field_ids fields) vs) (fields_of n) ≡ true
+          → branches_of q ≡ None → Matches writer reader n q
           → OnErr (record_or_missing (fields_at n) (fields_at q) (missing_field (fields_at n) (fields_at q)) (resolve_sources writer reader (fields_at n) (fields_at q) 0 vs))
           (AtMost (err_inside limit table erring w n q) (suc (values_size vs)) (suc (values_depth vs)))
-      into steps (Node.record_of a xs fields) (Node.union ids) h plain m = absurd (grind arith)
-      into steps (Node.record_of a xs fields) (Node.record_of b ys theirs) h plain m = parts fields theirs (missing_field fields theirs) h
-      into zero (Node.record_of a xs fields) _ h plain m = absurd (false≢true m)
-      into (suc steps) (Node.record_of a xs fields) _ h plain m = absurd (false≢true m)
-      into steps _ q h plain m = absurd (false≢true h)
+      into (Node.record_of a xs fields) _ h plain reader_union = absurd (grind arith)
+      into (Node.record_of a xs fields) _ h plain (records {gs = theirs} m) = parts fields theirs (missing_field fields theirs) h
+      into _ q h plain m = absurd (false≢true h)
 
   -- a union's branch
   union_step : (v : Value) (k w r : ℕ) (n : Node)

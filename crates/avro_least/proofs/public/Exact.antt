@@ -1,16 +1,15 @@
 -- Within the limit each entry of a pair that was reached is what the pair asks for.
-use Rattle.std.proofs.Common.{◌≡◌, ℕ, ◌+◌, ◌*◌, ◌/◌, ◌%◌, ◌≤◌, ◌<◌, Bool, true, ◌&&◌, ◌||◌, List, Option, Some, None, length, refl, sym, ◌∙◌, ap, subst, arith, slice_get, is_some, is_none, nat_lt, ◌==◌}
+use Rattle.std.proofs.Common.{◌≡◌, ℕ, ◌+◌, ◌*◌, ◌/◌, ◌%◌, ◌≤◌, ◌<◌, true, ◌&&◌, ◌||◌, List, Option, Some, None, length, refl, sym, ◌∙◌, ap, subst, arith, slice_get, is_some, is_none, nat_lt, ◌==◌}
 use Rattle.std.proofs.lemmas.Nat.{div-mul-add, mod-mul-add}
 use Rattle.std.proofs.lemmas.Bool.{ltb-true, lt-ltb, eqb-true, false≢true}
 use Rattle.std.specs.List.{list_all}
 use Rattle.avro_schema.specs.Value.{size, depth}
 use Rattle.avro_schema.specs.Node.{Node, node_at}
 use Rattle.avro_schema.specs.WellFormed.{is_schema}
-use Rattle.avro_compare.specs.Children.{Pair}
 use Rattle.avro_least.specs.Asked.{asked, asked_value, is_known, steps_at, open_children}
 use Rattle.avro_least.specs.BuiltErrors.{AreExact}
 use Rattle.avro_least.specs.FoundTables.{AreTables}
-use Rattle.avro_least.specs.Tables.{Least, LeastTable, ErringTable, IsUnder, AtMost, IsWithin, count_of, ShowsError, err_of, erring_of, pair_number}
+use Rattle.avro_least.specs.Tables.{Least, LeastTable, IsUnder, AtMost, IsWithin, count_of, ShowsError, err_of, erring_of, pair_number}
 use Rattle.avro_least.specs.Reached.{is_key}
 use Rattle.avro_certificate.proofs.public.Tests.{and_left, and_right, or_not, all_at}
 use Rattle.avro_least.proofs.AskedValue.{value_is}
@@ -25,12 +24,6 @@ use Rattle.avro_certificate.proofs.public.FaultyResults.{any_at}
 
 module _ (writer reader : List Node) (limit : ℕ) (table : LeastTable) (keys : List ℕ) (entries : List (Option Least))
     (formed : is_schema writer ≡ true) (theirs : is_schema reader ≡ true) (tables : AreTables writer reader limit table keys entries) where
-  abbrev erring : ErringTable
-  erring = erring_of (length reader) table keys entries
-
-  abbrev known : Pair → Bool
-  known = is_known (length reader) table keys
-
   -- what a pair asks for comes to
   abbrev step : ℕ → ℕ → Option Least
   step w r = asked_value limit (table) (erring_of (length reader) table keys entries) w r (asked writer reader (node_at writer w) (node_at reader r))

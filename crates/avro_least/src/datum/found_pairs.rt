@@ -1,4 +1,4 @@
-//! Uses the comparisons of the pairs that were reached to build a datum.
+//! The comparison of a pair that a datum is built for, and a datum of one node.
 
 ghost use Rattle.std.specs.Prelude.{◌≡◌, IfOk, IfSome};
 ghost use Rattle.avro_schema.specs.Seen.{value_of};
@@ -18,10 +18,8 @@ pub(crate) fn found_of<'a>(tables: &'a Tables, w: NodeId, r: NodeId) -> Option<&
     requires { AreComparisons (schema_nodes tables.now.writer.now) (schema_nodes tables.now.reader.now) tables.now.reached.now.found.items }
     ensures { IfSome result (λ p. IsComparison (schema_nodes tables.now.writer.now) (schema_nodes tables.now.reader.now) p.now × (p.now.w ≡ w) × (p.now.r ≡ r)) }
 {
-    let index = tables
-        .reached
-        .known
-        .get_index_of(&number(tables.count, w, r))?;
+    let key = number(tables.count, w, r);
+    let index = tables.reached.known.get_index_of(&key)?;
     let pair = tables.reached.found.get(index)?;
     (pair.w == w && pair.r == r).then_some(pair)
 }
@@ -39,7 +37,8 @@ pub(crate) fn compare_alone(
     compare(alloc, &names, w, r)
 }
 
-/// A datum of one node that fails, for a pair that asks for one: the first of the writer's symbols that the reader lacks, or for other nodes the byte `ff`, which is not UTF-8.
+/// A datum of one node that fails, for a pair that asks for one: the first of the writer's symbols that the reader
+/// lacks, or for other nodes the byte `ff`, which is not UTF-8.
 pub(crate) fn lone(alloc: Global, tables: &Tables, pair: &Comparison) -> Result<Datum, Memory>
     requires { IsComparison (schema_nodes tables.now.writer.now) (schema_nodes tables.now.reader.now) pair.now }
     ensures { IfOk result (λ d. BuildsLone (schema_nodes tables.now.writer.now) (schema_nodes tables.now.reader.now) pair.now.w.0 pair.now.r.0 (value_of d)) }
