@@ -18,7 +18,7 @@ use Rattle.avro_least.specs.Asked.{Row, Asked, rows_from}
 use Rattle.avro_least.specs.SeenAsk.{rows_by}
 use Rattle.avro_least.specs.KeptAsks.{AreOrdered, AreTaken, IsKept, indexed, kept_count, kept_part, nth_part, pair_for, seen_part, view_of, with_index}
 use Rattle.avro_least.specs.inside.Parts.{nodes_of, part_at, parts_of, row_part}
-use Rattle.avro_least.specs.declared.pairs.keeping.Ask.{Ask}
+use Rattle.avro_least.specs.declared.pairs.asking.Ask.{Ask}
 use Rattle.avro_least.proofs.AskedLed.{rows_same}
 use Rattle.avro_least.proofs.Entries.{entry_place}
 use Rattle.avro_least.proofs.public.Keys.{some_same}

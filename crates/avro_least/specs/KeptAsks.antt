@@ -12,7 +12,7 @@ use Rattle.avro_compare.specs.declared.guided.At.{At}
 use Rattle.avro_least.specs.Asked.{Row, Asked}
 use Rattle.avro_least.specs.SeenAsk.{rows_by}
 use Rattle.avro_least.specs.inside.Parts.{part_at, row_part}
-use Rattle.avro_least.specs.declared.pairs.keeping.Ask.{Ask}
+use Rattle.avro_least.specs.declared.pairs.asking.Ask.{Ask}
 
 -- the pair that a field leads to
 abbrev pub pair_for : Option At → Option Pair

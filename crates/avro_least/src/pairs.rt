@@ -3,7 +3,6 @@
 pub(crate) mod asking;
 pub(crate) mod erring;
 pub(crate) mod graph;
-pub(crate) mod keeping;
 pub(crate) mod leads;
 pub(crate) mod near;
 pub(crate) mod parts;

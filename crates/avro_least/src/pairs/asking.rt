@@ -12,10 +12,30 @@ ghost use Rattle.avro_least.specs.KeptAsks.{AreTaken, IsKept, view_of};
 ghost use Rattle.avro_least.specs.SeenAsk.{rows_by, rows_of, theirs_in};
 ghost use Rattle.avro_least.specs.inside.Parts.{nodes_of};
 
-use crate::pairs::keeping::Ask;
 use avro_compare::{Aim, At, Comparison, first_entry, rest_entries};
 use avro_schema::{Field, Memory, Node, NodeId, Schema};
 use std::alloc::Global;
+
+/// What a pair of nodes asks of a datum that fails there, as its comparison and the writer's node say it. Nothing is
+/// copied for it.
+#[derive(Clone, Copy)]
+pub(crate) enum Ask<'a> {
+    /// Nothing: no datum fails.
+    Quiet,
+    /// The writer's least datum: each datum fails.
+    Whole,
+    /// A datum of one node: a symbol that the reader lacks, or bytes that are not UTF-8.
+    Lone,
+    /// What the writer's node and this node of the reader's ask for.
+    Same(NodeId),
+    /// An item or a value that fails at these two nodes.
+    Part(NodeId, NodeId),
+    /// A value that fails in one of the branches of the writer's union.
+    Branches(&'a [NodeId]),
+    /// One field that fails, beside the least data of the others: the fields that the reader takes, in order, each
+    /// with its index.
+    Fields(&'a [(usize, At)]),
+}
 
 /// A writer's field, and the reader's field that takes its value.
 #[derive(Clone, Copy)]

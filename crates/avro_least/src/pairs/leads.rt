@@ -11,7 +11,7 @@ ghost use Rattle.avro_least.specs.inside.Leading.{is_lead, leads_at, row_leads, 
 
 use crate::kept::Least;
 use crate::nodes::least::{count, entry};
-use crate::pairs::keeping::Ask;
+use crate::pairs::asking::Ask;
 use crate::pairs::near::index_next;
 use crate::pairs::parts::{nth_part, part_count};
 use crate::pairs::reaching::{Reached, ask_at_index, number, readers, writers};

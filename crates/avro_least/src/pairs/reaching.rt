@@ -15,8 +15,7 @@ ghost use Rattle.avro_least.specs.KeptAsks.{AreFound, IsFound, IsKept};
 
 use crate::kept::Least;
 use crate::nodes::least::{count, entry};
-use crate::pairs::asking::ask_of_pair;
-use crate::pairs::keeping::Ask;
+use crate::pairs::asking::{Ask, ask_of_pair};
 use crate::pairs::near::add_next;
 use avro_compare::{Comparison, Lead, Names, compare, has_fault, leads};
 use avro_schema::{Memory, NodeId, Schema};

@@ -6,7 +6,7 @@ use Rattle.avro_schema.specs.SeenSchema.{schema_nodes}
 use Rattle.avro_schema.specs.Node.{Node as SeenNode, node_at}
 use Rattle.avro_schema.specs.declared.datum.Datum.{Datum}
 use Rattle.avro_schema.specs.declared.schema.NodeId.{NodeId}
-use Rattle.avro_least.specs.declared.pairs.keeping.Ask.{Ask}
+use Rattle.avro_least.specs.declared.pairs.asking.Ask.{Ask}
 use Rattle.avro_least.specs.declared.pairs.asking.FieldAsk.{FieldAsk}
 use Rattle.avro_least.specs.Asked.{Asked, Row, asked}
 use Rattle.avro_least.specs.Tables.{LeastTable, ErringTable}

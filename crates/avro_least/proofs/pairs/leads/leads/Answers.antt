@@ -7,7 +7,7 @@ use Rattle.avro_least.specs.Tables.{pair_number}
 use Rattle.avro_least.specs.Asked.{asked_at}
 use Rattle.avro_least.specs.KeptAsks.{kept_part}
 use Rattle.avro_least.specs.SeenLeast.{table_of}
-use Rattle.avro_least.specs.declared.pairs.keeping.Ask.{Ask}
+use Rattle.avro_least.specs.declared.pairs.asking.Ask.{Ask}
 use Rattle.avro_least.specs.declared.pairs.leads.LeadRow.{LeadRow}
 use Rattle.avro_least.specs.inside.Parts.{part_at}
 use Rattle.avro_least.specs.inside.Leading.{is_lead, leads_at, AreLeads}

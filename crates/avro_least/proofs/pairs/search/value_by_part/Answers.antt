@@ -12,7 +12,7 @@ use Rattle.avro_least.specs.declared.kept.Least.{Least as KeptLeast}
 use Rattle.avro_least.specs.inside.Parts.{least_of_others, nodes_of, part_at, row_part, seen_pair}
 use Rattle.avro_least.proofs.Others.{part_within, rows_nodes}
 use Rattle.avro_least.proofs.PairSteps.{below_at}
-use Rattle.avro_least.specs.declared.pairs.keeping.Ask.{Ask}
+use Rattle.avro_least.specs.declared.pairs.asking.Ask.{Ask}
 use Rattle.avro_compare.specs.Children.{Pair}
 use Rattle.avro_least.proofs.KeptParts.{kept_is, kept_ordered}
 use Rattle.avro_least.proofs.Starting.{around_none, by_part_is}

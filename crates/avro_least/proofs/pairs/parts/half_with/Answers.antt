@@ -1,6 +1,6 @@
 use Rattle.std.proofs.Common.{◌<◌, length, arith}
 use Rattle.avro_least.proofs.Entries.{high_ordered, high_read, low_ordered, low_read}
-use Rattle.avro_least.proofs.pairs.keeping.half_with.Goals as goal
+use Rattle.avro_least.proofs.pairs.parts.half_with.Goals as goal
 
 pub returns-then-high-index-clause-order : goal.returns-then-high-index-clause-order
 returns-then-high-index-clause-order c = high_ordered c.args.entries.now c.split_at.result.0.now c.split_at.result.1.now c.args.index c.split_at.ensures.by_index.0 c.requires.order
