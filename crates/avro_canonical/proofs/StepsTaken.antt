@@ -76,7 +76,7 @@ begins_first nodes marks seen = grind (arith, append-nil)
 
 pub begins_then : (nodes : List Node) (marks : List Bool) (ps : List Pending) (text : List ℕ) (marks-then : List Bool) (then : List Pending) (text-then : List ℕ)
     → Begins nodes marks ps text → IsStep nodes marks ps text marks-then then text-then → Begins nodes marks-then then text-then
-begins_then nodes marks ps text marks-then then text-then h7 step = grind arith
+begins_then nodes marks ps text marks-then then text-then begins step = grind arith
 
 -- a step from the last part of a text is one from the whole text
 pub step-behind : (nodes : List Node) (marks : List Bool) (ps : List Pending) (hashed old : List ℕ) (marks-then : List Bool) (then : List Pending) (new : List ℕ)
