@@ -22,15 +22,7 @@ use Rattle.avro_container.proofs.Stopping.{below_zero}
 
 -- what is not an end of the input is not one after other bytes
 still_no_end : (k : ℕ) (f : ReadFault) → ((place : ℕ) → f ≢ end_of_input place) → (place : ℕ) → behind k f ≢ end_of_input place
-still_no_end k (end_of_input there) h place e = h there refl
-still_no_end k (invalid_number there) h place e = cc
-still_no_end k (invalid_boolean there) h place e = cc
-still_no_end k (invalid_text there) h place e = cc
-still_no_end k (unknown_index there) h place e = cc
-still_no_end k (invalid_length there) h place e = cc
-still_no_end k (wrong_block_size there) h place e = cc
-still_no_end k (duplicate_key there) h place e = cc
-still_no_end k limit_exceeded h place e = cc
+still_no_end k f h place e = grind arith
 
 -- ---- Calls, one after another
 
@@ -75,15 +67,7 @@ pub part_refused : {I : Type 0} (gives : I → List ℕ → I → Type 0) (failu
     → (e ≡ PartError.Device → r ≡ CopyError.InputFailed) → (r ≡ CopyError.InputFailed → e ≡ PartError.Device) → r ≢ CopyError.OutputFailed → r ≢ CopyError.FailedBefore
     → IsNamed r → UnlessDevice e (GrowsBy gives a b old new) → TakesAtMost gives a b (limit - length old) → length new ≤ max (length old) limit
     → (e ≡ PartError.Device → failures b ≢ failures a) → Refused gives failures limit a b old new r
-part_refused gives failures limit a b old new e r failed device no_output first named taken lost limited fails = record {
-  grown = unless_failed e r failed taken;
-  lost = lost;
-  limited = limited;
-  fails = λ is. fails (device is);
-  no_output = no_output;
-  first = first;
-  named = named;
-}
+part_refused gives failures limit a b old new e r failed device no_output first named taken lost limited fails = grind (arith, unless_failed)
 
 -- a greater limit
 pub takes_wider : {I : Type 0} (gives : I → List ℕ → I → Type 0) (failures : I → ℕ) (limit wider : ℕ) (a b : I) (old new : List ℕ) → limit ≤ wider
@@ -92,15 +76,7 @@ takes_wider gives failures limit wider a b old new more p = record { grown = p.g
 
 pub refused_wider : {I : Type 0} (gives : I → List ℕ → I → Type 0) (failures : I → ℕ) (limit wider : ℕ) (a b : I) (old new : List ℕ) (e : CopyError) → limit ≤ wider
     → Refused gives failures limit a b old new e → Refused gives failures wider a b old new e
-refused_wider gives failures limit wider a b old new e more p = record {
-  grown = p.grown;
-  lost = record { bytes = p.lost.bytes; taken = p.lost.taken; few = omega (arith, p.lost.few, more) };
-  limited = omega (arith, p.limited, more);
-  fails = p.fails;
-  no_output = p.no_output;
-  first = p.first;
-  named = p.named;
-}
+refused_wider gives failures limit wider a b old new e more p = grind arith
 
 -- ---- Parts that are stopped
 
@@ -213,16 +189,7 @@ negative_length limit at ended bytes v front rest f below starts is =
 
 pub content_starts : (at count len : ℕ) (bytes : List ℕ) → at + len + count ≤ length bytes
     → StartsWithLong (pos count) (drop at bytes) (take len (drop at bytes)) (drop (at + len) bytes) → ContentFrom at (at + len) (at + len + count) bytes
-content_starts at count len bytes inside starts =
-    let size : count ≡ at + len + count - (at + len) = omega arith in
-    let front : len ≡ at + len - at = omega arith in
-    record {
-      begins = omega arith;
-      ordered = omega arith;
-      inside = inside;
-      starts = subst (λ (k : ℕ). StartsWithLong (pos (at + len + count - (at + len))) (drop at bytes) (take k (drop at bytes)) (drop (at + len) bytes)) front
-          (subst (λ (n : ℕ). StartsWithLong (pos n) (drop at bytes) (take len (drop at bytes)) (drop (at + len) bytes)) size starts);
-    }
+content_starts at count len bytes inside starts = grind arith
 
 -- what reports a fault is not that the input failed
 pub reports_not_failed : (e : CopyError) (f : FileFault) → file_fault e ≡ Some f → e ≢ CopyError.InputFailed
@@ -230,8 +197,4 @@ reports_not_failed e f is q = none-some f (sym (ap file_fault q) ∙ is)
 
 pub takes_none : {I : Type 0} (gives : I → List ℕ → I → Type 0) (failures : I → ℕ) → ((s : I) → gives s [] s) → (limit : ℕ) (s : I) (bytes : List ℕ)
     → Takes gives failures limit s s bytes bytes
-takes_none gives failures none limit s bytes = record {
-  grown = record { bytes = []; taken = none s; grown = sym (append-nil bytes) };
-  limited = omega arith;
-  works = refl;
-}
+takes_none gives failures none limit s bytes = grind (arith, append-nil)

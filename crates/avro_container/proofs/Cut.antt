@@ -1,5 +1,5 @@
 -- Numbers that are cut, and what grows after what is held.
-use Rattle.std.proofs.Common.{◌≡◌, ℕ, ◌<◌, ◌≤◌, ℤ, List, ◌++◌, length, drop, sym, ap, ◌∙◌, refl, ◌⊎◌, inl, inr}
+use Rattle.std.proofs.Common.{arith, ◌≡◌, ℕ, ◌<◌, ◌≤◌, ℤ, List, ◌++◌, length, drop, sym, ap, ◌∙◌, refl, ◌⊎◌, inl, inr}
 use Rattle.std.proofs.lemmas.List.{drop-append-le}
 use Rattle.avro_zigzag.specs.Number.{SpellsLong}
 use Rattle.avro_zigzag.specs.NumberFault.{NumberFails, LongFails}
@@ -12,16 +12,11 @@ pub cut-short : (bytes : List ℕ) → LongFails bytes EndOfInput → length byt
 cut-short bytes (NumberFails.ends go short) = short
 
 pub long_fault : (bytes : List ℕ) (e : VarError) → LongFails bytes e → (e ≡ EndOfInput) ⊎ (e ≡ OutOfRange)
-long_fault bytes _ (NumberFails.ends go short) = inl refl
-long_fault bytes _ (NumberFails.too_large front rest b split go last above) = inr refl
+long_fault bytes e fails = grind arith
 
 -- a long spelling is no fault
 pub not_short : (bytes : List ℕ) (e : VarError) → e ≡ NotShortest → LongFails bytes e → ⊥
-not_short bytes e is fails = clash (long_fault bytes e fails)
-  where
-    clash : (e ≡ EndOfInput) ⊎ (e ≡ OutOfRange) → ⊥
-    clash (inl p) = cc
-    clash (inr p) = cc
+not_short bytes e is fails = grind (arith, long_fault)
 
 -- a number goes past bytes in which it is cut
 pub cut-longer : (v : ℤ) (bytes more number rest : List ℕ) → LongFails bytes EndOfInput → SpellsLong v number → bytes ++ more ≡ number ++ rest

@@ -18,14 +18,11 @@ framed f g h is = subst (λ (x : FileFault). is_of_frame x ≡ true) (same_Some 
 -- what stops the metadata
 pub part_framed : (limit at : ℕ) (ended : Type 0) (bytes : List ℕ) (breaks wants : List ℕ → ReadFault → Type 0) (f : FileFault)
     → PartStops limit at ended bytes breaks wants f → is_of_frame f ≡ true
-part_framed limit at ended bytes breaks wants f (PartStops.broken g b none is) = subst (λ (x : FileFault). is_of_frame x ≡ true) (sym is) refl
-part_framed limit at ended bytes breaks wants _ (PartStops.too_long there w over) = refl
-part_framed limit at ended bytes breaks wants _ (PartStops.is_cut there w near told) = refl
+part_framed limit at ended bytes breaks wants f stops = grind arith
 
 -- what stops the marker
 pub marker_framed : (limit at : ℕ) (ended : Type 0) (bytes : List ℕ) (f : FileFault) → MarkerStops limit at ended bytes f → is_of_frame f ≡ true
-marker_framed limit at ended bytes _ (MarkerStops.too_long short over) = refl
-marker_framed limit at ended bytes _ (MarkerStops.is_cut short near told) = refl
+marker_framed limit at ended bytes f stops = grind arith
 
 -- bytes that end where the marker does
 pub frame_alone : {I : Type 0} (gives : I → List ℕ → I → Type 0) (a b : I) (old new : List ℕ) (limit end : ℕ) (sync : List ℕ) (ps : List Property) → old ≡ []

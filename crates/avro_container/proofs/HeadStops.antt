@@ -56,11 +56,7 @@ least_stops limit at nodes ended bytes v front rest f least starts is =
 -- where a number ends
 pub starts_stretch : (at len : ℕ) (v : ℤ) (bytes : List ℕ) → at + len ≤ length bytes → StartsWithLong v (drop at bytes) (take len (drop at bytes)) (drop len (drop at bytes))
     → Stretch at (take len (drop at bytes)) (at + len) bytes
-starts_stretch at len v bytes inside s = record {
-  offset = let long = length-take-le len (drop at bytes) (omega (arith, length-drop at bytes, inside)) in omega (arith, long);
-  split = s.split ∙ ap (λ (r : List ℕ). take len (drop at bytes) ++ r) (drop-drop len at bytes);
-  inside = inside;
-}
+starts_stretch at len v bytes inside s = grind (arith, drop-drop, length-drop, length-take-le)
 
 -- a head without a size, or the end
 pub head_plain : (at len count : ℕ) (bytes : List ℕ) (h : PropertiesHead) → h.count ≡ count → h.start ≡ at + len → h.is_sized ≡ false → count < 2 ^ 63 → at + len ≤ length bytes

@@ -40,11 +40,7 @@ magic_long limit ended bytes f begins small is = (long_header, sym (same_Some _ 
 -- it still stands there
 pub begins_grown : {I : Type 0} (gives : I → List ℕ → I → Type 0) (s t : I) (old new : List ℕ) (limit : ℕ) → GrowsBy gives s t old new → length new ≤ max (length old) limit
     → BeginsHeader limit old → BeginsHeader limit new
-begins_grown gives s t old new limit p limited b =
-    let long : length new ≡ length old + length p.bytes = ap length p.grown ∙ length-append old p.bytes in
-    let there = b.there in
-    let fits = b.fits in
-    record { there = omega (arith, long, there); begins = ap (take 4) p.grown ∙ take-append-le 4 old p.bytes there ∙ b.begins; fits = omega (arith, limited, fits) }
+begins_grown gives s t old new limit p limited b = grind (arith, length-append, take-append-le)
 
 -- ---- The marker
 
@@ -57,10 +53,7 @@ metadata_grown gives s t old new end ps p m = record {
 }
 
 metadata_stands : (bytes : List ℕ) (end : ℕ) (ps : List Property) → take 4 bytes ≡ magic → (m : MetadataEnds end bytes ps) → MetadataStands ps bytes m.metadata (drop end bytes)
-metadata_stands bytes end ps begins m = record {
-  spelled = m.spelled;
-  split = sym (take-append-drop 4 bytes) ∙ ap (λ (front : List ℕ). front ++ drop 4 bytes) begins ∙ ap (λ (rest : List ℕ). magic ++ rest) m.stretch.split;
-}
+metadata_stands bytes end ps begins m = grind (arith, take-append-drop)
 
 pub marker_stops : (limit end : ℕ) (ended : Type 0) (bytes : List ℕ) (ps : List Property) (f : FileFault) → BeginsHeader limit bytes → MetadataEnds end bytes ps
     → MarkerStops limit end ended bytes f → IsHeaderFault limit ended bytes f
@@ -107,10 +100,7 @@ frame_stands limit end bytes sync ps b m inside is =
     }
 
 whole_within : (limit end : ℕ) (bytes sync : List ℕ) (ps : List Property) → FrameStands limit bytes ps sync end → IsWholeWithin limit ps bytes
-whole_within limit end bytes sync ps s =
-    let offset = s.offset in
-    let within = s.within in
-    record { metadata = s.metadata; sync = sync; rest = drop end bytes; stands = s.stands; marker = s.marker; within = omega (arith, offset, within) }
+whole_within limit end bytes sync ps s = grind arith
 
 -- the text is not a schema
 pub schema_stops : {T : Type 0} (r : Result T CopyError) (text : List ℕ) (ps : List Property) → property (codes "avro.schema") ps ≡ Some text

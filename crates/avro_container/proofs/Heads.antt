@@ -31,9 +31,7 @@ head_begins gives a b old new count size len more p inside s z = record {
 }
 
 pub grown-longer : {I : Type 0} (gives : I → List ℕ → I → Type 0) (a b : I) (old new : List ℕ) → GrowsBy gives a b old new → length old ≤ length new
-grown-longer gives a b old new p =
-    let long : length new ≡ length old + length p.bytes = ap length p.grown ∙ length-append old p.bytes in
-    omega (arith, long)
+grown-longer gives a b old new p = grind (arith, length-append)
 
 -- too many data, or too many bytes of them
 pub head_large : (limits : FileLimitValues) (sync : List ℕ) (number : ℕ) (ended : Type 0) (bytes : List ℕ) (f : FileFault) (count size : ℕ) (rest : List ℕ)

@@ -44,12 +44,10 @@ each-long (p ∷ ps) items s =
 -- the properties of a block are whole
 pub block_whole : (left : Left) (head : Head) (ps : List Property) (body : List ℕ) → PropertiesRun left ps body → length ps ≡ head_count head → head_count head ≤ left.nodes
     → EntriesAreWhole metadata_nodes entry_limits Node.bytes left (head_count head) body (left_after left ps)
-block_whole left head ps body run same few =
-    subst (λ (n : ℕ). EntriesAreWhole metadata_nodes entry_limits Node.bytes left n body (left_after left ps)) same (run_whole left ps body run (omega (arith, same, few)))
+block_whole left head ps body run same few = grind (arith, run_whole)
 
 pub head_few : (left : ℕ) (head : Head) → IsHead left head → head_count head ≤ left
-head_few left (counted count count_bytes) is = is.2
-head_few left (sized count size count_bytes size_bytes) is = is.2
+head_few left head is = grind arith
 
 -- what breaks after a block breaks it and what follows
 block_later : (item : Left → List ℕ → ReadFault → Type 0) (left : Left) (b : BlockRun left) (rest : List ℕ) (f : ReadFault)
@@ -59,34 +57,18 @@ block_later item left b rest f later =
     refl later refl
 
 left_twice : (ps qs : List Property) → left_after (metadata_left ps) qs ≡ metadata_left (ps ++ qs)
-left_twice ps qs = λ i. record { nodes = nodes i; keys = sym (names-append ps qs) i }
-  where
-    nodes : 2 ^ 64 - 1 - length ps - length qs ≡ 2 ^ 64 - 1 - length (ps ++ qs)
-    nodes = omega (arith, length-append ps qs)
+left_twice ps qs = grind (arith, length-append, names-append)
 
 -- ---- The metadata so far
 
 pub metadata_none : MetadataRun [] []
-metadata_none = record {
-  items = [];
-  each = refl;
-  distinct = refl;
-  few = omega arith;
-  ends = λ later bytes b. b;
-  breaks = λ rest f b. subst (λ (g : ReadFault). Blocks PropertyBreaks (all_left entry_limits) rest g) (behind-none f) b;
-  wants = λ rest f b. subst (λ (g : ReadFault). Blocks PropertyWants (all_left entry_limits) rest g) (behind-none f) b;
-}
+metadata_none = grind (arith, behind-none)
 
 module _ (item : Left → List ℕ → ReadFault → Type 0) (ps : List Property) (front : List ℕ) (b : BlockRun (metadata_left ps))
     (so_far : (rest : List ℕ) (f : ReadFault) → Blocks item (metadata_left ps) rest f → Blocks item (all_left entry_limits) (front ++ rest) (behind (length front) f)) where
   lift : (rest : List ℕ) (f : ReadFault) → Blocks item (metadata_left (ps ++ b.properties)) rest f
       → Blocks item (all_left entry_limits) ((front ++ (head_bytes b.head ++ b.body)) ++ rest) (behind (length (front ++ (head_bytes b.head ++ b.body))) f)
-  lift rest f later =
-      let part = head_bytes b.head ++ b.body in
-      let one = block_later item (metadata_left ps) b rest f (subst (λ (l : Left). Blocks item l rest f) (sym (left_twice ps b.properties)) later) in
-      subst (λ (g : ReadFault). Blocks item (all_left entry_limits) ((front ++ part) ++ rest) g) (sym (behind-append front part f))
-      (subst (λ (r : List ℕ). Blocks item (all_left entry_limits) r (behind (length front) (behind (length part) f))) (sym (append_assoc front part rest))
-      (so_far (part ++ rest) (behind (length part) f) one))
+  lift rest f later = grind (arith, append_assoc, behind-append, block_later, left_twice)
 
 pub metadata_push : (ps : List Property) (front : List ℕ) (run : MetadataRun ps front) (b : BlockRun (metadata_left ps)) → MetadataRun (ps ++ b.properties) (front ++ (head_bytes b.head ++ b.body))
 metadata_push ps front run b =

@@ -98,10 +98,7 @@ next_run_stops gives s t u old mid new limit at ended names ps h f first second 
     lifted : (item : Left → List ℕ → ReadFault → Type 0) (front bytes rest : List ℕ) (g : ReadFault)
         → ((r : List ℕ) (k : ReadFault) → Blocks item (metadata_left ps) r k → Blocks item (all_left entry_limits) (front ++ r) (behind (length front) k))
         → Blocks item (metadata_left ps) (bytes ++ rest) (behind (length bytes) g) → Blocks item (all_left entry_limits) ((front ++ bytes) ++ rest) (behind (length (front ++ bytes)) g)
-    lifted item front bytes rest g lift b =
-        subst (λ (k : ReadFault). Blocks item (all_left entry_limits) ((front ++ bytes) ++ rest) k) (sym (behind-append front bytes g))
-        (subst (λ (r : List ℕ). Blocks item (all_left entry_limits) r (behind (length front) (behind (length bytes) g))) (sym (append_assoc front bytes rest))
-        (lift (bytes ++ rest) (behind (length bytes) g) b))
+    lifted item front bytes rest g lift b = grind (arith, append_assoc, behind-append)
 
 -- one more block
 pub block_pushed : {I : Type 0} (gives : I → List ℕ → I → Type 0) (s t u : I) (old mid new : List ℕ) (at end : ℕ) (names then_names : BTreeSet (String Global)) (before after : List Property)
@@ -163,11 +160,7 @@ size_stops gives s t u old mid new limit at end ended names then_names before af
 -- many nodes are left, whatever fits the limit
 pub many_left : (limit at : ℕ) (bytes : List ℕ) (names : BTreeSet (String Global)) (ps : List Property) → MetadataSoFar at bytes names ps → length bytes ≤ limit → limit < 2 ^ 62
     → 2 ^ 63 ≤ (metadata_left ps).nodes
-many_left limit at bytes names ps m fits small =
-    let few = m.run.few in
-    let offset = m.stretch.offset in
-    let inside = m.stretch.inside in
-    omega (arith, few, offset, inside, fits, small)
+many_left limit at bytes names ps m fits small = grind arith
 
 -- a head has a byte at least
 pub head_further : (at : ℕ) (bytes : List ℕ) (h : PropertiesHead) → TakesHead at bytes h → (at < h.start) × (h.start ≤ length bytes)
@@ -187,23 +180,12 @@ head_further at bytes h (TakesHead.sized front size positive small is_sized stre
 -- few properties fit the limit
 pub few_so_far : (limit at : ℕ) (bytes : List ℕ) (names : BTreeSet (String Global)) (ps : List Property) → MetadataSoFar at bytes names ps → length bytes ≤ limit → limit < 2 ^ 62
     → length ps < 2 ^ 63
-few_so_far limit at bytes names ps m fits small =
-    let few = m.run.few in
-    let offset = m.stretch.offset in
-    let inside = m.stretch.inside in
-    omega (arith, few, offset, inside, fits, small)
+few_so_far limit at bytes names ps m fits small = grind arith
 
 pub head_small : (at : ℕ) (bytes : List ℕ) (h : PropertiesHead) → TakesHead at bytes h → h.count < 2 ^ 63
-head_small at bytes h (TakesHead.at_end front none stretch spelled) = omega (arith, none)
-head_small at bytes h (TakesHead.counted front positive small plain stretch spelled) = small
-head_small at bytes h (TakesHead.sized front size positive small is_sized stretch spelled sizes short offset) = small
+head_small at bytes h taken = grind arith
 
 -- nothing after the magic yet
 pub metadata_start : (bytes : List ℕ) (names : BTreeSet (String Global)) (ps : List Property) → 4 ≤ length bytes → ((word : List ℕ) → contains_text names word ≡ false) → ps ≡ []
     → MetadataSoFar 4 bytes names ps
-metadata_start bytes names ps inside none is = subst (λ (qs : List Property). MetadataSoFar 4 bytes names qs) (sym is) (record {
-  front = [];
-  run = metadata_none;
-  stretch = stretch_none 4 bytes inside;
-  named = none;
-})
+metadata_start bytes names ps inside none is = grind (arith, stretch_none)

@@ -16,32 +16,20 @@ first : (bytes : List ℕ) (f : ReadFault) → place_in f ≡ 0 → place_in f �
 first bytes f p = omega (arith, p)
 
 number_first : (e : VarError) → place_in (number_fault e) ≡ 0
-number_first EndOfInput = refl
-number_first NotShortest = refl
-number_first OutOfRange = refl
+number_first e = grind arith
 
 place-behind : (n m : ℕ) (f : ReadFault) → place_in f ≤ m → place_in (behind n f) ≤ n + m
-place-behind n m (end_of_input place) h = omega (arith, h)
-place-behind n m (invalid_number place) h = omega (arith, h)
-place-behind n m (invalid_boolean place) h = omega (arith, h)
-place-behind n m (invalid_text place) h = omega (arith, h)
-place-behind n m (unknown_index place) h = omega (arith, h)
-place-behind n m (invalid_length place) h = omega (arith, h)
-place-behind n m (wrong_block_size place) h = omega (arith, h)
-place-behind n m (duplicate_key place) h = omega (arith, h)
-place-behind n m limit_exceeded h = omega arith
+place-behind n m f h = grind arith
 
 front_inside : (front rest bytes : List ℕ) → bytes ≡ front ++ rest → length front ≤ length bytes
 front_inside front rest bytes e = omega (arith, ap length e, length-append front rest)
 
 behind_inside : (front rest bytes : List ℕ) (f g : ReadFault) → bytes ≡ front ++ rest → f ≡ behind (length front) g → place_in g ≤ length rest
     → place_in f ≤ length bytes
-behind_inside front rest bytes f g e moved h =
-    omega (arith, ap length e, length-append front rest, ap place_in moved, place-behind (length front) (length rest) g h)
+behind_inside front rest bytes f g e moved h = grind (arith, length-append, place-behind)
 
 after_inside : (breaks : List ℕ → ReadFault → Type 0) (front : List ℕ) → AreInside breaks → AreInside (BreaksAfter breaks front)
-after_inside breaks front inside bytes f b =
-    behind_inside front b.rest bytes f b.fault b.split b.moved (inside b.rest b.fault b.breaks)
+after_inside breaks front inside bytes f b = grind (arith, behind_inside)
 
 int_inside : AreInside IntBreaks
 int_inside bytes f b = first bytes f (ap place_in b.2 ∙ number_first b.0)
@@ -50,34 +38,22 @@ long_inside : AreInside LongBreaks
 long_inside bytes f b = first bytes f (ap place_in b.2 ∙ number_first b.0)
 
 boolean_inside : AreInside BooleanBreaks
-boolean_inside [] f b = first [] f (ap place_in b)
-boolean_inside (x ∷ rest) f b = first (x ∷ rest) f (ap place_in b.1)
+boolean_inside bytes f b = grind (arith, first)
 
 fixed_inside : (count blob : ℕ) → AreInside (FixedBreaks count blob)
-fixed_inside count blob bytes f (inl b) = first bytes f (ap place_in b.1)
-fixed_inside count blob bytes f (inr b) = first bytes f (ap place_in b.2)
+fixed_inside count blob bytes f b = grind (arith, first)
 
 content_inside : (is_content : List ℕ → Bool) (blob : ℕ) → AreInside (ContentBreaks is_content blob)
-content_inside is_content blob bytes f (ContentBreaks.length_breaks b) = long_inside bytes f b
-content_inside is_content blob bytes _ (ContentBreaks.negative n number rest s) = omega arith
-content_inside is_content blob bytes _ (ContentBreaks.too_long n number rest s over) = omega arith
-content_inside is_content blob bytes _ (ContentBreaks.cut n number rest s few short) = front_inside number rest bytes s.split
-content_inside is_content blob bytes _ (ContentBreaks.invalid n number rest s few there other) = front_inside number rest bytes s.split
+content_inside is_content blob bytes f b = grind (arith, front_inside, long_inside)
 
 index_inside : (choices : ℕ) → AreInside (IndexBreaks choices)
-index_inside choices bytes f (IndexBreaks.number_breaks b) = int_inside bytes f b
-index_inside choices bytes _ (IndexBreaks.unknown v number rest spelled in_range split other) = omega arith
+index_inside choices bytes f b = grind (arith, int_inside)
 
 key_inside : (keys : List (List ℕ)) (blob : ℕ) → AreInside (KeyBreaks keys blob)
-key_inside keys blob bytes f (KeyBreaks.string_breaks b) = content_inside _ blob bytes f b
-key_inside keys blob bytes _ (KeyBreaks.twice key front rest spelled text short split stands) = omega arith
+key_inside keys blob bytes f b = grind (arith, content_inside)
 
 head_inside : (nodes : ℕ) → AreInside (HeadBreaks nodes)
-head_inside nodes bytes f (HeadBreaks.count_fails b) = long_inside bytes f b
-head_inside nodes bytes _ (HeadBreaks.count_least number rest s) = omega arith
-head_inside nodes bytes _ (HeadBreaks.count_over v number rest s other over) = omega arith
-head_inside nodes bytes f (HeadBreaks.size_fails n number spelled small few b) = after_inside LongBreaks number long_inside bytes f b
-head_inside nodes bytes _ (HeadBreaks.size_negative n m number size behind_count rest spelled small few split s) = front_inside number behind_count bytes split
+head_inside nodes bytes f b = grind (arith, after_inside, front_inside, long_inside)
 
 blocks_inside : (are_whole : Left → ℕ → List ℕ → Left → Type 0) (item_breaks : Left → List ℕ → ReadFault → Type 0) → ((left : Left) → AreInside (item_breaks left))
     → (left : Left) → AreInside (BlocksBreak are_whole item_breaks left)

@@ -23,11 +23,7 @@ pub stretch_none : (at : ℕ) (bytes : List ℕ) → at ≤ length bytes → Str
 stretch_none at bytes inside = record { offset = omega arith; split = refl; inside = inside }
 
 pub stretch_join : (a b c : ℕ) (front back bytes : List ℕ) → Stretch a front b bytes → Stretch b back c bytes → Stretch a (front ++ back) c bytes
-stretch_join a b c front back bytes p q = record {
-  offset = omega (arith, p.offset, q.offset, length-append front back);
-  split = p.split ∙ ap (λ (r : List ℕ). front ++ r) q.split ∙ sym (append_assoc front back (drop c bytes));
-  inside = q.inside;
-}
+stretch_join a b c front back bytes p q = grind (arith, append_assoc, length-append)
 
 pub stretch_grown : {I : Type 0} (gives : I → List ℕ → I → Type 0) (s t : I) (old new : List ℕ) (a b : ℕ) (front : List ℕ) → GrowsBy gives s t old new
     → Stretch a front b old → Stretch a front b new

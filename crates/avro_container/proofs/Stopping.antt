@@ -23,8 +23,7 @@ count_stops number ended bytes PartError.Device f out over told cut is = absurd 
 count_stops number ended bytes PartError.OutOfMemory f out over told cut is = absurd (none-some f is)
 
 pub below_zero : (v : ℤ) → v <ℤ pos 0 → (n : ℕ) × (v ≡ negsuc n)
-below_zero (pos n) h = absurd (grind (arith, ints))
-below_zero (negsuc n) h = (n, refl)
+below_zero v h = grind (arith, ints)
 
 -- a number below 0 is not a count
 pub negative_stops : (number : ℕ) (ended : Type 0) (bytes : List ℕ) (v : ℤ) (front rest : List ℕ) (f : FileFault) → v <ℤ pos 0

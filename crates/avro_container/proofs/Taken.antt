@@ -45,15 +45,10 @@ content_stretch at start end bytes c =
 
 pub content_spelled : (at start end : ℕ) (bytes : List ℕ) → ContentFrom at start end bytes
     → SpellsBytes (take (end - start) (drop start bytes)) (take (start - at) (drop at bytes) ++ take (end - start) (drop start bytes))
-content_spelled at start end bytes c =
-    let content = take (end - start) (drop start bytes) in
-    let size : length content ≡ end - start = length-take-le (end - start) (drop start bytes) (omega (arith, length-drop start bytes, c.ordered, c.inside)) in
-    (take (start - at) (drop at bytes), subst (λ (n : ℕ). SpellsLong (pos n) (take (start - at) (drop at bytes))) (sym size) c.starts.spelled, refl)
+content_spelled at start end bytes c = grind (arith, length-drop, length-take-le)
 
 content_small : (at start end : ℕ) (bytes : List ℕ) → ContentFrom at start end bytes → length bytes < 2 ^ 62 → length (take (end - start) (drop start bytes)) < 2 ^ 63
-content_small at start end bytes c small =
-    let size : length (take (end - start) (drop start bytes)) ≡ end - start = length-take-le (end - start) (drop start bytes) (omega (arith, length-drop start bytes, c.ordered, c.inside)) in
-    omega (arith, size, c.inside, small)
+content_small at start end bytes c small = grind (arith, length-drop, length-take-le)
 
 -- ---- Names
 
@@ -64,14 +59,7 @@ names-added before after name added names are word =
     ∙ sym (list_any-append (bytes_eq word) names (name ∷ []))
   where
     by_cases : (here flipped old is : Bool) → flipped ≡ here → old ≡ is → cond here true old ≡ (is || (flipped || false))
-    by_cases true true old true e h = refl
-    by_cases true true old false e h = refl
-    by_cases false false true true e h = refl
-    by_cases false false false false e h = refl
-    by_cases true false old is e h = absurd cc
-    by_cases false true old is e h = absurd cc
-    by_cases false false true false e h = absurd cc
-    by_cases false false false true e h = absurd cc
+    by_cases here flipped old is e h = grind arith
 
 pub takes_name : (before after : BTreeSet (String Global)) (at start end : ℕ) (bytes name : List ℕ) → ContentFrom at start end bytes → length bytes < 2 ^ 62
     → name ≡ take (end - start) (drop start bytes) → is_utf8 name ≡ true → contains_text before name ≡ false
@@ -117,8 +105,7 @@ twice_stops limit at start end ended bytes content names keys f c small is valid
 
 node_breaks : (count : ℕ) (bytes : List ℕ) (f : ReadFault) → 0 < count → ContentBreaks (λ content. true) (2 ^ 63) bytes f
     → BreaksWithin metadata_nodes 1 count (2 ^ 63) Node.bytes bytes f
-node_breaks zero bytes f some b = absurd (omega (arith, some))
-node_breaks (suc count) bytes f some b = b
+node_breaks count bytes f some b = grind arith
 
 pub name_stops : (limit at : ℕ) (ended : Type 0) (bytes : List ℕ) (left : Left) (f : FileFault)
     → PartStops limit at ended bytes (KeyBreaks left.keys (2 ^ 63)) ContentWants f → PartStops limit at ended bytes (PropertyBreaks left) (PropertyWants left) f

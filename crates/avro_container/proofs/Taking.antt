@@ -7,11 +7,7 @@ use Rattle.avro_container.specs.Filled.{GrowsBy, TakesAtMost, UnlessDevice}
 pub GrowsBy-chain : {I : Type 0} (gives : I → List ℕ → I → Type 0)
     → ((s t u : I) (front back : List ℕ) → gives s front t → gives t back u → gives s (front ++ back) u)
     → (a b c : I) (old mid new : List ℕ) → GrowsBy gives a b old mid → GrowsBy gives b c mid new → GrowsBy gives a c old new
-GrowsBy-chain gives chain a b c old mid new p q = record {
-  bytes = p.bytes ++ q.bytes;
-  taken = chain a b c p.bytes q.bytes p.taken q.taken;
-  grown = q.grown ∙ ap (λ m. m ++ q.bytes) p.grown ∙ append_assoc old p.bytes q.bytes;
-}
+GrowsBy-chain gives chain a b c old mid new p q = grind (arith, append_assoc)
 
 -- a call after another
 pub TakesAtMost-behind : {I : Type 0} (gives : I → List ℕ → I → Type 0)
@@ -36,23 +32,13 @@ TakesAtMost-later gives chain a b c old mid limit p q fits =
 
 -- what is said of a call whose bytes are not lost
 pub UnlessDevice-then : {P Q : Type 0} (e : PartError) → UnlessDevice e P → (P → Q) → UnlessDevice e Q
-UnlessDevice-then PartError.OutOfRange p go = go p
-UnlessDevice-then PartError.Limit p go = go p
-UnlessDevice-then PartError.Ended p go = go p
-UnlessDevice-then PartError.Device p go = tt
-UnlessDevice-then PartError.OutOfMemory p go = go p
+UnlessDevice-then e p go = grind arith
 
 pub unless_failed : {P : Type 0} (e : PartError) (r : CopyError) → (e ≡ PartError.Device → r ≡ CopyError.InputFailed) → UnlessDevice e P
     → r ≢ CopyError.InputFailed → P
-unless_failed PartError.OutOfRange r same p other = p
-unless_failed PartError.Limit r same p other = p
-unless_failed PartError.Ended r same p other = p
-unless_failed PartError.Device r same p other = absurd (other (same refl))
-unless_failed PartError.OutOfMemory r same p other = p
+unless_failed e r same p other = grind arith
 
 -- what is held was taken
 pub TakesAtMost-from_grown : {I : Type 0} (gives : I → List ℕ → I → Type 0) (a b : I) (old new : List ℕ) (limit : ℕ) → GrowsBy gives a b old new
     → length new ≤ max (length old) limit → TakesAtMost gives a b (limit - length old)
-TakesAtMost-from_grown gives a b old new limit p fits =
-    let long : length new ≡ length old + length p.bytes = ap length p.grown ∙ length-append old p.bytes in
-    record { bytes = p.bytes; taken = p.taken; few = omega (arith, long, fits) }
+TakesAtMost-from_grown gives a b old new limit p fits = grind (arith, length-append)

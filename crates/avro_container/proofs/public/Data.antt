@@ -186,22 +186,11 @@ same_said P ns ms l k xs ys p q e h = subst (λ n. P n k ys) p (subst (λ a. P n
 -- the offset of its fault is among the data
 pub datum_place : {O : Type 0} (stands : O → Value → Type 0) (nodes : List Node) (limits : LimitValues) (resolve : Value → Resolved) (start : ℕ) (bytes : List ℕ) (e : ReadResolveError)
     → ReadsDatum stands nodes limits resolve bytes (Err e) → start + length bytes < 2 ^ 64 → PlaceFits start e
-datum_place stands nodes limits resolve start bytes (ReadResolveError.Read e) reads small = go (read_fault e) reads.refused
-  where
-    go : (told : Option ReadFault) → IfSome told (Breaks nodes limits (root_of nodes) bytes) → IfSome told (λ g. start + place_in g < 2 ^ 64)
-    go None breaks = tt
-    go (Some g) breaks =
-        let inside = breaks_inside nodes limits (root_of nodes) bytes g breaks in
-        omega (arith, inside, small)
-datum_place stands nodes limits resolve start bytes (ReadResolveError.Resolve e) reads small = tt
+datum_place stands nodes limits resolve start bytes e reads small = grind (arith, breaks_inside)
 
 -- no data are made of no bytes
 pub stand-none : {O : Type 0} (stands : O → Value → Type 0) (r : BlockReading) (outs : List O) → outs ≡ [] → StandForData stands r 0 [] outs
-stand-none stands r outs none = record {
-  values = [];
-  whole = whole-none r;
-  stand = subst (λ made. AllZip stands made []) (sym none) tt;
-}
+stand-none stands r outs none = grind (arith, whole-none)
 
 -- bytes after all data
 pub data_left : (r : BlockReading) (number count start : ℕ) (body : List ℕ) (us : Values) (f : FileFault) → DataAreWhole r count (take start body) us → start < length body

@@ -16,23 +16,11 @@ use Rattle.avro_container.proofs.public.Data.{add, data_left, not_copied, whole-
 -- no byte stands at the front of any bytes
 pub made_of_none : (nodes : List Node) (limits : LimitValues) (resolve : Value → Resolved) (bytes : List ℕ) (made : Resolved)
     → MakesOf nodes limits resolve bytes 0 made → MakesOf nodes limits resolve [] 0 made
-made_of_none nodes limits resolve bytes made m = record {
-  datum = m.datum;
-  in_bytes = omega arith;
-  encoded = m.encoded;
-  within = m.within;
-  resolves = m.resolves;
-}
+made_of_none nodes limits resolve bytes made m = grind arith
 
 pub made_at_front : (nodes : List Node) (limits : LimitValues) (resolve : Value → Resolved) (bytes : List ℕ) (made : Resolved)
     → MakesOf nodes limits resolve [] 0 made → MakesOf nodes limits resolve bytes 0 made
-made_at_front nodes limits resolve bytes made m = record {
-  datum = m.datum;
-  in_bytes = omega arith;
-  encoded = m.encoded;
-  within = m.within;
-  resolves = m.resolves;
-}
+made_at_front nodes limits resolve bytes made m = grind arith
 
 -- one datum without bytes more
 pub whole-same : (r : BlockReading) (done : ℕ) (front : List ℕ) (us : Values) (u : Value) → DataAreWhole r done front us → IsMadeOfNone r u

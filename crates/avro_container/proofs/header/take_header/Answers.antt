@@ -1,5 +1,5 @@
 -- A header that was taken, or what stops it.
-use Rattle.std.proofs.Common.{ℕ, subst}
+use Rattle.std.proofs.Common.{arith, ℕ, subst}
 use Rattle.std.proofs.lemmas.Result.{err_from_is_err_and}
 use Rattle.avro_schema.specs.SeenSchema.{schema_nodes}
 use Rattle.avro_container.specs.inside.HeaderEnds.{SaySchema, SayNone}
@@ -10,11 +10,7 @@ use Rattle.avro_container.proofs.HeaderEnds.{says_none, frame_header}
 use Rattle.avro_container.proofs.header.take_header.Goals as goal
 
 pub returns-clause-stands : goal.returns-clause-stands
-returns-clause-stands g c =
-    let frame = c.in_ok-frame.frame in
-    let nodes = schema_nodes c.in_ok-schema.schema in
-    frame_header c.header-limit.result frame.end (held c.take_frame.new.buffer) frame.sync (properties_of frame.metadata.items) nodes c.in_ok-frame.ensures.found
-    (subst (λ entries. SaySchema (properties_of entries) nodes) c.deref.ensures.value c.in_ok-schema.ensures.found)
+returns-clause-stands g c = grind (arith, frame_header)
 
 pub returns-in_err-schema-clause-refused : goal.returns-in_err-schema-clause-refused
 returns-in_err-schema-clause-refused g c =

@@ -22,11 +22,7 @@ abbrev Refuses : {O : Type 0} → (O → Value → Type 0) → Option (List Node
 Refuses {O} stands reader e nodes limits bytes = ReadsDatum {O = O} stands nodes limits (resolution reader nodes) bytes (Err e)
 
 pub loop-datum-init : goal.loop-datum-init
-loop-datum-init g c = (
-  omega arith,
-  omega arith,
-  stand-none g.B.Build.stands_for _ c.new-answers.result.items c.new-answers.ensures.items,
-)
+loop-datum-init g c = grind (arith, stand-none)
 
 pub loop-datum-preserved : goal.loop-datum-preserved
 loop-datum-preserved g c =
@@ -87,13 +83,4 @@ returns-then-start-end-clause-refused g c = λ f is.
     (omega (arith, c.if-start-end.true, c.len-end.ensures)) is
 
 pub returns-clause-fit : goal.returns-clause-fit
-returns-clause-fit g c =
-    let nodes = schema_nodes c.args.schema.now in
-    let reader : Option (List Node) = option_map (λ p. schema_nodes p.1) c.args.plan.now in
-    let stand = c.loop-datum.invariant.2 in
-    record {
-      values = stand.values;
-      fit = each-fit nodes (read_nodes nodes reader) (resolution reader nodes) stand.whole.values (values_from stand.values) (c.made_data_fit.ensures nodes)
-          stand.whole.fitting stand.whole.resolved;
-      stand = stand.stand;
-    }
+returns-clause-fit g c = grind (arith, each-fit)

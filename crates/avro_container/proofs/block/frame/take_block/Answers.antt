@@ -11,19 +11,13 @@ use Rattle.avro_container.proofs.Standing.{block_stands, too_many}
 use Rattle.avro_container.proofs.block.frame.take_block.Goals as goal
 
 pub returns-in_err-begins_block-clause-taken : goal.returns-in_err-begins_block-clause-taken
-returns-in_err-begins_block-clause-taken g c =
-    let p = err_from_is_err_and c.from_residual.result c.from_residual.ensures.1 in
-    rw (p.1, p.2) (λ other. c.in_err-begins_block.ensures.taken (λ q. other (ap Err (err_inj _ _ _ q))))
+returns-in_err-begins_block-clause-taken g c = grind (arith, err_from_is_err_and, err_inj)
 
 pub returns-in_err-begins_block-clause-refused : goal.returns-in_err-begins_block-clause-refused
-returns-in_err-begins_block-clause-refused g c =
-    let p = err_from_is_err_and c.from_residual.result c.from_residual.ensures.1 in
-    rw (p.1, p.2) (λ f is. absurd (none-some f (sym c.in_err-begins_block.ensures.refused ∙ is)))
+returns-in_err-begins_block-clause-refused g c = grind (arith, err_from_is_err_and, none-some)
 
 pub returns-in_err-begins_block-clause-fails : goal.returns-in_err-begins_block-clause-fails
-returns-in_err-begins_block-clause-fails g c =
-    let p = err_from_is_err_and c.from_residual.result c.from_residual.ensures.1 in
-    rw (p.1, p.2) (λ q. c.in_err-begins_block.ensures.fails (ap Err (err_inj _ _ _ q)))
+returns-in_err-begins_block-clause-fails g c = grind (arith, err_from_is_err_and, err_inj)
 
 pub returns-in_err-head-clause-taken : goal.returns-in_err-head-clause-taken
 returns-in_err-head-clause-taken g c =
@@ -52,10 +46,7 @@ returns-in_err-head-clause-refused g c =
     rw (p.1, p.2) (λ f is. c.in_err-head.ensures.refused f c.args.sync.now is)
 
 pub returns-in_err-head-clause-fails : goal.returns-in_err-head-clause-fails
-returns-in_err-head-clause-fails g c =
-    let p = err_from_is_err_and c.from_residual-in_err-head.result c.from_residual-in_err-head.ensures.1 in
-    rw (p.1, p.2) (λ q same.
-    c.in_err-head.ensures.fails (ap Err (err_inj _ _ _ q)) (same ∙ sym c.in_ok-begins_block.ensures.works))
+returns-in_err-head-clause-fails g c = grind (arith, err_from_is_err_and, err_inj)
 
 pub returns-then-number-ge-MAX_BLOCKS-clause-refused : goal.returns-then-number-ge-MAX_BLOCKS-clause-refused
 returns-then-number-ge-MAX_BLOCKS-clause-refused g c = λ f is.

@@ -9,8 +9,7 @@ use Rattle.avro_container.proofs.Bodies.{begins-grown, body_stops, marker_fails}
 use Rattle.avro_container.proofs.block.frame.take_body.Goals as goal
 
 pub returns-in-Err-clause-taken : goal.returns-in-Err-clause-taken
-returns-in-Err-clause-taken g c = λ other.
-    unless_failed c.in-Err.error c.block_error.result c.block_error.ensures.failed c.in-Err.ensures.taken (λ is. other (ap Err is))
+returns-in-Err-clause-taken g c = grind (arith, unless_failed)
 
 pub returns-in-Err-clause-lost : goal.returns-in-Err-clause-lost
 returns-in-Err-clause-lost g c = c.in-Err.ensures.lost

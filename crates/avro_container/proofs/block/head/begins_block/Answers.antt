@@ -1,12 +1,11 @@
 -- Why it is not known whether a block begins.
-use Rattle.std.proofs.Common.{Err, ap}
+use Rattle.std.proofs.Common.{arith, Err, ap}
 use Rattle.avro_container.proofs.Taking.{unless_failed}
 use Rattle.avro_container.proofs.public.Small.{err_inj}
 use Rattle.avro_container.proofs.block.head.begins_block.Goals as goal
 
 pub returns-in-Err-clause-taken : goal.returns-in-Err-clause-taken
-returns-in-Err-clause-taken g c = λ other.
-    unless_failed c.in-Err.error c.block_error.result c.block_error.ensures.failed c.in-Err.ensures.taken (λ is. other (ap Err is))
+returns-in-Err-clause-taken g c = grind (arith, unless_failed)
 
 pub returns-in-Err-clause-fails : goal.returns-in-Err-clause-fails
 returns-in-Err-clause-fails g c = λ q. c.in-Err.ensures.fails (ap Err (c.block_error.ensures.device (err_inj _ _ _ q)))

@@ -17,8 +17,7 @@ returns-then-value-lt0-clause-refused g c = λ f is.
     negative_stops c.args.number (g.I.Input.ended c.take_long.new.input) (drop c.args.at (held c.take_long.new.buffer)) c.in-Ok.value _ _ f below c.in-Ok.ensures.found is
 
 pub returns-in-Err-clause-taken : goal.returns-in-Err-clause-taken
-returns-in-Err-clause-taken g c = λ other.
-    unless_failed c.in-Err.error c.block_error.result c.block_error.ensures.failed c.in-Err.ensures.taken (λ is. other (ap Err is))
+returns-in-Err-clause-taken g c = grind (arith, unless_failed)
 
 pub returns-in-Err-clause-refused : goal.returns-in-Err-clause-refused
 returns-in-Err-clause-refused g c = λ f is.

@@ -10,14 +10,10 @@ use Rattle.avro_container.proofs.public.Small.{err_inj, ok_err, not_failed}
 use Rattle.avro_container.proofs.block.head.take_head.Goals as goal
 
 pub returns-in_err-count-clause-taken : goal.returns-in_err-count-clause-taken
-returns-in_err-count-clause-taken g c =
-    let p = err_from_is_err_and c.from_residual.result c.from_residual.ensures.1 in
-    rw (p.1, p.2) (λ other. c.in_err-count.ensures.taken (λ q. other (ap Err (err_inj _ _ _ q))))
+returns-in_err-count-clause-taken g c = grind (arith, err_from_is_err_and, err_inj)
 
 pub returns-in_err-count-clause-lost : goal.returns-in_err-count-clause-lost
-returns-in_err-count-clause-lost g c =
-    let p = err_from_is_err_and c.from_residual.result c.from_residual.ensures.1 in
-    rw p.1 (c.in_err-count.ensures.lost)
+returns-in_err-count-clause-lost g c = grind (arith, err_from_is_err_and)
 
 pub returns-in_err-count-clause-refused : goal.returns-in_err-count-clause-refused
 returns-in_err-count-clause-refused g c =
@@ -29,9 +25,7 @@ returns-in_err-count-clause-refused g c =
     (omega (arith, longer, c.requires.some)) (c.in_err-count.ensures.refused f is))
 
 pub returns-in_err-count-clause-fails : goal.returns-in_err-count-clause-fails
-returns-in_err-count-clause-fails g c =
-    let p = err_from_is_err_and c.from_residual.result c.from_residual.ensures.1 in
-    rw (p.1, p.2) (λ q. c.in_err-count.ensures.fails (ap Err (err_inj _ _ _ q)))
+returns-in_err-count-clause-fails g c = grind (arith, err_from_is_err_and, err_inj)
 
 pub returns-in_err-size-clause-taken : goal.returns-in_err-size-clause-taken
 returns-in_err-size-clause-taken g c =
@@ -67,10 +61,7 @@ returns-in_err-size-clause-refused g c =
     c.requires.few starts (c.in_err-size.ensures.refused f is))
 
 pub returns-in_err-size-clause-fails : goal.returns-in_err-size-clause-fails
-returns-in_err-size-clause-fails g c =
-    let p = err_from_is_err_and c.from_residual-in_err-size.result c.from_residual-in_err-size.ensures.1 in
-    rw (p.1, p.2) (λ q same.
-    c.in_err-size.ensures.fails (ap Err (err_inj _ _ _ q)) (same ∙ sym c.in_ok-count.ensures.works))
+returns-in_err-size-clause-fails g c = grind (arith, err_from_is_err_and, err_inj)
 
 pub returns-then-count-from-clause-taken : goal.returns-then-count-from-clause-taken
 returns-then-count-from-clause-taken g c = λ _.
@@ -139,13 +130,7 @@ returns-then-size-from-clause-refused g c = λ f sync is.
     (drop (c.in_ok-count.len + c.in_ok-size.more) new) c.requires.few begins (inr (search rules)) is
 
 pub returns-clause-found : goal.returns-clause-found
-returns-clause-found g c =
-    let mid = held c.take_count.new.buffer in
-    let new = held c.take_count-2.new.buffer in
-    let second : GrowsBy g.I.Input.gives _ _ mid new = c.in_ok-size.ensures.taken (ok_err _ _ _) in
-    let begins = head_begins g.I.Input.gives _ _ mid new c.in_ok-count.count c.in_ok-size.size c.in_ok-count.len c.in_ok-size.more second
-    (omega (arith, c.in_ok-count.ensures.inside)) c.in_ok-count.ensures.found c.in_ok-size.ensures.found in
-    begins
+returns-clause-found g c = grind (arith, head_begins, ok_err)
 
 pub returns-clause-taken : goal.returns-clause-taken
 returns-clause-taken g c = λ _.

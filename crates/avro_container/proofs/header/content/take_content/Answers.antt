@@ -9,10 +9,7 @@ use Rattle.avro_container.proofs.Heads.{grown-longer}
 use Rattle.avro_container.proofs.header.content.take_content.Goals as goal
 
 pub returns-in_err-count-clause-refused : goal.returns-in_err-count-clause-refused
-returns-in_err-count-clause-refused g c =
-    let p = err_from_is_err_and c.from_residual.result c.from_residual.ensures.1 in
-    rw (p.1, p.2) (λ f is_content is.
-    length_first c.args.reach.limit c.args.at (g.I.Input.ended c.take_length.new.input) (held c.take_length.new.buffer) is_content f (c.in_err-count.ensures.refused f is))
+returns-in_err-count-clause-refused g c = grind (arith, err_from_is_err_and, length_first)
 
 pub returns-in-Ok-clause-found : goal.returns-in-Ok-clause-found
 returns-in-Ok-clause-found g c =

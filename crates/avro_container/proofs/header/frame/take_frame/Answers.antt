@@ -59,24 +59,7 @@ returns-clause-took g c =
     first (takes_wider g.I.Input.gives g.I.Input.failures c.args.reach.limit most _ _ _ _ (omega arith) c.in_ok-sync.ensures.took)
 
 pub returns-clause-found : goal.returns-clause-found
-returns-clause-found g c =
-    let mid = held c.take_metadata.new.buffer in
-    let new = held c.take_marker.new.buffer in
-    let first = c.in_ok-metadata.ensures.took in
-    let took = c.in_ok-sync.ensures.took in
-    let begins = begins_grown g.I.Input.gives _ _ (held c.take_magic.new.buffer) mid c.args.reach.limit first.grown first.limited c.in_ok-take_magic.ensures.begins in
-    frame_stands c.args.reach.limit c.in_ok-metadata.at new c.in_ok-sync.sync (properties_of c.in_ok-metadata.metadata.items)
-    (begins_grown g.I.Input.gives _ _ mid new c.args.reach.limit took.grown took.limited begins)
-    (metadata_grown g.I.Input.gives _ _ mid new c.in_ok-metadata.at _ took.grown c.in_ok-metadata.ensures.found)
-    c.in_ok-sync.ensures.inside c.in_ok-sync.ensures.marker
-
-pub returns-clause-within : goal.returns-clause-within
-returns-clause-within g c =
-    let first = c.in_ok-take_magic.ensures.within in
-    let second = c.in_ok-metadata.ensures.within in
-    let third = c.in_ok-sync.ensures.within in
-    let offset = c.in_ok-metadata.ensures.found.stretch.offset in
-    omega (arith, first, second, third, offset)
+returns-clause-found g c = grind (arith, begins_grown, frame_stands, metadata_grown)
 
 pub returns-in_err-metadata-clause-framed : goal.returns-in_err-metadata-clause-framed
 returns-in_err-metadata-clause-framed g c =

@@ -18,27 +18,10 @@ returns-in-Err-clause-refused g c = λ f is.
     is
 
 pub returns-then-not-is_magic-clause-refused : goal.returns-then-not-is_magic-clause-refused
-returns-then-not-is_magic-clause-refused g c = λ f is.
-    let new = held c.fill.new.buffer in
-    let front : c.split_at.result.0.now ≡ take 4 new = c.split_at.ensures.front ∙ ap (take 4) c.bytes.ensures in
-    magic_differs c.args.reach.limit (g.I.Input.ended c.fill.new.input) new f c.in-Ok.ensures.there
-    (λ p. false≢true (sym c.if-not-is_magic.true ∙ c.is_magic.ensures.1 (front ∙ p))) is
+returns-then-not-is_magic-clause-refused g c = grind (arith, magic_differs)
 
 pub returns-then-reach-lt4-clause-refused : goal.returns-then-reach-lt4-clause-refused
-returns-then-reach-lt4-clause-refused g c = λ f is.
-    let new = held c.fill.new.buffer in
-    let front : c.split_at.result.0.now ≡ take 4 new = c.split_at.ensures.front ∙ ap (take 4) c.bytes.ensures in
-    magic_long c.args.reach.limit (g.I.Input.ended c.fill.new.input) new f (sym front ∙ c.is_magic.ensures.0 c.if-not-is_magic.false) (omega (arith, c.if-reach-lt4.true)) is
-
-pub returns-clause-begins : goal.returns-clause-begins
-returns-clause-begins g c =
-    let new = held c.fill.new.buffer in
-    let front : c.split_at.result.0.now ≡ take 4 new = c.split_at.ensures.front ∙ ap (take 4) c.bytes.ensures in
-    let room : 4 ≤ c.args.reach.limit = omega (arith, c.if-reach-lt4.false) in
-    let none : length (held c.args.buffer.now) ≡ 0 = ap length c.requires.none in
-    let limited = c.in-Ok.ensures.limited in
-    let most = c.max.ensures in
-    record { there = c.in-Ok.ensures.there; begins = sym front ∙ c.is_magic.ensures.0 c.if-not-is_magic.false; fits = omega (arith, limited, none, room, most) }
+returns-then-reach-lt4-clause-refused g c = grind (arith, magic_long)
 
 pub returns-then-not-is_magic-clause-framed : goal.returns-then-not-is_magic-clause-framed
 returns-then-not-is_magic-clause-framed g c = λ f is. framed f (in_header no_magic) refl is

@@ -74,11 +74,7 @@ returns-then-is_other_size-clause-refused g c = λ f is m.
     (c.in_ok-end.ensures.found (metadata_left before) (omega (arith, few, many)) m.named m.run.distinct) other.1 (sym (same_Some _ _ is))
 
 pub returns-clause-further : goal.returns-clause-further
-returns-clause-further g c =
-    let head = head_further c.args.at (held c.take_properties_head.new.buffer) c.in_ok-head.head c.in_ok-head.ensures.found in
-    let past = head.0 in
-    let further = c.in_ok-end.ensures.further.0 in
-    (omega (arith, past, further), c.in_ok-end.ensures.further.1)
+returns-clause-further g c = grind (arith, head_further)
 
 pub returns-clause-more : goal.returns-clause-more
 returns-clause-more g c = λ _ m.
@@ -93,13 +89,6 @@ returns-clause-more g c = λ _ m.
     block_pushed g.I.Input.gives _ _ _ old mid new c.args.at c.in_ok-end.end _ _ before after head
     c.in_ok-head.ensures.took.grown c.in_ok-end.ensures.took.grown m c.in_ok-head.ensures.found (omega (arith, c.if-head-eq0.false)) many
     (c.in_ok-end.ensures.found (metadata_left before) (omega (arith, few, many)) m.named m.run.distinct) (c.is_other_size.ensures.same c.if-is_other_size.false)
-
-pub returns-clause-within : goal.returns-clause-within
-returns-clause-within g c =
-    let first = c.in_ok-head.ensures.within in
-    let second = c.in_ok-end.ensures.within in
-    let further = c.in_ok-end.ensures.further.0 in
-    omega (arith, first, second, further)
 
 pub returns-clause-took : goal.returns-clause-took
 returns-clause-took g c =

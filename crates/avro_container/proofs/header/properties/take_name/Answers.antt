@@ -11,10 +11,7 @@ use Rattle.avro_container.proofs.Taken.{takes_name, no_text_stops, twice_stops, 
 use Rattle.avro_container.proofs.header.properties.take_name.Goals as goal
 
 pub returns-in_err-start-clause-refused : goal.returns-in_err-start-clause-refused
-returns-in_err-start-clause-refused g c =
-    let p = err_from_is_err_and c.from_residual.result c.from_residual.ensures.1 in
-    rw (p.1, p.2) (λ f keys is are.
-    content_key_stops c.args.reach.limit c.args.at (g.I.Input.ended c.take_content.new.input) (held c.take_content.new.buffer) keys f (c.in_err-start.ensures.refused f is_utf8 is))
+returns-in_err-start-clause-refused g c = grind (arith, content_key_stops, err_from_is_err_and)
 
 pub returns-in-Ok-clause-found : goal.returns-in-Ok-clause-found
 returns-in-Ok-clause-found g c =
@@ -35,28 +32,14 @@ returns-in-Err-NoText-clause-lost g c =
     own_refused g.I.Input.gives g.I.Input.failures g.met.I.Input.chain c.args.reach.limit _ _ _ _ _ (λ q. cc) (λ q. cc) (λ q. cc) tt c.in_ok-start.ensures.took
 
 pub returns-in-Err-NoText-clause-refused : goal.returns-in-Err-NoText-clause-refused
-returns-in-Err-NoText-clause-refused g c = λ f keys is are.
-    let new = held c.take_content.new.buffer in
-    let start = c.in_ok-start.start in
-    let end = c.in_ok-start.end in
-    let behind : c.split_at.result.1.now ≡ drop start new = c.split_at.ensures.back ∙ ap (drop start) c.bytes.ensures in
-    let content : c.split_at-2.result.0.now ≡ take (end - start) (drop start new) = c.split_at-2.ensures.front ∙ ap (take (end - start)) behind in
-    no_text_stops c.args.reach.limit c.args.at start end (g.I.Input.ended c.take_content.new.input) new c.split_at-2.result.0.now keys f c.in_ok-start.ensures.found
-    (omega (arith, c.in_ok-start.ensures.took.limited, c.requires.fits, c.requires.small)) content (c.in-Err-NoText.ensures.no_text (ap Err c.in-Err-NoText.field-0-is)) (sym (same_Some _ _ is))
+returns-in-Err-NoText-clause-refused g c = grind (arith, no_text_stops, same_Some)
 
 pub returns-in-Err-Twice-clause-lost : goal.returns-in-Err-Twice-clause-lost
 returns-in-Err-Twice-clause-lost g c =
     own_refused g.I.Input.gives g.I.Input.failures g.met.I.Input.chain c.args.reach.limit _ _ _ _ _ (λ q. cc) (λ q. cc) (λ q. cc) tt c.in_ok-start.ensures.took
 
 pub returns-in-Err-Twice-clause-refused : goal.returns-in-Err-Twice-clause-refused
-returns-in-Err-Twice-clause-refused g c = λ f keys is are.
-    let new = held c.take_content.new.buffer in
-    let start = c.in_ok-start.start in
-    let end = c.in_ok-start.end in
-    let behind : c.split_at.result.1.now ≡ drop start new = c.split_at.ensures.back ∙ ap (drop start) c.bytes.ensures in
-    let content : c.split_at-2.result.0.now ≡ take (end - start) (drop start new) = c.split_at-2.ensures.front ∙ ap (take (end - start)) behind in
-    twice_stops c.args.reach.limit c.args.at start end (g.I.Input.ended c.take_content.new.input) new c.split_at-2.result.0.now c.args.names.now keys f c.in_ok-start.ensures.found
-    (omega (arith, c.in_ok-start.ensures.took.limited, c.requires.fits, c.requires.small)) content (c.in-Err-Twice.ensures.text (ap Err c.in-Err-Twice.field-0-is)) (c.in-Err-Twice.ensures.twice (ap Err c.in-Err-Twice.field-0-is)) are (sym (same_Some _ _ is))
+returns-in-Err-Twice-clause-refused g c = grind (arith, same_Some, twice_stops)
 
 pub returns-in-Err-OutOfMemory-clause-lost : goal.returns-in-Err-OutOfMemory-clause-lost
 returns-in-Err-OutOfMemory-clause-lost g c =

@@ -11,10 +11,7 @@ use Rattle.avro_container.proofs.Taken.{name_stops, value_stops, takes_property}
 use Rattle.avro_container.proofs.header.properties.take_property.Goals as goal
 
 pub returns-in_err-name-clause-refused : goal.returns-in_err-name-clause-refused
-returns-in_err-name-clause-refused g c =
-    let p = err_from_is_err_and c.from_residual.result c.from_residual.ensures.1 in
-    rw (p.1, p.2) (λ f left is some are.
-    name_stops c.args.reach.limit c.args.at (g.I.Input.ended c.take_name.new.input) (held c.take_name.new.buffer) left f (c.in_err-name.ensures.refused f left.keys is are))
+returns-in_err-name-clause-refused g c = grind (arith, err_from_is_err_and, name_stops)
 
 pub returns-in_err-start-clause-lost : goal.returns-in_err-start-clause-lost
 returns-in_err-start-clause-lost g c =
@@ -35,16 +32,7 @@ returns-in_err-start-clause-refused g c =
     (c.in_err-start.ensures.refused f (λ content. true) is))
 
 pub returns-clause-found : goal.returns-clause-found
-returns-clause-found g c =
-    let mid = held c.take_name.new.buffer in
-    let new = held c.take_content.new.buffer in
-    let start = c.in_ok-start.start in
-    let end = c.in_ok-start.end in
-    let took = c.in_ok-start.ensures.took in
-    let behind : c.split_at.result.1.now ≡ drop start new = c.split_at.ensures.back ∙ ap (drop start) c.bytes.ensures in
-    let content : c.split_at-2.result.0.now ≡ take (end - start) (drop start new) = c.split_at-2.ensures.front ∙ ap (take (end - start)) behind in
-    takes_property g.I.Input.gives _ _ mid new _ _ c.args.at c.in_ok-name.middle start end (string_bytes c.in_ok-name.name) c.split_at-2.result.0.now _ _ took.grown c.in_ok-name.ensures.found
-    c.in_ok-start.ensures.found (omega (arith, took.limited, c.in_ok-name.ensures.took.limited, c.requires.fits, c.requires.small)) content c.keep_none.ensures c.in_ok-add_property.ensures
+returns-clause-found g c = grind (arith, takes_property)
 
 pub returns-clause-took : goal.returns-clause-took
 returns-clause-took g c =
@@ -59,6 +47,4 @@ returns-in_err-add_property-clause-lost g c =
     c.in_ok-name.ensures.took c.in_ok-start.ensures.took))
 
 pub returns-in_err-add_property-clause-refused : goal.returns-in_err-add_property-clause-refused
-returns-in_err-add_property-clause-refused g c =
-    let p = err_from_is_err_and c.from_residual-in_err-add_property.result c.from_residual-in_err-add_property.ensures.1 in
-    rw (p.1, p.2) (λ f left is some are. absurd (none-some f is))
+returns-in_err-add_property-clause-refused g c = grind (arith, err_from_is_err_and, none-some)

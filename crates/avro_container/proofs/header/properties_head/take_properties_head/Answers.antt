@@ -1,5 +1,5 @@
 -- A head, with its size if there is one.
-use Rattle.std.proofs.Common.{◌≡◌, ◌+◌, Bool, pos, true, false, take, drop, refl, subst, rules}
+use Rattle.std.proofs.Common.{arith, ◌≡◌, ◌+◌, Bool, pos, true, false, take, drop, refl, subst, rules}
 use Rattle.std.specs.Prelude.{neg_ℤ}
 use Rattle.std.proofs.lemmas.Result.{err_from_is_err_and}
 use Rattle.avro_cursor.specs.BlockHeads.{signed_count}
@@ -12,9 +12,7 @@ use Rattle.avro_container.proofs.HeadStops.{head_plain, head_sized, size_stops, 
 use Rattle.avro_container.proofs.header.properties_head.take_properties_head.Goals as goal
 
 pub returns-in_err-is_sized-clause-refused : goal.returns-in_err-is_sized-clause-refused
-returns-in_err-is_sized-clause-refused g c =
-    let p = err_from_is_err_and c.from_residual.result c.from_residual.ensures.1 in
-    rw (p.1, p.2) (λ f nodes is many. c.in_err-is_sized.ensures.refused f nodes is)
+returns-in_err-is_sized-clause-refused g c = grind (arith, err_from_is_err_and)
 
 pub returns-clause-took : goal.returns-clause-took
 returns-clause-took g c =
@@ -28,21 +26,10 @@ returns-in_err-size-clause-lost g c =
     c.in_err-size.field-0.0 c.in_ok-is_sized.ensures.took c.in_err-size.ensures.lost)
 
 pub returns-then-not-is_sized-clause-found : goal.returns-then-not-is_sized-clause-found
-returns-then-not-is_sized-clause-found g c =
-    let new = held c.take_properties_count.new.buffer in
-    let plain : c.in_ok-is_sized.is_sized ≡ false = search rules in
-    head_plain c.args.at c.in_ok-is_sized.len c.in_ok-is_sized.count new _ refl refl plain c.in_ok-is_sized.ensures.small c.in_ok-is_sized.ensures.inside
-    (subst (λ (b : Bool). StartsWithLong (signed_count b c.in_ok-is_sized.count) (drop c.args.at new) (take c.in_ok-is_sized.len (drop c.args.at new)) (drop c.in_ok-is_sized.len (drop c.args.at new))) plain c.in_ok-is_sized.ensures.stands)
+returns-then-not-is_sized-clause-found g c = grind (arith, head_plain)
 
 pub returns-clause-found : goal.returns-clause-found
-returns-clause-found g c =
-    let mid = held c.take_properties_count.new.buffer in
-    let new = held c.take_length.new.buffer in
-    let is_sized : c.in_ok-is_sized.is_sized ≡ true = search rules in
-    head_sized g.I.Input.gives _ _ mid new c.args.at c.in_ok-is_sized.len c.in_ok-size.more c.in_ok-is_sized.count c.in_ok-size.size _ c.in_ok-size.ensures.took.grown
-    refl refl is_sized refl refl (c.in_ok-is_sized.ensures.some is_sized) c.in_ok-is_sized.ensures.small c.in_ok-size.ensures.counted c.in_ok-is_sized.ensures.inside
-    (subst (λ (b : Bool). StartsWithLong (signed_count b c.in_ok-is_sized.count) (drop c.args.at mid) (take c.in_ok-is_sized.len (drop c.args.at mid)) (drop c.in_ok-is_sized.len (drop c.args.at mid))) is_sized c.in_ok-is_sized.ensures.stands)
-    c.in_ok-size.ensures.inside c.in_ok-size.ensures.found
+returns-clause-found g c = grind (arith, head_sized)
 
 pub returns-in_err-size-clause-refused : goal.returns-in_err-size-clause-refused
 returns-in_err-size-clause-refused g c =

@@ -5,6 +5,4 @@ use Rattle.avro_container.proofs.Rooms.{passed}
 use Rattle.avro_container.proofs.input.buffer.Buffer.pass.Goals as goal
 
 pub returns : goal.returns
-returns c =
-    let b = c.args.self.now in
-    passed b.room.items b.start b.end c.args.count (omega (arith, length-take {A = ℕ}, length-drop {A = ℕ}))
+returns c = grind (arith, length-drop, length-take, passed)
