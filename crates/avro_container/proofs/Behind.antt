@@ -4,7 +4,7 @@ use Rattle.std.proofs.lemmas.List.{drop-drop, length-drop, take-append-le}
 use Rattle.std.proofs.lemmas.Option.{same_Some, none-some}
 use Rattle.avro_zigzag.specs.NumberFault.{LongFails}
 use Rattle.avro_zigzag.specs.declared.VarError.TheVariants.{EndOfInput, OutOfRange}
-use Rattle.avro_cursor.specs.Fault.{ReadFault, end_of_input, invalid_number, invalid_boolean, invalid_text, unknown_index, invalid_length, wrong_block_size, duplicate_key, limit_exceeded, behind}
+use Rattle.avro_cursor.specs.Fault.{ReadFault, end_of_input, invalid_number, invalid_length, behind}
 use Rattle.avro_cursor.specs.Breaks.{LongBreaks, StartsWithLong, ContentBreaks}
 use Rattle.avro_cursor.proofs.public.Behind.{behind-add}
 use Rattle.avro_container.specs.declared.input.PartError.{PartError}

@@ -1,5 +1,5 @@
 -- Numbers that are cut, and what grows after what is held.
-use Rattle.std.proofs.Common.{arith, ◌≡◌, ℕ, ◌<◌, ◌≤◌, ℤ, List, ◌++◌, length, drop, sym, ap, ◌∙◌, refl, ◌⊎◌, inl, inr}
+use Rattle.std.proofs.Common.{arith, ◌≡◌, ℕ, ◌<◌, ◌≤◌, ℤ, List, ◌++◌, length, drop, sym, ap, ◌∙◌, ◌⊎◌}
 use Rattle.std.proofs.lemmas.List.{drop-append-le}
 use Rattle.avro_zigzag.specs.Number.{SpellsLong}
 use Rattle.avro_zigzag.specs.NumberFault.{NumberFails, LongFails}

@@ -1,5 +1,5 @@
 -- Faults of the magic, the metadata and the marker, and what is left of bytes that are these alone.
-use Rattle.std.proofs.Common.{◌≡◌, ℕ, ◌≤◌, List, [], ◌++◌, length, Some, true, refl, sym, subst, ◌∙◌, arith, append-nil}
+use Rattle.std.proofs.Common.{◌≡◌, ℕ, ◌≤◌, List, [], ◌++◌, length, Some, true, subst, ◌∙◌, arith, append-nil}
 use Rattle.std.proofs.lemmas.List.{at_drop_all}
 use Rattle.std.proofs.lemmas.Option.{same_Some}
 use Rattle.avro_cursor.specs.Fault.{ReadFault}

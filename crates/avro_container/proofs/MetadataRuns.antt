@@ -1,5 +1,5 @@
 -- The blocks of a header's metadata, one after another.
-use Rattle.std.proofs.Common.{◌≡◌, ℕ, ◌+◌, ◌-◌, ◌^◌, ◌<◌, ◌≤◌, pos, true, false, ◌&&◌, List, [], ◌∷◌, ◌++◌, length, refl, sym, ap, subst, ◌∙◌, arith, append_assoc, append-nil, length-append, bytes_eq}
+use Rattle.std.proofs.Common.{◌≡◌, ℕ, ◌+◌, ◌^◌, ◌<◌, ◌≤◌, pos, true, false, ◌&&◌, List, [], ◌∷◌, ◌++◌, length, refl, sym, ap, subst, ◌∙◌, arith, append_assoc, append-nil, length-append, bytes_eq}
 use Rattle.std.specs.List.{concat, list_all}
 use Rattle.std.proofs.lemmas.Bool.{and_from}
 use Rattle.avro_zigzag.specs.Number.{SpellsLong, AreGroups}
@@ -10,7 +10,7 @@ use Rattle.avro_schema.specs.Distinct.{are_distinct}
 use Rattle.avro_cursor.specs.Blocks.{IsInBlocks, no_more}
 use Rattle.avro_cursor.specs.Encoding.{Encodes}
 use Rattle.avro_cursor.specs.Fault.{ReadFault, behind}
-use Rattle.avro_cursor.specs.Breaks.{Left, all_left, Head, counted, sized, head_count, head_bytes, IsHead, HasSize, BlocksBreak, EntriesAreWhole}
+use Rattle.avro_cursor.specs.Breaks.{Left, all_left, Head, head_count, head_bytes, IsHead, HasSize, BlocksBreak, EntriesAreWhole}
 use Rattle.avro_cursor.proofs.public.Behind.{behind-append, behind-none}
 use Rattle.avro_binary.proofs.public.Blocks.{block_first}
 use Rattle.avro_cursor.proofs.public.Ranges.{is_count-from_below}

@@ -15,7 +15,7 @@ use Rattle.avro_container.specs.inside.MetadataParts.{Blocks, BlockRun, Metadata
 use Rattle.avro_container.specs.declared.header.properties_head.PropertiesHead.{PropertiesHead}
 use Rattle.avro_container.proofs.Behind.{stops-whole}
 use Rattle.avro_container.proofs.PropertyRuns.{stretch_none, stretch_join, stretch_grown, names-append, run_whole}
-use Rattle.avro_container.proofs.MetadataRuns.{metadata_none, metadata_push, metadata_whole, block_whole, head_few, groups-some}
+use Rattle.avro_container.proofs.MetadataRuns.{metadata_push, metadata_whole, block_whole, head_few, groups-some}
 
 -- the head that was taken, as a head of avro_binary
 record HeadAs (left at : ℕ) (bytes : List ℕ) (h : PropertiesHead) : Type 0 where

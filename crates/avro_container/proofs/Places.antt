@@ -1,10 +1,9 @@
 -- The offset of a fault is among the bytes that have it.
-use Rattle.std.proofs.Common.{◌≡◌, ◌⊎◌, inl, inr, ℕ, zero, suc, ◌+◌, ◌≤◌, List, [], ◌∷◌, ◌++◌, Bool, length, ap, ◌∙◌, refl, arith, length-append}
+use Rattle.std.proofs.Common.{◌≡◌, ◌⊎◌, inl, inr, ℕ, zero, suc, ◌+◌, ◌≤◌, List, ◌++◌, Bool, length, ap, ◌∙◌, arith, length-append}
 use Rattle.avro_zigzag.specs.declared.VarError.{VarError}
-use Rattle.avro_zigzag.specs.declared.VarError.TheVariants.{EndOfInput, NotShortest, OutOfRange}
 use Rattle.avro_schema.specs.Node.{Node, node_at}
 use Rattle.avro_schema.specs.Fits.{LimitValues}
-use Rattle.avro_cursor.specs.Fault.{ReadFault, end_of_input, invalid_number, invalid_boolean, invalid_text, unknown_index, invalid_length, wrong_block_size, duplicate_key, limit_exceeded, behind}
+use Rattle.avro_cursor.specs.Fault.{ReadFault, behind}
 use Rattle.avro_cursor.specs.Breaks.{number_fault, IntBreaks, LongBreaks, BooleanBreaks, FixedBreaks, ContentBreaks, IndexBreaks, KeyBreaks, EntryBreaks, HeadBreaks, BlocksBreak, BreaksAfter, BranchBreaks, ChildBreaks, Left, head_bytes, NodeBreaks, BreaksWithin, Breaks, ItemsAreWhole, EntriesAreWhole, all_left}
 use Rattle.avro_container.specs.DatumRead.{place_in}
 

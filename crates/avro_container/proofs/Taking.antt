@@ -1,5 +1,5 @@
 -- Takes go together, after what is held.
-use Rattle.std.proofs.Common.{◌≡◌, ◌≢◌, refl, ℕ, ◌+◌, ◌-◌, ◌≤◌, max, List, ◌++◌, length, ap, ◌∙◌, arith, append_assoc, length-append}
+use Rattle.std.proofs.Common.{◌≡◌, ◌≢◌, ℕ, ◌+◌, ◌-◌, ◌≤◌, max, List, ◌++◌, length, ap, ◌∙◌, arith, append_assoc, length-append}
 use Rattle.avro_container.specs.declared.error.CopyError.{CopyError}
 use Rattle.avro_container.specs.declared.input.PartError.{PartError}
 use Rattle.avro_container.specs.Filled.{GrowsBy, TakesAtMost, UnlessDevice}

@@ -1,7 +1,7 @@
 -- The data of a block, one by one.
 use Rattle.std.proofs.Common.{◌≡◌, ℕ, suc, ◌+◌, ◌^◌, ◌<◌, ◌≤◌, true, false, ◌&&◌, List, [], ◌∷◌, ◌++◌, length, take, drop, Option, Some, None, Ok, Err, refl, sym, ap, subst, ◌∙◌, arith, append_assoc, append-nil}
 use Rattle.std.specs.Prelude.{option_map}
-use Rattle.std.specs.List.{AllZip, concat}
+use Rattle.std.specs.List.{concat}
 use Rattle.std.specs.Option.{IfSome}
 use Rattle.std.proofs.lemmas.Bool.{and_parts, false≢true}
 use Rattle.std.proofs.lemmas.List.{take-append-drop, length-take-le, length-drop}
@@ -23,7 +23,7 @@ use Rattle.avro_resolve.specs.declared.error.ReadResolveError.{ReadResolveError}
 use Rattle.avro_container.specs.BlockFails.{BlockReading, DataAreWhole, DataFail, IsNotTooMuch, datum_fault, each_within, DatumStands}
 use Rattle.avro_container.specs.Copied.{EachResolved}
 use Rattle.avro_container.specs.DataRead.{IsDataFault, StandForData}
-use Rattle.avro_container.specs.DatumRead.{MakesOf, PlaceFits, ReadsDatum, error_fault, place_in}
+use Rattle.avro_container.specs.DatumRead.{MakesOf, PlaceFits, ReadsDatum, error_fault}
 use Rattle.avro_container.specs.FileFault.{FileFault, in_block, bytes_left, unresolved_datum}
 use Rattle.avro_container.proofs.Places.{breaks_inside}
 

@@ -1,8 +1,7 @@
 -- A header that was taken, or what stops it.
 use Rattle.std.proofs.Common.{arith, ℕ, subst}
 use Rattle.std.proofs.lemmas.Result.{err_from_is_err_and}
-use Rattle.avro_schema.specs.SeenSchema.{schema_nodes}
-use Rattle.avro_container.specs.inside.HeaderEnds.{SaySchema, SayNone}
+use Rattle.avro_container.specs.inside.HeaderEnds.{SayNone}
 use Rattle.avro_container.specs.HeaderTaken.{IsHeaderFault}
 use Rattle.avro_container.specs.Held.{held}
 use Rattle.avro_container.specs.Parts.{properties_of}

@@ -1,5 +1,5 @@
 -- What was taken goes after what was taken before.
-use Rattle.std.proofs.Common.{arith, rules}
+use Rattle.std.proofs.Common.{rules}
 use Rattle.avro_container.specs.Held.{held}
 use Rattle.avro_container.proofs.Taking.{GrowsBy-chain, TakesAtMost-behind, TakesAtMost-from_grown}
 use Rattle.avro_container.proofs.input.fill.Goals as goal

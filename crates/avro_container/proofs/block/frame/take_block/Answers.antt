@@ -1,5 +1,5 @@
 -- A block, part by part.
-use Rattle.std.proofs.Common.{Err, ap, sym, ◌∙◌, arith, rules}
+use Rattle.std.proofs.Common.{Err, ap, arith, rules}
 use Rattle.std.proofs.lemmas.Option.{none-some}
 use Rattle.std.proofs.lemmas.Result.{err_from_is_err_and}
 use Rattle.avro_container.specs.Filled.{GrowsBy}

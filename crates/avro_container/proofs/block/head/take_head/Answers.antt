@@ -1,5 +1,5 @@
 -- A count and a size, the second after the first.
-use Rattle.std.proofs.Common.{◌+◌, pos, inl, inr, Err, take, drop, ap, sym, ◌∙◌, arith, rules}
+use Rattle.std.proofs.Common.{◌+◌, pos, inl, inr, Err, take, drop, ap, arith, rules}
 use Rattle.std.proofs.lemmas.Result.{err_from_is_err_and}
 use Rattle.avro_container.specs.Filled.{GrowsBy}
 use Rattle.avro_container.specs.Held.{held}

@@ -1,5 +1,5 @@
 -- Why a length is not taken.
-use Rattle.std.proofs.Common.{◌≡◌, ◌<ℤ◌, true, pos, Err, ap, sym, ◌∙◌, arith, rules, w64, FitsSigned}
+use Rattle.std.proofs.Common.{◌≡◌, ◌<ℤ◌, true, pos, arith, rules, w64, FitsSigned}
 use Rattle.std.proofs.lemmas.Int.{to_z-of_z, ints}
 use lib.Signed.{lt_z}
 use Rattle.avro_container.specs.Held.{held}

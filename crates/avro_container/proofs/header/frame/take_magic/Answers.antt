@@ -1,6 +1,5 @@
 -- Why a magic is not taken.
-use Rattle.std.proofs.Common.{◌≡◌, ◌≤◌, length, take, Err, refl, ap, sym, ◌∙◌, arith}
-use Rattle.std.proofs.lemmas.Bool.{false≢true}
+use Rattle.std.proofs.Common.{Err, refl, ap, arith}
 use Rattle.avro_container.specs.FileFault.{in_header, no_magic, long_header}
 use Rattle.avro_container.specs.Held.{held}
 use Rattle.avro_container.proofs.Framed.{framed}

@@ -1,5 +1,5 @@
 -- A name that was taken, or why it is none.
-use Rattle.std.proofs.Common.{◌≡◌, ◌-◌, true, false, cond, bytes_eq, List, ℕ, take, drop, Err, ap, sym, subst, ◌∙◌, arith}
+use Rattle.std.proofs.Common.{◌≡◌, ◌-◌, true, false, cond, bytes_eq, List, ℕ, take, drop, ap, sym, subst, ◌∙◌, arith}
 use Rattle.std.specs.Prelude.{string_bytes}
 use Rattle.std.specs.BTreeSet.{contains_text}
 use Rattle.std.specs.Str.{is_utf8}

@@ -1,5 +1,5 @@
 -- A property that was taken, or what stops it.
-use Rattle.std.proofs.Common.{◌≡◌, ◌-◌, take, drop, true, ap, ◌∙◌, arith}
+use Rattle.std.proofs.Common.{true, arith}
 use Rattle.std.specs.Prelude.{string_bytes}
 use Rattle.std.proofs.lemmas.Option.{none-some}
 use Rattle.std.proofs.lemmas.Result.{err_from_is_err_and}

@@ -1,7 +1,6 @@
 -- Why a count is not taken.
-use Rattle.std.proofs.Common.{◌≡◌, negsuc, ◌^◌, ◌-◌, Err, ap, sym, ◌∙◌, arith, rules, w64, FitsSigned, to_z}
+use Rattle.std.proofs.Common.{arith, to_z}
 use Rattle.std.proofs.lemmas.Int.{to_z-of_z}
-use Rattle.avro_container.specs.Held.{held}
 use Rattle.avro_container.proofs.Behind.{part_refused, own_refused, number_stops}
 use Rattle.avro_container.proofs.HeadStops.{count_stops, least_stops}
 use Rattle.avro_container.proofs.header.properties_head.take_properties_count.Goals as goal

@@ -1,5 +1,5 @@
 -- A head, with its size if there is one.
-use Rattle.std.proofs.Common.{arith, ◌≡◌, ◌+◌, Bool, pos, true, false, take, drop, refl, subst, rules}
+use Rattle.std.proofs.Common.{arith, ◌≡◌, ◌+◌, Bool, pos, true, take, drop, subst, rules}
 use Rattle.std.specs.Prelude.{neg_ℤ}
 use Rattle.std.proofs.lemmas.Result.{err_from_is_err_and}
 use Rattle.avro_cursor.specs.BlockHeads.{signed_count}

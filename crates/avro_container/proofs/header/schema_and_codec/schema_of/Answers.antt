@@ -1,5 +1,5 @@
 -- What the metadata say that is wrong.
-use Rattle.std.proofs.Common.{arith, sym, subst, ◌∙◌}
+use Rattle.std.proofs.Common.{sym, subst, ◌∙◌}
 use Rattle.std.proofs.lemmas.Option.{same_Some}
 use Rattle.avro_container.specs.inside.HeaderEnds.{SayNone}
 use Rattle.avro_container.specs.Parts.{properties_of}
