@@ -4,7 +4,7 @@ use Rattle.std.proofs.lemmas.List.{drop-drop, length-drop, take-append-le}
 use Rattle.std.proofs.lemmas.Option.{same_Some, none-some}
 use Rattle.avro_zigzag.specs.NumberFault.{LongFails}
 use Rattle.avro_zigzag.specs.declared.VarError.TheVariants.{EndOfInput, OutOfRange}
-use Rattle.avro_cursor.specs.Fault.{ReadFault, end_of_input, invalid_number, invalid_boolean, invalid_text, unknown_index, invalid_length, wrong_block_size, duplicate_key, limit_exceeded, behind}
+use Rattle.avro_cursor.specs.Fault.{ReadFault, end_of_input, invalid_number, invalid_length, behind}
 use Rattle.avro_cursor.specs.Breaks.{LongBreaks, StartsWithLong, ContentBreaks}
 use Rattle.avro_cursor.proofs.public.Behind.{behind-add}
 use Rattle.avro_container.specs.declared.input.PartError.{PartError}
@@ -28,16 +28,36 @@ still_no_end k f h place e = grind arith
 
 module _ {I : Type 0} (gives : I → List ℕ → I → Type 0) (failures : I → ℕ) (chain : (s t u : I) (front back : List ℕ) → gives s front t → gives t back u → gives s (front ++ back) u) (limit : ℕ) where
   pub takes_then : (a b c : I) (old mid new : List ℕ) → Takes gives failures limit a b old mid → Takes gives failures limit b c mid new → Takes gives failures limit a c old new
-  takes_then a b c old mid new p q = grind arith
+  takes_then a b c old mid new p q = record {
+    grown = GrowsBy-chain gives chain a b c old mid new p.grown q.grown;
+    limited = omega (arith, p.limited, q.limited);
+    works = q.works ∙ p.works;
+  }
 
   pub then_refused : (a b c : I) (old mid new : List ℕ) (e : CopyError) → Takes gives failures limit a b old mid → Refused gives failures limit b c mid new e
       → Refused gives failures limit a c old new e
-  then_refused a b c old mid new e p q = grind arith
+  then_refused a b c old mid new e p q = record {
+    grown = λ other. GrowsBy-chain gives chain a b c old mid new p.grown (q.grown other);
+    lost = TakesAtMost-later gives chain a b c old mid limit p.grown q.lost p.limited;
+    limited = omega (arith, p.limited, q.limited);
+    fails = λ is same. q.fails is (same ∙ sym p.works);
+    no_output = q.no_output;
+    first = q.first;
+    named = q.named;
+  }
 
   -- what was taken is refused
   pub own_refused : (a b : I) (old new : List ℕ) (e : CopyError) → e ≢ CopyError.InputFailed → e ≢ CopyError.OutputFailed → e ≢ CopyError.FailedBefore
       → IsNamed e → Takes gives failures limit a b old new → Refused gives failures limit a b old new e
-  own_refused a b old new e no_input no_output first named p = grind arith
+  own_refused a b old new e no_input no_output first named p = record {
+    grown = λ _. p.grown;
+    lost = TakesAtMost-from_grown gives a b old new limit p.grown p.limited;
+    limited = p.limited;
+    fails = λ is. absurd (no_input is);
+    no_output = no_output;
+    first = first;
+    named = named;
+  }
 
   -- memory ran out after it
   pub memory_refused : (a b : I) (old new : List ℕ) → Takes gives failures limit a b old new → Refused gives failures limit a b old new CopyError.OutOfMemory
@@ -66,13 +86,24 @@ pub stops-whole : (limit at from : ℕ) (ended : Type 0) (bytes front : List ℕ
     → ((rest : List ℕ) (g : ReadFault) → P rest g → P' (front ++ rest) (behind (length front) g))
     → ((rest : List ℕ) (g : ReadFault) → Q rest g → Q' (front ++ rest) (behind (length front) g))
     → PartStops limit from ended bytes P Q f → PartStops limit at ended bytes P' Q' f
-stops-whole limit at from ended bytes front P Q P' Q' f offset split up wup h15 = grind (arith, behind-add, still_no_end)
+stops-whole limit at from ended bytes front P Q P' Q' f offset split up wup (PartStops.broken g b none is) =
+    PartStops.broken (behind (length front) g) (subst (λ (r : List ℕ). P' r (behind (length front) g)) (sym split) (up (drop from bytes) g b))
+    (still_no_end (length front) g none)
+    (is ∙ ap (λ (n : ℕ). in_header (invalid_metadata (behind n g))) offset ∙ ap (λ (h : ReadFault). in_header (invalid_metadata h)) (behind-add at (length front) g))
+stops-whole limit at from ended bytes front P Q P' Q' _ offset split up wup (PartStops.too_long there w over) =
+    PartStops.too_long (length front + there) (subst (λ (r : List ℕ). Q' r (end_of_input (length front + there))) (sym split) (wup (drop from bytes) (end_of_input there) w))
+    (omega (arith, over, offset))
+stops-whole limit at from ended bytes front P Q P' Q' _ offset split up wup (PartStops.is_cut there w fits told) =
+    PartStops.is_cut (length front + there) (subst (λ (r : List ℕ). Q' r (end_of_input (length front + there))) (sym split) (wup (drop from bytes) (end_of_input there) w))
+    (omega (arith, fits, offset)) told
 
 -- the same offset
 pub stops-as : (limit at : ℕ) (ended : Type 0) (bytes : List ℕ) (P Q P' Q' : List ℕ → ReadFault → Type 0) (f : FileFault)
     → ((g : ReadFault) → P (drop at bytes) g → P' (drop at bytes) g) → ((g : ReadFault) → Q (drop at bytes) g → Q' (drop at bytes) g)
     → PartStops limit at ended bytes P Q f → PartStops limit at ended bytes P' Q' f
-stops-as limit at ended bytes P Q P' Q' f up wup h11 = grind arith
+stops-as limit at ended bytes P Q P' Q' f up wup (PartStops.broken g b none is) = PartStops.broken g (up g b) none is
+stops-as limit at ended bytes P Q P' Q' _ up wup (PartStops.too_long there w over) = PartStops.too_long there (wup (end_of_input there) w) over
+stops-as limit at ended bytes P Q P' Q' _ up wup (PartStops.is_cut there w fits told) = PartStops.is_cut there (wup (end_of_input there) w) fits told
 
 -- a number that is not taken
 pub number_stops : (limit at : ℕ) (ended : Type 0) (bytes : List ℕ) (e : PartError) (f : FileFault) → at ≤ limit
@@ -93,12 +124,21 @@ number_stops limit at ended bytes PartError.Device f inside out over over_cut to
 number_stops limit at ended bytes PartError.OutOfMemory f inside out over over_cut told below cut is = absurd (none-some f is)
 
 pub length_stops : (limit at : ℕ) (ended : Type 0) (bytes : List ℕ) (f : FileFault) → PartStops limit at ended bytes LongBreaks LengthWants f → PartStops limit at ended bytes LengthBreaks LengthWants f
-length_stops limit at ended bytes f stops = grind (arith, stops-as)
+length_stops limit at ended bytes f stops =
+    stops-as limit at ended bytes LongBreaks LengthWants LengthBreaks LengthWants f (λ g b. LengthBreaks.number_breaks b) (λ g w. w) stops
 
 -- a length as the first part of a content
 pub length_first : (limit at : ℕ) (ended : Type 0) (bytes : List ℕ) (is_content : List ℕ → Bool) (f : FileFault)
     → PartStops limit at ended bytes LengthBreaks LengthWants f → PartStops limit at ended bytes (ContentBreaks is_content (2 ^ 63)) ContentWants f
-length_first limit at ended bytes is_content f stops = grind (arith, stops-as)
+length_first limit at ended bytes is_content f stops =
+    stops-as limit at ended bytes LengthBreaks LengthWants (ContentBreaks is_content (2 ^ 63)) ContentWants f breaks wants stops
+  where
+    breaks : (g : ReadFault) → LengthBreaks (drop at bytes) g → ContentBreaks is_content (2 ^ 63) (drop at bytes) g
+    breaks _ (LengthBreaks.number_breaks b) = ContentBreaks.length_breaks b
+    breaks _ (LengthBreaks.is_negative n number rest starts) = ContentBreaks.negative n number rest starts
+
+    wants : (g : ReadFault) → LengthWants (drop at bytes) g → ContentWants (drop at bytes) g
+    wants _ (LengthWants.in_number cut) = ContentWants.in_length cut
 
 -- a content after its length
 pub content_from : {I : Type 0} (gives : I → List ℕ → I → Type 0) (a b : I) (mid new : List ℕ) (at count len : ℕ) → GrowsBy gives a b mid new → at + len ≤ length mid
@@ -142,7 +182,10 @@ content_stops limit at count len ended bytes is_content PartError.OutOfMemory f 
 pub negative_length : (limit at : ℕ) (ended : Type 0) (bytes : List ℕ) (v : ℤ) (front rest : List ℕ) (f : FileFault) → v <ℤ pos 0
     → StartsWithLong v (drop at bytes) front rest → Some (in_header (invalid_metadata (invalid_length at))) ≡ Some f
     → PartStops limit at ended bytes LengthBreaks LengthWants f
-negative_length limit at ended bytes v front rest f below starts is = grind (arith, below_zero, same_Some)
+negative_length limit at ended bytes v front rest f below starts is =
+    let n = below_zero v below in
+    PartStops.broken (invalid_length 0) (LengthBreaks.is_negative n.0 front rest (subst (λ w. StartsWithLong w (drop at bytes) front rest) n.1 starts)) (λ place q. cc)
+    (sym (same_Some _ _ is) ∙ ap (λ (n : ℕ). in_header (invalid_metadata (invalid_length n))) (omega arith))
 
 pub content_starts : (at count len : ℕ) (bytes : List ℕ) → at + len + count ≤ length bytes
     → StartsWithLong (pos count) (drop at bytes) (take len (drop at bytes)) (drop (at + len) bytes) → ContentFrom at (at + len) (at + len + count) bytes

@@ -55,4 +55,11 @@ pub marker_fails : (new : List ℕ) (limits : FileLimitValues) (sync : List ℕ)
     → number < max_blocks → BlockBegins new count size (drop start new) → count ≤ limits.per_block → size ≤ limits.block
     → start + size + 16 ≤ length new → (take 16 (drop (start + size) new) ≡ sync → ⊥) → Some (in_block number other_marker) ≡ Some f
     → IsBlockFault limits sync number ended new f
-marker_fails new limits sync number ended count size start f few begins counted sized there other is = grind (arith, drop-drop, length-drop, same_Some)
+marker_fails new limits sync number ended count size start f few begins counted sized there other is = λ r same same_sync. (
+  other_marker,
+  sym (same_Some _ _ is),
+  BlockFails.marker_differs count size (drop start new) few begins
+      (subst (λ l. count ≤ l.per_block) (sym same) counted) (subst (λ l. size ≤ l.block) (sym same) sized)
+      (omega (arith, there, length-drop start new))
+      (λ p. other (ap (take 16) (sym (drop-drop size start new)) ∙ p ∙ same_sync)),
+)

@@ -1,5 +1,5 @@
 -- Numbers that are cut, and what grows after what is held.
-use Rattle.std.proofs.Common.{arith, ◌≡◌, ℕ, ◌<◌, ◌≤◌, ℤ, List, ◌++◌, length, drop, sym, ap, ◌∙◌, refl, ◌⊎◌, inl, inr}
+use Rattle.std.proofs.Common.{arith, ◌≡◌, ℕ, ◌<◌, ◌≤◌, ℤ, List, ◌++◌, length, drop, sym, ap, ◌∙◌, ◌⊎◌}
 use Rattle.std.proofs.lemmas.List.{drop-append-le}
 use Rattle.avro_zigzag.specs.Number.{SpellsLong}
 use Rattle.avro_zigzag.specs.NumberFault.{NumberFails, LongFails}
@@ -12,7 +12,7 @@ pub cut-short : (bytes : List ℕ) → LongFails bytes EndOfInput → length byt
 cut-short bytes (NumberFails.ends go short) = short
 
 pub long_fault : (bytes : List ℕ) (e : VarError) → LongFails bytes e → (e ≡ EndOfInput) ⊎ (e ≡ OutOfRange)
-long_fault bytes e h2 = grind arith
+long_fault bytes e fails = grind arith
 
 -- a long spelling is no fault
 pub not_short : (bytes : List ℕ) (e : VarError) → e ≡ NotShortest → LongFails bytes e → ⊥

@@ -1,5 +1,5 @@
 -- Faults of the magic, the metadata and the marker, and what is left of bytes that are these alone.
-use Rattle.std.proofs.Common.{◌≡◌, ℕ, ◌≤◌, List, [], ◌++◌, length, Some, true, refl, sym, subst, ◌∙◌, arith, append-nil}
+use Rattle.std.proofs.Common.{◌≡◌, ℕ, ◌≤◌, List, [], ◌++◌, length, Some, true, subst, ◌∙◌, arith, append-nil}
 use Rattle.std.proofs.lemmas.List.{at_drop_all}
 use Rattle.std.proofs.lemmas.Option.{same_Some}
 use Rattle.avro_cursor.specs.Fault.{ReadFault}
@@ -18,11 +18,11 @@ framed f g h is = subst (λ (x : FileFault). is_of_frame x ≡ true) (same_Some 
 -- what stops the metadata
 pub part_framed : (limit at : ℕ) (ended : Type 0) (bytes : List ℕ) (breaks wants : List ℕ → ReadFault → Type 0) (f : FileFault)
     → PartStops limit at ended bytes breaks wants f → is_of_frame f ≡ true
-part_framed limit at ended bytes breaks wants f h7 = grind arith
+part_framed limit at ended bytes breaks wants f stops = grind arith
 
 -- what stops the marker
 pub marker_framed : (limit at : ℕ) (ended : Type 0) (bytes : List ℕ) (f : FileFault) → MarkerStops limit at ended bytes f → is_of_frame f ≡ true
-marker_framed limit at ended bytes f h5 = grind arith
+marker_framed limit at ended bytes f stops = grind arith
 
 -- bytes that end where the marker does
 pub frame_alone : {I : Type 0} (gives : I → List ℕ → I → Type 0) (a b : I) (old new : List ℕ) (limit end : ℕ) (sync : List ℕ) (ps : List Property) → old ≡ []

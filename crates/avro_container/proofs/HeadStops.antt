@@ -19,7 +19,11 @@ use Rattle.avro_container.proofs.Behind.{stops-as, stops-whole}
 -- a number that fails is the count's
 pub count_stops : (limit at nodes : ℕ) (ended : Type 0) (bytes : List ℕ) (f : FileFault) → PartStops limit at ended bytes LongBreaks LengthWants f
     → PartStops limit at ended bytes (HeadBreaks nodes) (HeadBreaks nodes) f
-count_stops limit at nodes ended bytes f stops = grind (arith, stops-as)
+count_stops limit at nodes ended bytes f stops =
+    stops-as limit at ended bytes LongBreaks LengthWants (HeadBreaks nodes) (HeadBreaks nodes) f (λ g b. HeadBreaks.count_fails b) wants stops
+  where
+    wants : (g : ReadFault) → LengthWants (drop at bytes) g → HeadBreaks nodes (drop at bytes) g
+    wants _ (LengthWants.in_number cut) = HeadBreaks.count_fails (EndOfInput, cut, refl)
 
 -- the size after a count
 pub size_stops : (limit at middle nodes count : ℕ) (ended : Type 0) (bytes front : List ℕ) (f : FileFault) → Stretch at front middle bytes → SpellsLong (neg_ℤ (pos count)) front
@@ -39,12 +43,15 @@ size_stops limit at middle nodes (suc n) ended bytes front f stretch spelled som
         (HeadBreaks.size_negative n m front number rest more spelled (omega (arith, small)) few refl starts)
 
     wants : (rest : List ℕ) (g : ReadFault) → LengthWants rest g → HeadBreaks nodes (front ++ rest) (behind (length front) g)
-    wants rest g h2 = grind arith
+    wants rest _ (LengthWants.in_number cut) =
+        HeadBreaks.size_fails n front spelled (omega (arith, small)) few (record { rest = rest; fault = end_of_input 0; split = refl; breaks = (EndOfInput, cut, refl); moved = refl })
 
 -- the count that is the least of all
 pub least_stops : (limit at nodes : ℕ) (ended : Type 0) (bytes : List ℕ) (v : ℤ) (front rest : List ℕ) (f : FileFault) → v ≡ negsuc (2 ^ 63 - 1)
     → StartsWithLong v (drop at bytes) front rest → Some (in_header (invalid_metadata (invalid_length at))) ≡ Some f → PartStops limit at ended bytes (HeadBreaks nodes) (HeadBreaks nodes) f
-least_stops limit at nodes ended bytes v front rest f least starts is = grind (arith, same_Some)
+least_stops limit at nodes ended bytes v front rest f least starts is =
+    PartStops.broken (invalid_length 0) (HeadBreaks.count_least front rest (subst (λ w. StartsWithLong w (drop at bytes) front rest) least starts)) (λ place q. cc)
+    (sym (same_Some _ _ is) ∙ ap (λ (n : ℕ). in_header (invalid_metadata (invalid_length n))) (omega arith))
 
 -- where a number ends
 pub starts_stretch : (at len : ℕ) (v : ℤ) (bytes : List ℕ) → at + len ≤ length bytes → StartsWithLong v (drop at bytes) (take len (drop at bytes)) (drop len (drop at bytes))
@@ -54,7 +61,12 @@ starts_stretch at len v bytes inside s = grind (arith, drop-drop, length-drop, l
 -- a head without a size, or the end
 pub head_plain : (at len count : ℕ) (bytes : List ℕ) (h : PropertiesHead) → h.count ≡ count → h.start ≡ at + len → h.is_sized ≡ false → count < 2 ^ 63 → at + len ≤ length bytes
     → StartsWithLong (signed_count false count) (drop at bytes) (take len (drop at bytes)) (drop len (drop at bytes)) → TakesHead at bytes h
-head_plain at len count bytes h same start plain small inside s = grind (arith, starts_stretch)
+head_plain at len zero bytes h same start plain small inside s =
+    TakesHead.at_end (take len (drop at bytes)) same (subst (λ (n : ℕ). Stretch at (take len (drop at bytes)) n bytes) (sym start) (starts_stretch at len (pos 0) bytes inside s)) s.spelled
+head_plain at len (suc n) bytes h same start plain small inside s =
+    TakesHead.counted (take len (drop at bytes)) (omega (arith, same)) (omega (arith, same, small)) plain
+    (subst (λ (n : ℕ). Stretch at (take len (drop at bytes)) n bytes) (sym start) (starts_stretch at len (pos (suc n)) bytes inside s))
+    (subst (λ (n : ℕ). SpellsLong (pos n) (take len (drop at bytes))) (sym same) s.spelled)
 
 -- a head with a size
 pub head_sized : {I : Type 0} (gives : I → List ℕ → I → Type 0) (a b : I) (mid new : List ℕ) (at len more count size : ℕ) (h : PropertiesHead) → GrowsBy gives a b mid new

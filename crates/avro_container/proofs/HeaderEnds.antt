@@ -22,7 +22,12 @@ use Rattle.avro_container.proofs.PropertyRuns.{stretch_grown}
 pub magic_stops : (limit : ℕ) (ended : Type 0) (bytes : List ℕ) (e : PartError) (r : CopyError) (f : FileFault) → (e ≡ PartError.OutOfRange → ⊥) → (e ≡ PartError.Limit → ⊥)
     → (e ≡ PartError.Device → r ≡ CopyError.InputFailed) → (e ≡ PartError.OutOfMemory → r ≡ CopyError.OutOfMemory) → (e ≡ PartError.Ended → r ≡ CopyError.NoMagic)
     → (e ≡ PartError.Ended → ended) → (e ≡ PartError.Ended → length bytes < 4) → file_fault r ≡ Some f → IsHeaderFault limit ended bytes f
-magic_stops limit ended bytes e r f out over device memory end told short is = grind (arith, none-some, same_Some)
+magic_stops limit ended bytes PartError.OutOfRange r f out over device memory end told short is = absurd (out refl)
+magic_stops limit ended bytes PartError.Limit r f out over device memory end told short is = absurd (over refl)
+magic_stops limit ended bytes PartError.Device r f out over device memory end told short is = absurd (none-some f (sym (ap file_fault (device refl)) ∙ is))
+magic_stops limit ended bytes PartError.OutOfMemory r f out over device memory end told short is = absurd (none-some f (sym (ap file_fault (memory refl)) ∙ is))
+magic_stops limit ended bytes PartError.Ended r f out over device memory end told short is =
+    (no_magic, sym (same_Some _ _ (sym (ap file_fault (end refl)) ∙ is)), HeaderFails.short_magic (short refl) (told refl))
 
 pub magic_differs : (limit : ℕ) (ended : Type 0) (bytes : List ℕ) (f : FileFault) → 4 ≤ length bytes → take 4 bytes ≢ magic → Some (in_header no_magic) ≡ Some f
     → IsHeaderFault limit ended bytes f
@@ -41,20 +46,40 @@ begins_grown gives s t old new limit p limited b = grind (arith, length-append, 
 
 pub metadata_grown : {I : Type 0} (gives : I → List ℕ → I → Type 0) (s t : I) (old new : List ℕ) (end : ℕ) (ps : List Property) → GrowsBy gives s t old new
     → MetadataEnds end old ps → MetadataEnds end new ps
-metadata_grown gives s t old new end ps p m = grind (arith, stretch_grown)
+metadata_grown gives s t old new end ps p m = record {
+  metadata = m.metadata;
+  stretch = stretch_grown gives s t old new 4 end m.metadata p m.stretch;
+  spelled = m.spelled;
+}
 
 metadata_stands : (bytes : List ℕ) (end : ℕ) (ps : List Property) → take 4 bytes ≡ magic → (m : MetadataEnds end bytes ps) → MetadataStands ps bytes m.metadata (drop end bytes)
 metadata_stands bytes end ps begins m = grind (arith, take-append-drop)
 
 pub marker_stops : (limit end : ℕ) (ended : Type 0) (bytes : List ℕ) (ps : List Property) (f : FileFault) → BeginsHeader limit bytes → MetadataEnds end bytes ps
     → MarkerStops limit end ended bytes f → IsHeaderFault limit ended bytes f
-marker_stops limit end ended bytes ps f b m h8 = grind (arith, length-drop, metadata_stands, take_all)
+marker_stops limit end ended bytes ps _ b m (MarkerStops.too_long short over) =
+    let offset = m.stretch.offset in
+    let ends : EndsIn bytes (end + 16) =
+    EndsIn.in_marker ps m.metadata (drop end bytes) (metadata_stands bytes end ps b.begins m) (omega (arith, length-drop end bytes, short)) (omega (arith, offset)) in
+    (long_header, refl, HeaderFails.too_long (end + 16) (subst (λ (r : List ℕ). EndsIn r (end + 16)) (sym (take_all limit bytes b.fits)) ends) over)
+marker_stops limit end ended bytes ps _ b m (MarkerStops.is_cut short near told) =
+    let offset = m.stretch.offset in
+    let ends : EndsIn bytes (end + 16) =
+    EndsIn.in_marker ps m.metadata (drop end bytes) (metadata_stands bytes end ps b.begins m) (omega (arith, length-drop end bytes, short)) (omega (arith, offset)) in
+    (cut_header, refl, HeaderFails.cut (end + 16) told ends near)
 
 -- why the bytes to where it would end are not there
 pub marker_part : (limit at : ℕ) (ended : Type 0) (bytes : List ℕ) (e : PartError) (f : FileFault) → length bytes ≤ limit → (e ≡ PartError.OutOfRange → ⊥)
     → (e ≡ PartError.Limit → limit < at + 16) → (e ≡ PartError.Ended → ended) → (e ≡ PartError.Ended → length bytes < at + 16) → (e ≡ PartError.Ended → at + 16 ≤ limit)
     → header_part_fault at e ≡ Some f → MarkerStops limit at ended bytes f
-marker_part limit at ended bytes e f fits out over told short near is = grind (arith, none-some, same_Some)
+marker_part limit at ended bytes PartError.OutOfRange f fits out over told short near is = absurd (out refl)
+marker_part limit at ended bytes PartError.Limit f fits out over told short near is =
+    let past = over refl in
+    subst (MarkerStops limit at ended bytes) (same_Some _ _ is) (MarkerStops.too_long (omega (arith, past, fits)) past)
+marker_part limit at ended bytes PartError.Ended f fits out over told short near is =
+    subst (MarkerStops limit at ended bytes) (same_Some _ _ is) (MarkerStops.is_cut (short refl) (near refl) (told refl))
+marker_part limit at ended bytes PartError.Device f fits out over told short near is = absurd (none-some f is)
+marker_part limit at ended bytes PartError.OutOfMemory f fits out over told short near is = absurd (none-some f is)
 
 -- ---- All three
 
@@ -81,12 +106,19 @@ whole_within limit end bytes sync ps s = grind arith
 pub schema_stops : {T : Type 0} (r : Result T CopyError) (text : List ℕ) (ps : List Property) → property (codes "avro.schema") ps ≡ Some text
     → is_plain_codec (property (codes "avro.codec") ps) ≡ true → IfErr r (λ e. (f : FileFault) → file_fault e ≡ Some f → IsNoSchema text f)
     → IfErr r (λ e. (f : FileFault) → file_fault e ≡ Some f → SayNone ps f)
-schema_stops r text ps some plain h = grind arith
+schema_stops (Ok x) text ps some plain h = tt
+schema_stops (Err e) text ps some plain h = λ f is.
+    let none = h f is in
+    subst (SayNone ps) (sym none.1) (SayNone.schema_fails text none.0 some plain none.2)
 
 -- what they say is wrong
 pub says_none : (limit end : ℕ) (ended : Type 0) (bytes sync : List ℕ) (ps : List Property) (f : FileFault) → FrameStands limit bytes ps sync end → SayNone ps f
     → IsHeaderFault limit ended bytes f
-says_none limit end ended bytes sync ps f s h8 = grind (arith, whole_within)
+says_none limit end ended bytes sync ps _ s (SayNone.schema_lacks none) = (no_schema, refl, HeaderFails.schema_lacks ps (whole_within limit end bytes sync ps s) none)
+says_none limit end ended bytes sync ps _ s (SayNone.other_codec text some other) =
+    (unknown_codec, refl, HeaderFails.other_codec ps text (whole_within limit end bytes sync ps s) some other)
+says_none limit end ended bytes sync ps _ s (SayNone.schema_fails text e some plain fault) =
+    (refused_schema e, refl, HeaderFails.schema_fails ps text e (whole_within limit end bytes sync ps s) some plain fault)
 
 -- they are a header
 pub frame_header : (limit end : ℕ) (bytes sync : List ℕ) (ps : List Property) (nodes : List Node) → FrameStands limit bytes ps sync end → SaySchema ps nodes

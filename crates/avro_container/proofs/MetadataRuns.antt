@@ -1,5 +1,5 @@
 -- The blocks of a header's metadata, one after another.
-use Rattle.std.proofs.Common.{◌≡◌, ℕ, ◌+◌, ◌-◌, ◌^◌, ◌<◌, ◌≤◌, pos, true, false, ◌&&◌, List, [], ◌∷◌, ◌++◌, length, refl, sym, ap, subst, ◌∙◌, arith, append_assoc, append-nil, length-append, bytes_eq}
+use Rattle.std.proofs.Common.{◌≡◌, ℕ, ◌+◌, ◌^◌, ◌<◌, ◌≤◌, pos, true, false, ◌&&◌, List, [], ◌∷◌, ◌++◌, length, refl, sym, ap, subst, ◌∙◌, arith, append_assoc, append-nil, length-append, bytes_eq}
 use Rattle.std.specs.List.{concat, list_all}
 use Rattle.std.proofs.lemmas.Bool.{and_from}
 use Rattle.avro_zigzag.specs.Number.{SpellsLong, AreGroups}
@@ -10,7 +10,7 @@ use Rattle.avro_schema.specs.Distinct.{are_distinct}
 use Rattle.avro_cursor.specs.Blocks.{IsInBlocks, no_more}
 use Rattle.avro_cursor.specs.Encoding.{Encodes}
 use Rattle.avro_cursor.specs.Fault.{ReadFault, behind}
-use Rattle.avro_cursor.specs.Breaks.{Left, all_left, Head, counted, sized, head_count, head_bytes, IsHead, HasSize, BlocksBreak, EntriesAreWhole}
+use Rattle.avro_cursor.specs.Breaks.{Left, all_left, Head, head_count, head_bytes, IsHead, HasSize, BlocksBreak, EntriesAreWhole}
 use Rattle.avro_cursor.proofs.public.Behind.{behind-append, behind-none}
 use Rattle.avro_binary.proofs.public.Blocks.{block_first}
 use Rattle.avro_cursor.proofs.public.Ranges.{is_count-from_below}
@@ -23,7 +23,11 @@ use Rattle.avro_container.proofs.PropertyRuns.{names-append, each-append, each-c
 -- ---- Each property has a byte at least
 
 pub groups-some : (most n : ℕ) (bytes : List ℕ) → AreGroups most n bytes → 0 < length bytes
-groups-some most n bytes g = grind arith
+groups-some most n [] g = absurd (false-true g.groups)
+  where
+    false-true : false ≡ true → ⊥
+    false-true e = cc
+groups-some most n (b ∷ bytes) g = omega arith
 
 each-long : (ps : List Property) (items : List (List ℕ)) → EachProperty ps items → length ps ≤ length (concat items)
 each-long [] items s = omega arith
@@ -48,7 +52,9 @@ head_few left head is = grind arith
 -- what breaks after a block breaks it and what follows
 block_later : (item : Left → List ℕ → ReadFault → Type 0) (left : Left) (b : BlockRun left) (rest : List ℕ) (f : ReadFault)
     → Blocks item (left_after left b.properties) rest f → Blocks item left ((head_bytes b.head ++ b.body) ++ rest) (behind (length (head_bytes b.head ++ b.body)) f)
-block_later item left b rest f later = grind (arith, block_whole, head_few)
+block_later item left b rest f later =
+    BlocksBreak.later_breaks b.head b.body rest (left_after left b.properties) f b.is_head (block_whole left b.head b.properties b.body b.run b.counted (head_few left.nodes b.head b.is_head)) b.has_size
+    refl later refl
 
 left_twice : (ps qs : List Property) → left_after (metadata_left ps) qs ≡ metadata_left (ps ++ qs)
 left_twice ps qs = grind (arith, length-append, names-append)

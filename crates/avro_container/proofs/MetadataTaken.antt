@@ -15,7 +15,7 @@ use Rattle.avro_container.specs.inside.MetadataParts.{Blocks, BlockRun, Metadata
 use Rattle.avro_container.specs.declared.header.properties_head.PropertiesHead.{PropertiesHead}
 use Rattle.avro_container.proofs.Behind.{stops-whole}
 use Rattle.avro_container.proofs.PropertyRuns.{stretch_none, stretch_join, stretch_grown, names-append, run_whole}
-use Rattle.avro_container.proofs.MetadataRuns.{metadata_none, metadata_push, metadata_whole, block_whole, head_few, groups-some}
+use Rattle.avro_container.proofs.MetadataRuns.{metadata_push, metadata_whole, block_whole, head_few, groups-some}
 
 -- the head that was taken, as a head of avro_binary
 record HeadAs (left at : ℕ) (bytes : List ℕ) (h : PropertiesHead) : Type 0 where
@@ -46,17 +46,36 @@ head_as left at bytes h many some (TakesHead.sized front size positive small is_
 pub next_head_stops : {I : Type 0} (gives : I → List ℕ → I → Type 0) (s t : I) (old new : List ℕ) (limit at : ℕ) (ended : Type 0) (names : BTreeSet (String Global)) (ps : List Property)
     (f : FileFault) → GrowsBy gives s t old new → MetadataSoFar at old names ps → PartStops limit at ended new (HeadBreaks (metadata_left ps).nodes) (HeadBreaks (metadata_left ps).nodes) f
     → PartStops limit 4 ended new (Blocks PropertyBreaks (all_left entry_limits)) (Blocks PropertyWants (all_left entry_limits)) f
-next_head_stops gives s t old new limit at ended names ps f grown m stops = grind (arith, stops-whole, stretch_grown)
+next_head_stops gives s t old new limit at ended names ps f grown m stops =
+    let nodes = (metadata_left ps).nodes in
+    let stretch = stretch_grown gives s t old new 4 at m.front grown m.stretch in
+    stops-whole limit 4 at ended new m.front (HeadBreaks nodes) (HeadBreaks nodes) (Blocks PropertyBreaks (all_left entry_limits)) (Blocks PropertyWants (all_left entry_limits)) f
+    stretch.offset stretch.split (λ rest g b. m.run.breaks rest g (BlocksBreak.head_breaks b)) (λ rest g b. m.run.wants rest g (BlocksBreak.head_breaks b)) stops
 
 -- a property of a block is stopped
 in_block : (item : Left → List ℕ → ReadFault → Type 0) (left : Left) (head : Head) (count : ℕ) → IsHead left.nodes head → head_count head ≡ count
     → (rest : List ℕ) (g : ReadFault) → RunStops item left count rest g → Blocks item left (head_bytes head ++ rest) (behind (length (head_bytes head)) g)
-in_block item left head count is same rest g r = grind (arith, append_assoc, behind-append, head_few, run_whole)
+in_block item left head count is same rest g r =
+    let few = r.few in
+    BlocksBreak.item_fails head (length r.properties) r.front (left_after left r.properties) is (omega (arith, few, same))
+    (run_whole left r.properties r.front r.run (omega (arith, few, same, head_few left.nodes head is))) (record {
+      rest = r.next.rest;
+      fault = r.next.fault;
+      split = ap (λ (b : List ℕ). head_bytes head ++ b) r.next.split ∙ sym (append_assoc (head_bytes head) r.front r.next.rest);
+      breaks = r.next.breaks;
+      moved = ap (behind (length (head_bytes head))) r.next.moved ∙ sym (behind-append (head_bytes head) r.front r.next.fault);
+    })
 
 -- the end of the metadata
 pub metadata_ended : {I : Type 0} (gives : I → List ℕ → I → Type 0) (s t : I) (old new : List ℕ) (at : ℕ) (names : BTreeSet (String Global)) (ps : List Property) (h : PropertiesHead)
     → GrowsBy gives s t old new → MetadataSoFar at old names ps → TakesHead at new h → h.count ≡ 0 → length ps < 2 ^ 63 → MetadataEnds h.start new ps
-metadata_ended gives s t old new at names ps h grown m h11 is few = grind (arith, metadata_whole, stretch_grown, stretch_join)
+metadata_ended gives s t old new at names ps h grown m (TakesHead.at_end front none stretch spelled) is few = record {
+  metadata = m.front ++ front;
+  stretch = stretch_join 4 at h.start m.front front new (stretch_grown gives s t old new 4 at m.front grown m.stretch) stretch;
+  spelled = metadata_whole ps m.front front m.run spelled few;
+}
+metadata_ended gives s t old new at names ps h grown m (TakesHead.counted front positive small plain stretch spelled) is few = absurd (omega (arith, positive, is))
+metadata_ended gives s t old new at names ps h grown m (TakesHead.sized front size positive small is_sized stretch spelled sizes short offset) is few = absurd (omega (arith, positive, is))
 
 -- a property of the next block is stopped
 pub next_run_stops : {I : Type 0} (gives : I → List ℕ → I → Type 0) (s t u : I) (old mid new : List ℕ) (limit at : ℕ) (ended : Type 0) (names : BTreeSet (String Global)) (ps : List Property)
@@ -164,7 +183,7 @@ pub few_so_far : (limit at : ℕ) (bytes : List ℕ) (names : BTreeSet (String G
 few_so_far limit at bytes names ps m fits small = grind arith
 
 pub head_small : (at : ℕ) (bytes : List ℕ) (h : PropertiesHead) → TakesHead at bytes h → h.count < 2 ^ 63
-head_small at bytes h h3 = grind arith
+head_small at bytes h taken = grind arith
 
 -- nothing after the magic yet
 pub metadata_start : (bytes : List ℕ) (names : BTreeSet (String Global)) (ps : List Property) → 4 ≤ length bytes → ((word : List ℕ) → contains_text names word ≡ false) → ps ≡ []

@@ -1,10 +1,9 @@
 -- The offset of a fault is among the bytes that have it.
-use Rattle.std.proofs.Common.{◌≡◌, ◌⊎◌, inl, inr, ℕ, zero, suc, ◌+◌, ◌≤◌, List, [], ◌∷◌, ◌++◌, Bool, length, ap, ◌∙◌, refl, arith, length-append}
+use Rattle.std.proofs.Common.{◌≡◌, ◌⊎◌, inl, inr, ℕ, zero, suc, ◌+◌, ◌≤◌, List, ◌++◌, Bool, length, ap, ◌∙◌, arith, length-append}
 use Rattle.avro_zigzag.specs.declared.VarError.{VarError}
-use Rattle.avro_zigzag.specs.declared.VarError.TheVariants.{EndOfInput, NotShortest, OutOfRange}
 use Rattle.avro_schema.specs.Node.{Node, node_at}
 use Rattle.avro_schema.specs.Fits.{LimitValues}
-use Rattle.avro_cursor.specs.Fault.{ReadFault, end_of_input, invalid_number, invalid_boolean, invalid_text, unknown_index, invalid_length, wrong_block_size, duplicate_key, limit_exceeded, behind}
+use Rattle.avro_cursor.specs.Fault.{ReadFault, behind}
 use Rattle.avro_cursor.specs.Breaks.{number_fault, IntBreaks, LongBreaks, BooleanBreaks, FixedBreaks, ContentBreaks, IndexBreaks, KeyBreaks, EntryBreaks, HeadBreaks, BlocksBreak, BreaksAfter, BranchBreaks, ChildBreaks, Left, head_bytes, NodeBreaks, BreaksWithin, Breaks, ItemsAreWhole, EntriesAreWhole, all_left}
 use Rattle.avro_container.specs.DatumRead.{place_in}
 
@@ -38,22 +37,22 @@ long_inside : AreInside LongBreaks
 long_inside bytes f b = first bytes f (ap place_in b.2 ∙ number_first b.0)
 
 boolean_inside : AreInside BooleanBreaks
-boolean_inside h0 f b = grind (arith, first)
+boolean_inside bytes f b = grind (arith, first)
 
 fixed_inside : (count blob : ℕ) → AreInside (FixedBreaks count blob)
-fixed_inside count blob bytes f h4 = grind (arith, first)
+fixed_inside count blob bytes f b = grind (arith, first)
 
 content_inside : (is_content : List ℕ → Bool) (blob : ℕ) → AreInside (ContentBreaks is_content blob)
-content_inside is_content blob bytes f h4 = grind (arith, front_inside, long_inside)
+content_inside is_content blob bytes f b = grind (arith, front_inside, long_inside)
 
 index_inside : (choices : ℕ) → AreInside (IndexBreaks choices)
-index_inside choices bytes f h3 = grind (arith, int_inside)
+index_inside choices bytes f b = grind (arith, int_inside)
 
 key_inside : (keys : List (List ℕ)) (blob : ℕ) → AreInside (KeyBreaks keys blob)
-key_inside keys blob bytes f h4 = grind (arith, content_inside)
+key_inside keys blob bytes f b = grind (arith, content_inside)
 
 head_inside : (nodes : ℕ) → AreInside (HeadBreaks nodes)
-head_inside nodes bytes f h3 = grind (arith, after_inside, front_inside, long_inside)
+head_inside nodes bytes f b = grind (arith, after_inside, front_inside, long_inside)
 
 blocks_inside : (are_whole : Left → ℕ → List ℕ → Left → Type 0) (item_breaks : Left → List ℕ → ReadFault → Type 0) → ((left : Left) → AreInside (item_breaks left))
     → (left : Left) → AreInside (BlocksBreak are_whole item_breaks left)
@@ -76,11 +75,15 @@ abbrev ChildrenInside : ChildBreaks → Type 0
 ChildrenInside child = (left : ℕ) (n : Node) → AreInside (child left n)
 
 entry_inside : (limits : LimitValues) (child : ChildBreaks) (n : Node) → ChildrenInside child → (left : Left) → AreInside (EntryBreaks limits child n left)
-entry_inside limits child n inside left bytes f h7 = grind (arith, after_inside, key_inside)
+entry_inside limits child n inside left bytes f (EntryBreaks.key_breaks b) = key_inside left.keys limits.blob bytes f b
+entry_inside limits child n inside left bytes f (EntryBreaks.value_breaks key front spelled text short new b) =
+    after_inside (child left.nodes n) front (inside left.nodes n) bytes f b
 
 union_inside : (nodes : List Node) (left : LimitValues) (child : ChildBreaks) (ids bytes : List ℕ) (f : ReadFault) → ChildrenInside child
     → IndexBreaks (length ids) bytes f ⊎ BranchBreaks nodes left child ids bytes f → place_in f ≤ length bytes
-union_inside nodes left child ids bytes f inside h7 = grind (arith, after_inside, index_inside)
+union_inside nodes left child ids bytes f inside (inl b) = index_inside (length ids) bytes f b
+union_inside nodes left child ids bytes f inside (inr b) =
+    after_inside (child left.nodes (node_at nodes b.branch)) b.number (inside left.nodes (node_at nodes b.branch)) bytes f b.breaks
 
 node_inside : (nodes : List Node) (left : LimitValues) (child : ChildBreaks) → ChildrenInside child → (n : Node) → AreInside (NodeBreaks nodes left child n)
 node_inside nodes left child inside Node.null bytes f b = absurd b

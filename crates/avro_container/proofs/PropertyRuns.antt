@@ -27,7 +27,14 @@ stretch_join a b c front back bytes p q = grind (arith, append_assoc, length-app
 
 pub stretch_grown : {I : Type 0} (gives : I → List ℕ → I → Type 0) (s t : I) (old new : List ℕ) (a b : ℕ) (front : List ℕ) → GrowsBy gives s t old new
     → Stretch a front b old → Stretch a front b new
-stretch_grown gives s t old new a b front p q = grind (arith, append_assoc, grown-behind, length-append)
+stretch_grown gives s t old new a b front p q =
+    let long : length new ≡ length old + length p.bytes = ap length p.grown ∙ length-append old p.bytes in
+    record {
+      offset = q.offset;
+      split = grown-behind gives s t old new a p (omega (arith, q.offset, q.inside)) ∙ ap (λ (r : List ℕ). r ++ p.bytes) q.split
+          ∙ append_assoc front (drop b old) p.bytes ∙ ap (λ (r : List ℕ). front ++ r) (sym (grown-behind gives s t old new b p q.inside));
+      inside = omega (arith, long, q.inside);
+    }
 
 -- ---- Names
 

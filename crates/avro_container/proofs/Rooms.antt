@@ -22,8 +22,13 @@ taken_behind room more start end k n ordered within fits =
 -- a take that moved none
 pub kept_before : (room more : List ℕ) (start end k : ℕ) → start ≤ end → end ≤ length room
     → slice_range (put_mid end k room more) start end ≡ slice_range room start end
-kept_before room more start end k ordered within = grind (arith, append-nil, slice_range, taken_behind)
+kept_before room more start end k ordered within =
+    let none : end ≡ end + 0 = omega arith in
+    ap (slice_range (put_mid end k room more) start) none ∙ taken_behind room more start end k 0 ordered within (omega arith) ∙ append-nil _
 
 pub passed : (room : List ℕ) (start end count : ℕ) → start + count ≤ end
     → slice_range room (start + count) end ≡ drop count (slice_range room start end)
-passed room start end count inside = grind (arith, drop-drop, drop-take)
+passed room start end count inside =
+    let parts : end - start ≡ count + (end - (start + count)) = omega arith in
+    sym (ap (λ j. drop count (take j (drop start room))) parts ∙ drop-take count _ (drop start room)
+    ∙ ap (take (end - (start + count))) (drop-drop count start room))

@@ -1,5 +1,5 @@
 -- Names and properties that are taken, and what stops them.
-use Rattle.std.proofs.Common.{◌≡◌, ℕ, zero, suc, ◌+◌, ◌-◌, ◌^◌, ◌<◌, ◌≤◌, pos, Bool, true, false, cond, ◌||◌, List, [], ◌∷◌, ◌++◌, length, take, drop, refl, sym, ap, subst, ◌∙◌, arith, append_assoc, append-nil, length-append, length-take-le, bytes_eq, get_or}
+use Rattle.std.proofs.Common.{◌≡◌, ℕ, ◌+◌, ◌-◌, ◌^◌, ◌<◌, ◌≤◌, Bool, true, false, cond, ◌||◌, List, [], ◌∷◌, ◌++◌, length, take, drop, refl, sym, ap, subst, ◌∙◌, arith, append_assoc, append-nil, length-append, length-take-le, bytes_eq, get_or}
 use Rattle.std.specs.Prelude.{String}
 use Rattle.std.specs.declared.alloc.Global.{Global}
 use Rattle.std.specs.BTreeSet.{BTreeSet, contains_text}
@@ -9,7 +9,6 @@ use Rattle.std.specs.Cmp.Lexicographic.{nat_list_eq_equiv}
 use Rattle.std.proofs.lemmas.Bool.{and_parts}
 use Rattle.std.proofs.lemmas.List.Folds.{list_any-append}
 use Rattle.std.proofs.lemmas.List.{length-drop, take-append-drop, drop-drop}
-use Rattle.avro_zigzag.specs.Number.{SpellsLong}
 use Rattle.avro_schema.specs.Node.{Node}
 use Rattle.avro_schema.specs.Fits.{is_count}
 use Rattle.avro_schema.specs.Distinct.{are_distinct}
@@ -80,12 +79,26 @@ takes_name before after at start end bytes name c small is valid none added = re
 pub no_text_stops : (limit at start end : ℕ) (ended : Type 0) (bytes content : List ℕ) (keys : List (List ℕ)) (f : FileFault) → ContentFrom at start end bytes → length bytes < 2 ^ 62
     → content ≡ take (end - start) (drop start bytes) → is_utf8 content ≡ false → f ≡ in_header (invalid_metadata (invalid_text start))
     → PartStops limit at ended bytes (KeyBreaks keys (2 ^ 63)) ContentWants f
-no_text_stops limit at start end ended bytes content keys f c small is invalid told = grind (arith, length-drop, length-take-le)
+no_text_stops limit at start end ended bytes content keys f c small is invalid told =
+    let number = take (start - at) (drop at bytes) in
+    let long : length number ≡ start - at = length-take-le (start - at) (drop at bytes) (omega (arith, length-drop at bytes, c.begins, c.ordered, c.inside)) in
+    let offset : start ≡ at + length number = omega (arith, long, c.begins) in
+    PartStops.broken (invalid_text (length number))
+    (KeyBreaks.string_breaks (ContentBreaks.invalid (end - start) number (drop start bytes) c.starts (omega (arith, c.inside, small)) (omega (arith, length-drop start bytes, c.ordered, c.inside))
+    (subst (λ (t : List ℕ). is_utf8 t ≡ false) is invalid)))
+    (λ p q. cc) (told ∙ ap (λ (n : ℕ). in_header (invalid_metadata (invalid_text n))) offset)
 
 pub twice_stops : (limit at start end : ℕ) (ended : Type 0) (bytes content : List ℕ) (names : BTreeSet (String Global)) (keys : List (List ℕ)) (f : FileFault)
     → ContentFrom at start end bytes → length bytes < 2 ^ 62 → content ≡ take (end - start) (drop start bytes) → is_utf8 content ≡ true → contains_text names content ≡ true
     → AreNames names keys → f ≡ in_header (invalid_metadata (duplicate_key at)) → PartStops limit at ended bytes (KeyBreaks keys (2 ^ 63)) ContentWants f
-twice_stops limit at start end ended bytes content names keys f c small is valid has are told = grind (arith, content_small, content_spelled, content_stretch, is_count-from_below)
+twice_stops limit at start end ended bytes content names keys f c small is valid has are told =
+    let front = take (start - at) (drop at bytes) ++ take (end - start) (drop start bytes) in
+    let short : length content < 2 ^ 63 = subst (λ (n : List ℕ). length n < 2 ^ 63) (sym is) (content_small at start end bytes c small) in
+    PartStops.broken (duplicate_key 0)
+    (KeyBreaks.twice content front (drop end bytes)
+    (subst (λ (n : List ℕ). SpellsBytes n front) (sym is) (content_spelled at start end bytes c))
+    (rw (is_count-from_below (length content) short, valid) refl) (omega (arith, short)) (content_stretch at start end bytes c).split (sym (are content) ∙ has))
+    (λ p q. cc) (told ∙ ap (λ (n : ℕ). in_header (invalid_metadata (duplicate_key n))) (omega arith))
 
 -- ---- One property
 
@@ -95,18 +108,34 @@ node_breaks count bytes f some b = grind arith
 
 pub name_stops : (limit at : ℕ) (ended : Type 0) (bytes : List ℕ) (left : Left) (f : FileFault)
     → PartStops limit at ended bytes (KeyBreaks left.keys (2 ^ 63)) ContentWants f → PartStops limit at ended bytes (PropertyBreaks left) (PropertyWants left) f
-name_stops limit at ended bytes left f stops = grind (arith, stops-as)
+name_stops limit at ended bytes left f stops =
+    stops-as limit at ended bytes (KeyBreaks left.keys (2 ^ 63)) ContentWants (PropertyBreaks left) (PropertyWants left) f
+    (λ g b. EntryBreaks.key_breaks b) (λ g w. PropertyWants.in_name w) stops
 
 pub value_stops : (limit at middle : ℕ) (ended : Type 0) (bytes name front : List ℕ) (left : Left) (f : FileFault) → Stretch at front middle bytes → NameStands name front
     → list_any (bytes_eq name) left.keys ≡ false → 0 < left.nodes
     → PartStops limit middle ended bytes (ContentBreaks (λ content. true) (2 ^ 63)) ContentWants f → PartStops limit at ended bytes (PropertyBreaks left) (PropertyWants left) f
-value_stops limit at middle ended bytes name front left f stretch stands new some stops = grind (arith, and_parts, is_count-below, node_breaks, stops-whole)
+value_stops limit at middle ended bytes name front left f stretch stands new some stops =
+    let short : length name < 2 ^ 63 = is_count-below (length name) (and_parts (is_count (length name)) _ stands.text).0 in
+    stops-whole limit at middle ended bytes front (ContentBreaks (λ content. true) (2 ^ 63)) ContentWants (PropertyBreaks left) (PropertyWants left) f stretch.offset stretch.split
+    (λ rest g b. EntryBreaks.value_breaks name front stands.spelled stands.text (omega (arith, short)) new
+    (record { rest = rest; fault = g; split = refl; breaks = node_breaks left.nodes rest g some b; moved = refl }))
+    (λ rest g w. PropertyWants.in_value name front stands.spelled stands.text new (record { rest = rest; fault = g; split = refl; breaks = w; moved = refl }))
+    stops
 
 -- ---- Properties
 
 pub properties_none : (left : Left) (names : BTreeSet (String Global)) (at : ℕ) (bytes : List ℕ) (ps : List Property) → at ≤ length bytes → are_distinct bytes_eq left.keys ≡ true
     → AreNames names left.keys → TakesProperties left names 0 at at bytes ps ps
-properties_none left names at bytes ps inside distinct are = grind (arith, append-nil, run_none, stretch_none)
+properties_none left names at bytes ps inside distinct are = record {
+  properties = [];
+  front = [];
+  stretch = stretch_none at bytes inside;
+  counted = refl;
+  run = run_none left distinct;
+  pushed = sym (append-nil ps);
+  named = subst (AreNames names) (sym (append-nil left.keys)) are;
+}
 
 pub properties_push : {I : Type 0} (gives : I → List ℕ → I → Type 0) (s t : I) (old new : List ℕ) (left : Left) (names then_names : BTreeSet (String Global)) (done at middle end : ℕ)
     (first before after : List Property) → GrowsBy gives s t old new → TakesProperties left names done at middle old first before
@@ -131,12 +160,20 @@ pub next_stops : {I : Type 0} (gives : I → List ℕ → I → Type 0) (s t : I
     (count done at middle : ℕ) (first before : List Property) (f : FileFault) → GrowsBy gives s t old new → (r : TakesProperties left names done at middle old first before) → done < count
     → PartStops limit middle ended new (PropertyBreaks (left_after left r.properties)) (PropertyWants (left_after left r.properties)) f
     → PartStops limit at ended new (RunStops PropertyBreaks left count) (RunStops PropertyWants left count) f
-next_stops gives s t old new limit ended left names count done at middle first before f grown r few stops = grind (arith, stops-whole, stretch_grown)
+next_stops gives s t old new limit ended left names count done at middle first before f grown r few stops =
+    let stretch = stretch_grown gives s t old new at middle r.front grown r.stretch in
+    let fewer : length r.properties < count = omega (arith, r.counted, few) in
+    stops-whole limit at middle ended new r.front (PropertyBreaks (left_after left r.properties)) (PropertyWants (left_after left r.properties))
+    (RunStops PropertyBreaks left count) (RunStops PropertyWants left count) f stretch.offset stretch.split
+    (λ rest g b. record { properties = r.properties; front = r.front; few = fewer; run = r.run; next = record { rest = rest; fault = g; split = refl; breaks = b; moved = refl } })
+    (λ rest g b. record { properties = r.properties; front = r.front; few = fewer; run = r.run; next = record { rest = rest; fault = g; split = refl; breaks = b; moved = refl } })
+    stops
 
 -- a name as the first part of a property
 pub content_key_stops : (limit at : ℕ) (ended : Type 0) (bytes : List ℕ) (keys : List (List ℕ)) (f : FileFault)
     → PartStops limit at ended bytes (ContentBreaks is_utf8 (2 ^ 63)) ContentWants f → PartStops limit at ended bytes (KeyBreaks keys (2 ^ 63)) ContentWants f
-content_key_stops limit at ended bytes keys f stops = grind (arith, stops-as)
+content_key_stops limit at ended bytes keys f stops =
+    stops-as limit at ended bytes (ContentBreaks is_utf8 (2 ^ 63)) ContentWants (KeyBreaks keys (2 ^ 63)) ContentWants f (λ g b. KeyBreaks.string_breaks b) (λ g w. w) stops
 
 -- a property after its name
 pub takes_property : {I : Type 0} (gives : I → List ℕ → I → Type 0) (s t : I) (mid new : List ℕ) (names then_names : BTreeSet (String Global)) (at middle start end : ℕ)

@@ -1,5 +1,5 @@
 -- Takes go together, after what is held.
-use Rattle.std.proofs.Common.{◌≡◌, ◌≢◌, refl, ℕ, ◌+◌, ◌-◌, ◌≤◌, max, List, ◌++◌, length, ap, ◌∙◌, arith, append_assoc, length-append}
+use Rattle.std.proofs.Common.{◌≡◌, ◌≢◌, ℕ, ◌+◌, ◌-◌, ◌≤◌, max, List, ◌++◌, length, ap, ◌∙◌, arith, append_assoc, length-append}
 use Rattle.avro_container.specs.declared.error.CopyError.{CopyError}
 use Rattle.avro_container.specs.declared.input.PartError.{PartError}
 use Rattle.avro_container.specs.Filled.{GrowsBy, TakesAtMost, UnlessDevice}
@@ -14,13 +14,21 @@ pub TakesAtMost-behind : {I : Type 0} (gives : I → List ℕ → I → Type 0)
     → ((s t u : I) (front back : List ℕ) → gives s front t → gives t back u → gives s (front ++ back) u)
     → (a b c : I) (old mid : List ℕ) (room most : ℕ) → GrowsBy gives a b old mid → TakesAtMost gives b c room → length mid + room ≤ length old + most
     → TakesAtMost gives a c most
-TakesAtMost-behind gives chain a b c old mid room most p q fits = grind (arith, length-append)
+TakesAtMost-behind gives chain a b c old mid room most p q fits =
+    let long : length mid ≡ length old + length p.bytes = ap length p.grown ∙ length-append old p.bytes in
+    let sum : length (p.bytes ++ q.bytes) ≡ length p.bytes + length q.bytes = length-append p.bytes q.bytes in
+    record {
+      bytes = p.bytes ++ q.bytes;
+      taken = chain a b c p.bytes q.bytes p.taken q.taken;
+      few = omega (arith, long, sum, fits, q.few);
+    }
 
 pub TakesAtMost-later : {I : Type 0} (gives : I → List ℕ → I → Type 0)
     → ((s t u : I) (front back : List ℕ) → gives s front t → gives t back u → gives s (front ++ back) u)
     → (a b c : I) (old mid : List ℕ) (limit : ℕ) → GrowsBy gives a b old mid → TakesAtMost gives b c (limit - length mid)
     → length mid ≤ max (length old) limit → TakesAtMost gives a c (limit - length old)
-TakesAtMost-later gives chain a b c old mid limit p q fits = grind (arith, TakesAtMost-behind)
+TakesAtMost-later gives chain a b c old mid limit p q fits =
+    TakesAtMost-behind gives chain a b c old mid (limit - length mid) (limit - length old) p q (omega (arith, fits))
 
 -- what is said of a call whose bytes are not lost
 pub UnlessDevice-then : {P Q : Type 0} (e : PartError) → UnlessDevice e P → (P → Q) → UnlessDevice e Q

@@ -1,7 +1,7 @@
 -- The data of a block, one by one.
 use Rattle.std.proofs.Common.{◌≡◌, ℕ, suc, ◌+◌, ◌^◌, ◌<◌, ◌≤◌, true, false, ◌&&◌, List, [], ◌∷◌, ◌++◌, length, take, drop, Option, Some, None, Ok, Err, refl, sym, ap, subst, ◌∙◌, arith, append_assoc, append-nil}
 use Rattle.std.specs.Prelude.{option_map}
-use Rattle.std.specs.List.{AllZip, concat}
+use Rattle.std.specs.List.{concat}
 use Rattle.std.specs.Option.{IfSome}
 use Rattle.std.proofs.lemmas.Bool.{and_parts, false≢true}
 use Rattle.std.proofs.lemmas.List.{take-append-drop, length-take-le, length-drop}
@@ -23,7 +23,7 @@ use Rattle.avro_resolve.specs.declared.error.ReadResolveError.{ReadResolveError}
 use Rattle.avro_container.specs.BlockFails.{BlockReading, DataAreWhole, DataFail, IsNotTooMuch, datum_fault, each_within, DatumStands}
 use Rattle.avro_container.specs.Copied.{EachResolved}
 use Rattle.avro_container.specs.DataRead.{IsDataFault, StandForData}
-use Rattle.avro_container.specs.DatumRead.{MakesOf, PlaceFits, ReadsDatum, error_fault, place_in}
+use Rattle.avro_container.specs.DatumRead.{MakesOf, PlaceFits, ReadsDatum, error_fault}
 use Rattle.avro_container.specs.FileFault.{FileFault, in_block, bytes_left, unresolved_datum}
 use Rattle.avro_container.proofs.Places.{breaks_inside}
 
@@ -151,7 +151,14 @@ data_break r number count m start body us g f few inside whole breaks is = (
 -- the datum after data that are whole, of which something was made
 pub datum_stands : (r : BlockReading) (start len : ℕ) (body : List ℕ) (outcome : Resolved) (made : MakesOf r.nodes r.limits.datum r.resolve (drop start body) len outcome)
     → DatumStands r (take start body) body made.datum
-datum_stands r start len body outcome made = grind (arith, append_assoc, take-append-drop)
+datum_stands r start len body outcome made = record {
+  bytes = take len (drop start body);
+  rest = drop len (drop start body);
+  encoded = made.encoded;
+  within = made.within;
+  split = sym (take-append-drop start body) ∙ ap (λ rest. take start body ++ rest) (sym (take-append-drop len (drop start body)))
+      ∙ sym (append_assoc (take start body) (take len (drop start body)) (drop len (drop start body)));
+}
 
 pub datum_fails : {O : Type 0} (stands : O → Value → Type 0) (r : BlockReading) (number count m start : ℕ) (body : List ℕ) (us : Values) (e : ReadResolveError) (f : FileFault)
     → m < count → start ≤ length body → DataAreWhole r m (take start body) us
@@ -160,7 +167,8 @@ datum_fails stands r number count m start body us (ReadResolveError.Read e) f fe
   where
     go : (told : Option ReadFault) → IfSome told (Breaks r.nodes r.limits.datum (root_of r.nodes) (drop start body))
         → option_map (λ g. in_block number (datum_fault m (behind start g))) told ≡ Some f → IsDataFault r number count body f
-    go told breaks is = grind (arith, data_break, none-some)
+    go None breaks is = absurd (none-some f is)
+    go (Some g) breaks is = data_break r number count m start body us g f few inside whole breaks is
 datum_fails stands r number count m start body us (ReadResolveError.Resolve e) f few inside whole reads is =
     let len = reads.faulty.0 in
     let made = reads.faulty.1 in (
@@ -187,10 +195,22 @@ stand-none stands r outs none = grind (arith, whole-none)
 -- bytes after all data
 pub data_left : (r : BlockReading) (number count start : ℕ) (body : List ℕ) (us : Values) (f : FileFault) → DataAreWhole r count (take start body) us → start < length body
     → Some (in_block number bytes_left) ≡ Some f → IsDataFault r number count body f
-data_left r number count start body us f whole more is = grind (arith, length-drop, same_Some, take-append-drop)
+data_left r number count start body us f whole more is = (
+  bytes_left,
+  sym (same_Some _ _ is),
+  DataFail.some_left (take start body) (drop start body) us whole (sym (take-append-drop start body)) (omega (arith, more, length-drop start body)),
+)
 
 -- one datum more, of which nothing is made
 pub walk-more : (r : BlockReading) (done start len : ℕ) (body : List ℕ) (us : Values) → r.copied ≡ false → DataAreWhole r done (take start body) us
     → (u : Value) × Unit {0} × MakesOf r.nodes r.limits.datum r.resolve (drop start body) len (Ok u)
     → (vs : Values) × DataAreWhole r (done + 1) (take (start + len) body) vs
-walk-more r done start len body us alone before found = grind (arith, not_copied, take-add, whole-more)
+walk-more r done start len body us alone before found =
+    let u = found.0 in
+    let made = found.2 in
+    let whole = whole-more r done (take start body) (take len (drop start body)) us made.datum u before made.encoded made.within made.resolves (not_copied r _ alone) in
+    let one : suc done ≡ done + 1 = omega arith in (
+      add us u,
+      subst (λ n. DataAreWhole r n (take (start + len) body) (add us u)) one
+          (subst (λ front. DataAreWhole r (suc done) front (add us u)) (sym (take-add start len body)) whole),
+    )

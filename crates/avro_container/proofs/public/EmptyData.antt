@@ -25,7 +25,9 @@ made_at_front nodes limits resolve bytes made m = grind arith
 -- one datum without bytes more
 pub whole-same : (r : BlockReading) (done : ℕ) (front : List ℕ) (us : Values) (u : Value) → DataAreWhole r done front us → IsMadeOfNone r u
     → IsNotTooMuch r (plain_values (add us u)) → DataAreWhole r (suc done) front (add us u)
-whole-same r done front us u whole made small = grind (arith, add, append-nil, whole-more)
+whole-same r done front us u whole made small =
+    subst (λ b. DataAreWhole r (suc done) b (add us u)) (append-nil front)
+    (whole-more r done front [] us made.datum u whole made.encoded made.within made.resolves small)
 
 -- a number of them more, of which nothing is made
 pub walk-same : (r : BlockReading) (done n : ℕ) (front : List ℕ) (us : Values) → r.copied ≡ false → DataAreWhole r done front us → HasNoBytes r
@@ -44,14 +46,23 @@ walk-same r done (suc n) front us alone whole none =
 -- all data of a block stand whole as no byte
 pub empty-whole : (r : BlockReading) (count : ℕ) (front : List ℕ) → r.copied ≡ false → HasNoBytes r → length front ≡ 0
     → (vs : Values) × DataAreWhole r count front vs
-empty-whole r count front alone none short = grind (arith, nil_from_length, walk-same, whole-none)
+empty-whole r count front alone none short =
+    let same : [] ≡ front = sym (nil_from_length front short) in
+    let all : count + 0 ≡ count = omega arith in
+    let whole = walk-same r 0 count [] no_values alone (whole-none r) none in
+    (whole.0, subst (λ n. DataAreWhole r n front whole.0) all (subst (λ b. DataAreWhole r (count + 0) b whole.0) same whole.1))
 
 -- a byte that follows them is none of theirs
 pub empty-left : (r : BlockReading) (number count : ℕ) (body : List ℕ) (f : FileFault) → r.copied ≡ false → HasNoBytes r → 0 < length body
     → Some (in_block number bytes_left) ≡ Some f → IsDataFault r number count body f
-empty-left r number count body f alone none more is = grind (arith, data_left, empty-whole)
+empty-left r number count body f alone none more is =
+    let whole = empty-whole r count [] alone none refl in
+    data_left r number count 0 body whole.0 f whole.1 more is
 
 -- the rest of the data of a block, after a datum without bytes
 pub walk-rest : (r : BlockReading) (done count start : ℕ) (body : List ℕ) (us : Values) → done ≤ count → r.copied ≡ false → DataAreWhole r done (take start body) us
     → HasNoBytes r → (vs : Values) × DataAreWhole r count (take start body) vs
-walk-rest r done count start body us few alone whole none = grind (arith, walk-same)
+walk-rest r done count start body us few alone whole none =
+    let all : (count - done) + done ≡ count = omega (arith, few) in
+    let same = walk-same r done (count - done) (take start body) us alone whole none in
+    (same.0, subst (λ n. DataAreWhole r n (take start body) same.0) all same.1)

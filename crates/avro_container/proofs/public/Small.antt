@@ -16,4 +16,5 @@ pub not_failed : (T : Type 0) (e : CopyError) (f : FileFault) → file_fault e �
 not_failed T e f is q = none-some f (sym (ap file_fault (err_inj T e CopyError.InputFailed q)) ∙ is)
 
 pub no_bytes : (xs : List ℕ) → length xs ≤ 0 → xs ≡ []
-no_bytes xs h = grind arith
+no_bytes [] h = refl
+no_bytes (x ∷ xs) h = absurd (omega (arith, h))

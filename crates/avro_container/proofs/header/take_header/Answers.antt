@@ -1,8 +1,7 @@
 -- A header that was taken, or what stops it.
 use Rattle.std.proofs.Common.{arith, ℕ, subst}
 use Rattle.std.proofs.lemmas.Result.{err_from_is_err_and}
-use Rattle.avro_schema.specs.SeenSchema.{schema_nodes}
-use Rattle.avro_container.specs.inside.HeaderEnds.{SaySchema, SayNone}
+use Rattle.avro_container.specs.inside.HeaderEnds.{SayNone}
 use Rattle.avro_container.specs.HeaderTaken.{IsHeaderFault}
 use Rattle.avro_container.specs.Held.{held}
 use Rattle.avro_container.specs.Parts.{properties_of}
@@ -13,4 +12,12 @@ pub returns-clause-stands : goal.returns-clause-stands
 returns-clause-stands g c = grind (arith, frame_header)
 
 pub returns-in_err-schema-clause-refused : goal.returns-in_err-schema-clause-refused
-returns-in_err-schema-clause-refused g c = grind (arith, err_from_is_err_and, says_none)
+returns-in_err-schema-clause-refused g c =
+    let p = err_from_is_err_and c.from_residual-in_err-schema.result c.from_residual-in_err-schema.ensures.1 in
+    rw (p.1, p.2) (λ f is.
+    let frame = c.in_ok-frame.frame in
+    let new = held c.take_frame.new.buffer in
+    let ended = g.I.Input.ended c.take_frame.new.input in
+    subst (λ (limit : ℕ). IsHeaderFault limit ended new f) c.header-limit.ensures.header
+    (says_none c.header-limit.result frame.end ended new frame.sync (properties_of frame.metadata.items) f c.in_ok-frame.ensures.found
+    (subst (λ entries. SayNone (properties_of entries) f) c.deref.ensures.value (c.in_err-schema.ensures.refused f is))))

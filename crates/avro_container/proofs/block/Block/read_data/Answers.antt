@@ -9,7 +9,7 @@ use Rattle.avro_schema.specs.SeenSchema.{schema_nodes}
 use Rattle.avro_schema.specs.Seen.{values_from}
 use Rattle.avro_resolve.specs.declared.error.ReadResolveError.{ReadResolveError}
 use Rattle.avro_container.specs.BlockFails.{DataAreWhole}
-use Rattle.avro_container.specs.DataRead.{StandForData, read_nodes, reading, resolution}
+use Rattle.avro_container.specs.DataRead.{StandForData, reading, resolution}
 use Rattle.avro_container.specs.DatumRead.{MakesOf, ReadsDatum}
 use Rattle.avro_container.proofs.public.Data.{data_left, each-fit, datum_fails, datum_place, same_said, stand-more, stand-none}
 use Rattle.avro_container.proofs.block.Block.read_data.Goals as goal

@@ -69,7 +69,23 @@ datum_error-requires c =
     }
 
 pub returns-in-Err-clause-refused : goal.returns-in-Err-clause-refused
-returns-in-Err-clause-refused c = grind (arith, datum_fails, same_said)
+returns-in-Err-clause-refused c = λ f is.
+    let body = c.args.body.now in
+    let start = c.loop-datum.start in
+    let r : BlockReading = reading c.args.limits.now (schema_nodes c.args.header.now.schema) c.args.header.now.sync None in
+    let refuses = same_said (Refuses c.in-Err.error) _ _ _ _ _ _ (ap schema_nodes c.schema-schema.ensures) c.datum-datum_limits.ensures c.split_at.ensures.back c.in-Err.ensures in
+    let before = c.loop-datum.invariant.2 in
+    datum_fails {O = Unit {0}} (λ _ u. Unit {0}) r c.args.number c.args.count c.loop-datum.datum start body before.0
+    c.in-Err.error f (omega (arith, c.loop-datum-test.true)) c.loop-datum.invariant.0 before.1 refuses
+    (sym c.datum_error.ensures.fault ∙ is)
 
 pub returns-then-start-end-clause-refused : goal.returns-then-start-end-clause-refused
-returns-then-start-end-clause-refused c = grind (arith, data_left)
+returns-then-start-end-clause-refused c = λ f is.
+    let body = c.args.body.now in
+    let count = c.args.count in
+    let start = c.loop-datum.start in
+    let r : BlockReading = reading c.args.limits.now (schema_nodes c.args.header.now.schema) c.args.header.now.sync None in
+    let before = c.loop-datum.invariant.2 in
+    let all : c.loop-datum.datum ≡ count = omega (arith, c.loop-datum-test.false, c.loop-datum.invariant.1) in
+    data_left r c.args.number count start body before.0 f (subst (λ n. DataAreWhole r n (take start body) before.0) all before.1)
+    (omega (arith, c.if-start-end.true)) is

@@ -15,7 +15,14 @@ pub returns-in-Err-clause-lost : goal.returns-in-Err-clause-lost
 returns-in-Err-clause-lost g c = c.in-Err.ensures.lost
 
 pub returns-in-Err-clause-refused : goal.returns-in-Err-clause-refused
-returns-in-Err-clause-refused g c = grind (arith, body_stops)
+returns-in-Err-clause-refused g c = λ f limits is few begins counted sized.
+    body_stops g.I.Input.gives _ _ (held c.args.buffer.now) (held c.fill.new.buffer) limits c.args.sync.now c.args.number (g.I.Input.ended c.fill.new.input)
+    c.args.head.count c.args.head.size c.args.head.start c.in-Err.error f few c.requires.inside begins counted sized
+    (λ p. c.in-Err.ensures.in_range (ap Err p))
+    (λ p. omega (arith, c.in-Err.ensures.over (ap Err p), c.requires.near))
+    (λ p. c.in-Err.ensures.ended (ap Err p))
+    (λ p. c.in-Err.ensures.short (ap Err p))
+    c.in-Err.ensures.taken (sym c.block_error.ensures.fault ∙ is)
 
 pub returns-in-Err-clause-fails : goal.returns-in-Err-clause-fails
 returns-in-Err-clause-fails g c = λ q. c.in-Err.ensures.fails (ap Err (c.block_error.ensures.device (err_inj _ _ _ q)))

@@ -10,7 +10,11 @@ use Rattle.avro_container.proofs.Stopping.{count_stops, negative_stops}
 use Rattle.avro_container.proofs.block.head.take_count.Goals as goal
 
 pub returns-then-value-lt0-clause-refused : goal.returns-then-value-lt0-clause-refused
-returns-then-value-lt0-clause-refused g c = grind (arith, ints, negative_stops, to_z-of_z)
+returns-then-value-lt0-clause-refused g c = λ f is.
+    let fits : FitsSigned w64 c.in-Ok.value = search rules in
+    let test : lt_z c.in-Ok.value (pos 0) ≡ true = rw (to_z-of_z w64 c.in-Ok.value fits) at c.if-value-lt0.true in
+    let below : c.in-Ok.value <ℤ pos 0 = grind (arith, ints) in
+    negative_stops c.args.number (g.I.Input.ended c.take_long.new.input) (drop c.args.at (held c.take_long.new.buffer)) c.in-Ok.value _ _ f below c.in-Ok.ensures.found is
 
 pub returns-in-Err-clause-taken : goal.returns-in-Err-clause-taken
 returns-in-Err-clause-taken g c = grind (arith, unless_failed)

@@ -1,7 +1,6 @@
 -- What stops a header.
 use Rattle.std.proofs.Common.{arith}
 use Rattle.std.proofs.lemmas.Result.{err_from_is_err_and}
-use Rattle.avro_container.specs.Held.{held}
 use Rattle.avro_container.proofs.public.Small.{not_failed}
 use Rattle.avro_container.proofs.HeaderEnds.{fault_taken}
 use Rattle.avro_container.proofs.header.Header.read.Goals as goal

@@ -12,13 +12,25 @@ pub returns-in_err-count-clause-refused : goal.returns-in_err-count-clause-refus
 returns-in_err-count-clause-refused g c = grind (arith, err_from_is_err_and, length_first)
 
 pub returns-in-Ok-clause-found : goal.returns-in-Ok-clause-found
-returns-in-Ok-clause-found g c = grind (arith, content_from, content_starts)
+returns-in-Ok-clause-found g c =
+    let mid = held c.take_length.new.buffer in
+    let new = held c.fill.new.buffer in
+    let grown : GrowsBy g.I.Input.gives _ _ mid new = c.in-Ok.ensures.taken in
+    content_starts c.args.at c.in_ok-count.count c.in_ok-count.len new c.in-Ok.ensures.there
+    (content_from g.I.Input.gives _ _ mid new c.args.at c.in_ok-count.count c.in_ok-count.len grown c.in_ok-count.ensures.inside c.in_ok-count.ensures.found)
 
 pub returns-in-Ok-clause-took : goal.returns-in-Ok-clause-took
-returns-in-Ok-clause-took g c = grind (arith, takes_then)
+returns-in-Ok-clause-took g c =
+    takes_then g.I.Input.gives g.I.Input.failures g.met.I.Input.chain c.args.reach.limit _ _ _ (held c.args.buffer.now) (held c.take_length.new.buffer) (held c.fill.new.buffer)
+    c.in_ok-count.ensures.took (record { grown = c.in-Ok.ensures.taken; limited = c.in-Ok.ensures.limited; works = c.in-Ok.ensures.works })
 
 pub returns-in-Err-clause-lost : goal.returns-in-Err-clause-lost
-returns-in-Err-clause-lost g c = grind (arith, part_refused, then_refused)
+returns-in-Err-clause-lost g c =
+    then_refused g.I.Input.gives g.I.Input.failures g.met.I.Input.chain c.args.reach.limit _ _ _ (held c.args.buffer.now) (held c.take_length.new.buffer) (held c.fill.new.buffer)
+    c.metadata_error.result c.in_ok-count.ensures.took
+    (part_refused g.I.Input.gives g.I.Input.failures c.args.reach.limit _ _ _ _ c.in-Err.error c.metadata_error.result
+    c.metadata_error.ensures.failed c.metadata_error.ensures.device c.metadata_error.ensures.no_output c.metadata_error.ensures.first c.metadata_error.ensures.named
+    c.in-Err.ensures.taken c.in-Err.ensures.lost c.in-Err.ensures.limited (λ p. c.in-Err.ensures.fails (ap Err p)))
 
 pub returns-in-Err-clause-refused : goal.returns-in-Err-clause-refused
 returns-in-Err-clause-refused g c = λ f is_content is.

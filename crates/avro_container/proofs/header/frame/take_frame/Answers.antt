@@ -10,10 +10,20 @@ use Rattle.avro_container.proofs.HeaderStops.{header_stops}
 use Rattle.avro_container.proofs.header.frame.take_frame.Goals as goal
 
 pub returns-in_err-metadata-clause-lost : goal.returns-in_err-metadata-clause-lost
-returns-in_err-metadata-clause-lost g c = grind (arith, err_from_is_err_and, refused_wider, then_refused)
+returns-in_err-metadata-clause-lost g c =
+    let p = err_from_is_err_and c.from_residual-in_err-metadata.result c.from_residual-in_err-metadata.ensures.1 in
+    rw (p.1, p.2) (then_refused g.I.Input.gives g.I.Input.failures g.met.I.Input.chain (max 4 c.args.reach.limit) _ _ _ (held c.args.buffer.now) (held c.take_magic.new.buffer) (held c.take_metadata.new.buffer)
+    c.in_err-metadata.field-0.0 c.in_ok-take_magic.ensures.took
+    (refused_wider g.I.Input.gives g.I.Input.failures c.args.reach.limit (max 4 c.args.reach.limit) _ _ _ _ _ (omega arith) c.in_err-metadata.ensures.lost))
 
 pub returns-in_err-metadata-clause-refused : goal.returns-in_err-metadata-clause-refused
-returns-in_err-metadata-clause-refused g c = grind (arith, begins_grown, err_from_is_err_and, header_stops, reports_not_failed)
+returns-in_err-metadata-clause-refused g c =
+    let p = err_from_is_err_and c.from_residual-in_err-metadata.result c.from_residual-in_err-metadata.ensures.1 in
+    rw (p.1, p.2) (λ f is.
+    let lost = c.in_err-metadata.ensures.lost in
+    header_stops c.args.reach.limit (g.I.Input.ended c.take_metadata.new.input) (held c.take_metadata.new.buffer) f
+    (begins_grown g.I.Input.gives _ _ (held c.take_magic.new.buffer) (held c.take_metadata.new.buffer) c.args.reach.limit (lost.grown (reports_not_failed _ f is)) lost.limited c.in_ok-take_magic.ensures.begins)
+    (c.in_err-metadata.ensures.refused f is))
 
 pub returns-in_err-sync-clause-lost : goal.returns-in_err-sync-clause-lost
 returns-in_err-sync-clause-lost g c =
@@ -41,16 +51,22 @@ returns-in_err-sync-clause-refused g c =
     (c.in_err-sync.ensures.refused f is))
 
 pub returns-clause-took : goal.returns-clause-took
-returns-clause-took g c = grind (arith, takes_then, takes_wider)
+returns-clause-took g c =
+    let most = max 4 c.args.reach.limit in
+    let first = takes_then g.I.Input.gives g.I.Input.failures g.met.I.Input.chain most _ _ _ (held c.args.buffer.now) (held c.take_magic.new.buffer) (held c.take_metadata.new.buffer)
+    c.in_ok-take_magic.ensures.took (takes_wider g.I.Input.gives g.I.Input.failures c.args.reach.limit most _ _ _ _ (omega arith) c.in_ok-metadata.ensures.took) in
+    takes_then g.I.Input.gives g.I.Input.failures g.met.I.Input.chain most _ _ _ (held c.args.buffer.now) (held c.take_metadata.new.buffer) (held c.take_marker.new.buffer)
+    first (takes_wider g.I.Input.gives g.I.Input.failures c.args.reach.limit most _ _ _ _ (omega arith) c.in_ok-sync.ensures.took)
 
 pub returns-clause-found : goal.returns-clause-found
 returns-clause-found g c = grind (arith, begins_grown, frame_stands, metadata_grown)
 
-pub returns-clause-within : goal.returns-clause-within
-returns-clause-within g c = grind arith
-
 pub returns-in_err-metadata-clause-framed : goal.returns-in_err-metadata-clause-framed
-returns-in_err-metadata-clause-framed g c = grind (arith, err_from_is_err_and, part_framed)
+returns-in_err-metadata-clause-framed g c =
+    let p = err_from_is_err_and c.from_residual-in_err-metadata.result c.from_residual-in_err-metadata.ensures.1 in
+    rw (p.1, p.2) (λ f is. part_framed _ _ _ _ _ _ f (c.in_err-metadata.ensures.refused f is))
 
 pub returns-in_err-sync-clause-framed : goal.returns-in_err-sync-clause-framed
-returns-in_err-sync-clause-framed g c = grind (arith, err_from_is_err_and, marker_framed)
+returns-in_err-sync-clause-framed g c =
+    let p = err_from_is_err_and c.from_residual-in_err-sync.result c.from_residual-in_err-sync.ensures.1 in
+    rw (p.1, p.2) (λ f is. marker_framed _ _ _ _ f (c.in_err-sync.ensures.refused f is))

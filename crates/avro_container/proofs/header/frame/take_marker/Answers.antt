@@ -1,6 +1,5 @@
 -- Why a marker is not taken.
-use Rattle.std.proofs.Common.{Err, ap, sym, ◌∙◌, arith}
-use Rattle.avro_container.specs.Held.{held}
+use Rattle.std.proofs.Common.{arith}
 use Rattle.avro_container.proofs.Behind.{part_refused}
 use Rattle.avro_container.proofs.HeaderEnds.{marker_part}
 use Rattle.avro_container.proofs.header.frame.take_marker.Goals as goal

@@ -1,9 +1,6 @@
 -- The metadata of a header that was taken, or what stops it.
-use Rattle.std.proofs.Common.{ℕ, subst, arith}
+use Rattle.std.proofs.Common.{arith}
 use Rattle.std.proofs.lemmas.Result.{err_from_is_err_and}
-use Rattle.avro_container.specs.HeaderTaken.{IsHeaderFault, TakesMetadata}
-use Rattle.avro_container.specs.Held.{held}
-use Rattle.avro_container.specs.Parts.{properties_of}
 use Rattle.avro_container.proofs.Behind.{reports_not_failed}
 use Rattle.avro_container.proofs.Framed.{frame_alone}
 use Rattle.avro_container.proofs.HeaderEnds.{fault_taken}

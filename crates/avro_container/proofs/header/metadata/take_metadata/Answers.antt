@@ -8,7 +8,14 @@ use Rattle.avro_container.proofs.MetadataTaken.{metadata_start}
 use Rattle.avro_container.proofs.header.metadata.take_metadata.Goals as goal
 
 pub loop-end-init : goal.loop-end-init
-loop-end-init g c = grind (arith, metadata_start, takes_none)
+loop-end-init g c = (
+  takes_none g.I.Input.gives g.I.Input.failures g.met.I.Input.none c.args.reach.limit _ (held c.args.buffer.now),
+  c.requires.begins,
+  omega arith,
+  metadata_start (held c.args.buffer.now) _ _ c.requires.begins (λ word. ap (list_any _) c.new-2.ensures.empty) (ap properties_of c.new.ensures.items),
+)
 
 pub returns-in-Err-clause-lost : goal.returns-in-Err-clause-lost
-returns-in-Err-clause-lost g c = grind (arith, then_refused)
+returns-in-Err-clause-lost g c =
+    then_refused g.I.Input.gives g.I.Input.failures g.met.I.Input.chain c.args.reach.limit _ _ _ (held c.args.buffer.now) (held c.loop-end.buffer) (held c.take_metadata_block.new.buffer)
+    c.in-Err.error c.loop-end.invariant.0 c.in-Err.ensures.lost

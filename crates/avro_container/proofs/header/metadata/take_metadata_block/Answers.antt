@@ -10,10 +10,21 @@ use Rattle.avro_container.proofs.MetadataTaken.{next_head_stops, next_run_stops,
 use Rattle.avro_container.proofs.header.metadata.take_metadata_block.Goals as goal
 
 pub returns-in_err-head-clause-refused : goal.returns-in_err-head-clause-refused
-returns-in_err-head-clause-refused g c = grind (arith, err_from_is_err_and, many_left, next_head_stops, reports_not_failed)
+returns-in_err-head-clause-refused g c =
+    let p = err_from_is_err_and c.from_residual.result c.from_residual.ensures.1 in
+    rw (p.1, p.2) (λ f is m.
+    let old = held c.args.buffer.now in
+    let new = held c.take_properties_head.new.buffer in
+    let ps = properties_of c.args.properties.now.entries.items in
+    next_head_stops g.I.Input.gives _ _ old new c.args.reach.limit c.args.at (g.I.Input.ended c.take_properties_head.new.input) _ ps f
+    (c.in_err-head.ensures.lost.grown (reports_not_failed _ f is)) m
+    (c.in_err-head.ensures.refused f (metadata_left ps).nodes is (many_left c.args.reach.limit c.args.at old _ ps m c.requires.fits (omega (arith, c.requires.small)))))
 
 pub returns-in_err-end-clause-lost : goal.returns-in_err-end-clause-lost
-returns-in_err-end-clause-lost g c = grind (arith, err_from_is_err_and, then_refused)
+returns-in_err-end-clause-lost g c =
+    let p = err_from_is_err_and c.from_residual-in_err-end.result c.from_residual-in_err-end.ensures.1 in
+    rw (p.1, p.2) (then_refused g.I.Input.gives g.I.Input.failures g.met.I.Input.chain c.args.reach.limit _ _ _ (held c.args.buffer.now) (held c.take_properties_head.new.buffer) (held c.take_properties.new.buffer)
+    c.in_err-end.field-0.0 c.in_ok-head.ensures.took c.in_err-end.ensures.lost)
 
 pub returns-in_err-end-clause-refused : goal.returns-in_err-end-clause-refused
 returns-in_err-end-clause-refused g c =
@@ -34,10 +45,18 @@ pub returns-then-head-eq0-clause-further : goal.returns-then-head-eq0-clause-fur
 returns-then-head-eq0-clause-further g c = head_further c.args.at (held c.take_properties_head.new.buffer) c.in_ok-head.head c.in_ok-head.ensures.found
 
 pub returns-then-head-eq0-clause-end : goal.returns-then-head-eq0-clause-end
-returns-then-head-eq0-clause-end g c = grind (arith, few_so_far, metadata_ended)
+returns-then-head-eq0-clause-end g c = λ _ m.
+    let old = held c.args.buffer.now in
+    let new = held c.take_properties_head.new.buffer in
+    let ps = properties_of c.args.properties.now.entries.items in
+    metadata_ended g.I.Input.gives _ _ old new c.args.at _ ps c.in_ok-head.head c.in_ok-head.ensures.took.grown m c.in_ok-head.ensures.found (omega (arith, c.if-head-eq0.true))
+    (few_so_far c.args.reach.limit c.args.at old _ ps m c.requires.fits (omega (arith, c.requires.small)))
 
 pub returns-then-is_other_size-clause-lost : goal.returns-then-is_other_size-clause-lost
-returns-then-is_other_size-clause-lost g c = grind (arith, own_refused, takes_then)
+returns-then-is_other_size-clause-lost g c =
+    own_refused g.I.Input.gives g.I.Input.failures g.met.I.Input.chain c.args.reach.limit _ _ _ _ _ (λ q. cc) (λ q. cc) (λ q. cc) tt
+    (takes_then g.I.Input.gives g.I.Input.failures g.met.I.Input.chain c.args.reach.limit _ _ _ (held c.args.buffer.now) (held c.take_properties_head.new.buffer) (held c.take_properties.new.buffer)
+    c.in_ok-head.ensures.took c.in_ok-end.ensures.took)
 
 pub returns-then-is_other_size-clause-refused : goal.returns-then-is_other_size-clause-refused
 returns-then-is_other_size-clause-refused g c = λ f is m.
@@ -71,8 +90,7 @@ returns-clause-more g c = λ _ m.
     c.in_ok-head.ensures.took.grown c.in_ok-end.ensures.took.grown m c.in_ok-head.ensures.found (omega (arith, c.if-head-eq0.false)) many
     (c.in_ok-end.ensures.found (metadata_left before) (omega (arith, few, many)) m.named m.run.distinct) (c.is_other_size.ensures.same c.if-is_other_size.false)
 
-pub returns-clause-within : goal.returns-clause-within
-returns-clause-within g c = grind arith
-
 pub returns-clause-took : goal.returns-clause-took
-returns-clause-took g c = grind (arith, takes_then)
+returns-clause-took g c =
+    takes_then g.I.Input.gives g.I.Input.failures g.met.I.Input.chain c.args.reach.limit _ _ _ (held c.args.buffer.now) (held c.take_properties_head.new.buffer) (held c.take_properties.new.buffer)
+    c.in_ok-head.ensures.took c.in_ok-end.ensures.took

@@ -1,5 +1,5 @@
 -- A name that was taken, or why it is none.
-use Rattle.std.proofs.Common.{◌≡◌, ◌-◌, true, false, cond, bytes_eq, List, ℕ, take, drop, Err, ap, sym, subst, ◌∙◌, arith}
+use Rattle.std.proofs.Common.{◌≡◌, ◌-◌, true, false, cond, bytes_eq, List, ℕ, take, drop, ap, sym, subst, ◌∙◌, arith}
 use Rattle.std.specs.Prelude.{string_bytes}
 use Rattle.std.specs.BTreeSet.{contains_text}
 use Rattle.std.specs.Str.{is_utf8}
@@ -28,19 +28,22 @@ returns-in-Ok-clause-found g c =
     (subst (λ (n : List ℕ). (word : List ℕ) → contains_text c.add_name.new.names word ≡ cond (bytes_eq n word) true (contains_text c.args.names.now word)) (sym name) c.in-Ok.ensures.added)
 
 pub returns-in-Err-NoText-clause-lost : goal.returns-in-Err-NoText-clause-lost
-returns-in-Err-NoText-clause-lost g c = grind (arith, own_refused)
+returns-in-Err-NoText-clause-lost g c =
+    own_refused g.I.Input.gives g.I.Input.failures g.met.I.Input.chain c.args.reach.limit _ _ _ _ _ (λ q. cc) (λ q. cc) (λ q. cc) tt c.in_ok-start.ensures.took
 
 pub returns-in-Err-NoText-clause-refused : goal.returns-in-Err-NoText-clause-refused
 returns-in-Err-NoText-clause-refused g c = grind (arith, no_text_stops, same_Some)
 
 pub returns-in-Err-Twice-clause-lost : goal.returns-in-Err-Twice-clause-lost
-returns-in-Err-Twice-clause-lost g c = grind (arith, own_refused)
+returns-in-Err-Twice-clause-lost g c =
+    own_refused g.I.Input.gives g.I.Input.failures g.met.I.Input.chain c.args.reach.limit _ _ _ _ _ (λ q. cc) (λ q. cc) (λ q. cc) tt c.in_ok-start.ensures.took
 
 pub returns-in-Err-Twice-clause-refused : goal.returns-in-Err-Twice-clause-refused
 returns-in-Err-Twice-clause-refused g c = grind (arith, same_Some, twice_stops)
 
 pub returns-in-Err-OutOfMemory-clause-lost : goal.returns-in-Err-OutOfMemory-clause-lost
-returns-in-Err-OutOfMemory-clause-lost g c = grind (arith, memory_refused)
+returns-in-Err-OutOfMemory-clause-lost g c =
+    memory_refused g.I.Input.gives g.I.Input.failures g.met.I.Input.chain c.args.reach.limit _ _ _ _ c.in_ok-start.ensures.took
 
 pub returns-in-Err-OutOfMemory-clause-refused : goal.returns-in-Err-OutOfMemory-clause-refused
 returns-in-Err-OutOfMemory-clause-refused g c = λ f keys is are. absurd (none-some f is)

@@ -8,7 +8,14 @@ use Rattle.avro_container.proofs.Taken.{properties_none, properties_push, next_s
 use Rattle.avro_container.proofs.header.properties.take_properties.Goals as goal
 
 pub loop-done-init : goal.loop-done-init
-loop-done-init g c = grind (arith, properties_none, takes_none)
+loop-done-init g c = (
+  takes_none g.I.Input.gives g.I.Input.failures g.met.I.Input.none c.args.reach.limit _ (held c.args.buffer.now),
+  omega arith,
+  c.requires.begins,
+  omega arith,
+  λ left few are distinct. properties_none left _ c.args.at (held c.args.buffer.now) _ c.requires.begins distinct are,
+  omega arith,
+)
 
 pub loop-done-preserved : goal.loop-done-preserved
 loop-done-preserved g c =
@@ -26,7 +33,10 @@ loop-done-preserved g c =
     )
 
 pub returns-in_err-end-clause-lost : goal.returns-in_err-end-clause-lost
-returns-in_err-end-clause-lost g c = grind (arith, err_from_is_err_and, then_refused)
+returns-in_err-end-clause-lost g c =
+    let p = err_from_is_err_and c.from_residual.result c.from_residual.ensures.1 in
+    rw (p.1, p.2) (then_refused g.I.Input.gives g.I.Input.failures g.met.I.Input.chain c.args.reach.limit _ _ _ (held c.args.buffer.now) (held c.loop-done.buffer) (held c.take_property.new.buffer)
+    c.in_err-end.field-0.0 c.loop-done.invariant.0 c.in_err-end.ensures.lost)
 
 pub returns-in_err-end-clause-refused : goal.returns-in_err-end-clause-refused
 returns-in_err-end-clause-refused g c =

@@ -1,5 +1,5 @@
 -- A head, with its size if there is one.
-use Rattle.std.proofs.Common.{arith, ◌≡◌, ◌+◌, Bool, pos, true, false, take, drop, refl, subst, rules}
+use Rattle.std.proofs.Common.{arith, ◌≡◌, ◌+◌, Bool, pos, true, take, drop, subst, rules}
 use Rattle.std.specs.Prelude.{neg_ℤ}
 use Rattle.std.proofs.lemmas.Result.{err_from_is_err_and}
 use Rattle.avro_cursor.specs.BlockHeads.{signed_count}
@@ -15,10 +15,15 @@ pub returns-in_err-is_sized-clause-refused : goal.returns-in_err-is_sized-clause
 returns-in_err-is_sized-clause-refused g c = grind (arith, err_from_is_err_and)
 
 pub returns-clause-took : goal.returns-clause-took
-returns-clause-took g c = grind (arith, takes_then)
+returns-clause-took g c =
+    takes_then g.I.Input.gives g.I.Input.failures g.met.I.Input.chain c.args.reach.limit _ _ _ (held c.args.buffer.now) (held c.take_properties_count.new.buffer) (held c.take_length.new.buffer)
+    c.in_ok-is_sized.ensures.took c.in_ok-size.ensures.took
 
 pub returns-in_err-size-clause-lost : goal.returns-in_err-size-clause-lost
-returns-in_err-size-clause-lost g c = grind (arith, err_from_is_err_and, then_refused)
+returns-in_err-size-clause-lost g c =
+    let p = err_from_is_err_and c.from_residual-in_err-size.result c.from_residual-in_err-size.ensures.1 in
+    rw (p.1, p.2) (then_refused g.I.Input.gives g.I.Input.failures g.met.I.Input.chain c.args.reach.limit _ _ _ (held c.args.buffer.now) (held c.take_properties_count.new.buffer) (held c.take_length.new.buffer)
+    c.in_err-size.field-0.0 c.in_ok-is_sized.ensures.took c.in_err-size.ensures.lost)
 
 pub returns-then-not-is_sized-clause-found : goal.returns-then-not-is_sized-clause-found
 returns-then-not-is_sized-clause-found g c = grind (arith, head_plain)

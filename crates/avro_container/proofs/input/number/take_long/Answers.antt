@@ -11,7 +11,14 @@ use Rattle.avro_container.proofs.Cut.{cut-short, cut-longer, grown-behind, not_s
 use Rattle.avro_container.proofs.input.number.take_long.Goals as goal
 
 pub returns-in-Ok-clause-within : goal.returns-in-Ok-clause-within
-returns-in-Ok-clause-within g c = grind (arith, length-take-le, take-append-drop)
+returns-in-Ok-clause-within g c =
+    let rest = c.split_at.result.1.now in
+    let found = c.in-Ok.found in
+    let same : rest ≡ drop c.args.at (held c.loop-found.buffer) = c.split_at.ensures.back ∙ ap (drop c.args.at) c.bytes.ensures in
+    let bound = c.loop-found.invariant.3 found.0 (take found.1 rest) (drop found.1 rest) c.in-Ok.ensures.found.1
+    (sym same ∙ sym (take-append-drop found.1 rest)) in
+    let long : length (take found.1 rest) ≡ found.1 = length-take-le found.1 rest c.in-Ok.ensures.found.0 in
+    subst (λ k. length (held c.loop-found.buffer) ≤ max (length (held c.args.buffer.now)) (c.args.at + k + c.args.reach.ahead)) long bound
 
 pub loop-found-smaller : goal.loop-found-smaller
 loop-found-smaller g c =
@@ -54,10 +61,17 @@ loop-found-preserved g c =
     )
 
 pub returns-in_err-fill-in-Err-EndOfInput-clause-taken : goal.returns-in_err-fill-in-Err-EndOfInput-clause-taken
-returns-in_err-fill-in-Err-EndOfInput-clause-taken g c = grind (arith, err_from_is_err_and)
+returns-in_err-fill-in-Err-EndOfInput-clause-taken g c =
+    let p = err_from_is_err_and c.from_residual.result c.from_residual.ensures.1 in
+    rw (p.1, p.2) (UnlessDevice-then c.in_err-fill-in-Err-EndOfInput.field-0.0 c.in_err-fill-in-Err-EndOfInput.ensures.taken
+    (λ grown. GrowsBy-chain g.I.Input.gives g.met.I.Input.chain _ _ _ (held c.args.buffer.now) (held c.loop-found.buffer) (held c.fill.new.buffer)
+    c.loop-found.invariant.0 grown))
 
 pub returns-in_err-fill-in-Err-EndOfInput-clause-lost : goal.returns-in_err-fill-in-Err-EndOfInput-clause-lost
-returns-in_err-fill-in-Err-EndOfInput-clause-lost g c = grind (arith, err_from_is_err_and)
+returns-in_err-fill-in-Err-EndOfInput-clause-lost g c =
+    let p = err_from_is_err_and c.from_residual.result c.from_residual.ensures.1 in
+    rw p.1 (TakesAtMost-later g.I.Input.gives g.met.I.Input.chain _ _ _ (held c.args.buffer.now) (held c.loop-found.buffer) c.args.reach.limit
+    c.loop-found.invariant.0 c.in_err-fill-in-Err-EndOfInput.ensures.lost c.loop-found.invariant.2)
 
 pub returns-in-Err-NotShortest : goal.returns-in-Err-NotShortest
 returns-in-Err-NotShortest g c = absurd (not_short _ _ c.in-Err-NotShortest.field-0-is c.in-Err-NotShortest.ensures.refused)

@@ -1,10 +1,9 @@
 -- Where a datum has no bytes, a block has one byte or none.
-use Rattle.std.proofs.Common.{arith, ◌≡◌, ◌<◌, ◌∙◌, refl, sym, ap, subst, length, rules}
+use Rattle.std.proofs.Common.{arith}
 use Rattle.std.specs.Prelude.{None}
 use Rattle.avro_schema.specs.SeenSchema.{schema_nodes}
-use Rattle.avro_schema.specs.Value.{Values}
-use Rattle.avro_container.specs.BlockFails.{BlockReading, DataAreWhole, FileLimitValues}
-use Rattle.avro_container.specs.DataRead.{IsDataFault, reading}
+use Rattle.avro_container.specs.BlockFails.{BlockReading, FileLimitValues}
+use Rattle.avro_container.specs.DataRead.{reading}
 use Rattle.avro_container.specs.declared.header.Header.{Header}
 use Rattle.avro_container.proofs.public.EmptyData.{empty-left, empty-whole}
 use Rattle.avro_container.proofs.block.checker.Checker.check.Goals as goal

@@ -1,5 +1,5 @@
 -- What is left of the bytes begins further on.
-use Rattle.std.proofs.Common.{ℕ, arith}
+use Rattle.std.proofs.Common.{arith}
 use Rattle.std.proofs.lemmas.List.{length-take, length-drop}
 use Rattle.avro_container.proofs.Rooms.{passed}
 use Rattle.avro_container.proofs.input.buffer.Buffer.pass.Goals as goal
