@@ -26,7 +26,13 @@ resolved-count resolve (value v vs) us (first, others, made, more, e) = ap value
 -- what is put of a block is its copy
 pub block_copied : (job : Job) (limits : FileLimitValues) (h : HeaderValue) (count : ℕ) (bytes packed sync : List ℕ) → sync ≡ or_else job.sync h.sync
     → (p : PacksBlock job limits h count bytes packed) → IsCopiedBlock job h p.values (block_part sync count packed)
-block_copied job limits h count bytes packed sync marked p = grind (arith, resolved-count)
+block_copied job limits h count bytes packed sync marked p =
+    let counted : count ≡ values_count p.made = sym (resolved-count (job.resolve h.nodes) p.values p.made p.resolved ∙ p.counted) in (
+      p.made,
+      p.resolved,
+      ap (λ n. block_part sync n packed) counted ∙ ap (λ b. block_part sync (values_count p.made) b) p.packed_are
+          ∙ ap (λ m. block_bytes m p.made) marked,
+    )
 
 -- a block was taken and put
 pub copies-block : {I O : Type 0} (gives : I → List ℕ → I → Type 0) (keeps : O → List ℕ → O → Type 0) (i i' : I) (o o' : O) (job : Job) (limits : FileLimitValues)
@@ -55,7 +61,11 @@ copies-block gives keeps i i' o o' job limits h number count n old mid new packe
 
 copy-fault : (job : Job) (limits : FileLimitValues) (h : HeaderValue) (number : ℕ) (ended : Type 0) (before : Stored) (bytes new : List ℕ) (f : FileFault)
     → before.header ≡ Some h → before.blocks ≡ number → bytes ≡ new → IsCopyFault job limits h number ended new f → HasFault job limits ended before bytes f
-copy-fault job limits h number ended before bytes new f is_some is_number all h12 = grind arith
+copy-fault job limits h number ended before bytes new f is_some is_number all (g, e, fails) =
+    subst (HasFault job limits ended before bytes) (sym e)
+    (HasFault.of_block h is_some (sym is_number)
+    (subst (λ n. BlockFails (reading_of job limits h) n ended bytes g) (sym is_number)
+    (subst (λ b. BlockFails (reading_of job limits h) number ended b g) (sym all) fails)))
 
 -- a block was not taken, or its data were refused
 pub refuses-block : {I O T : Type 0} (gives : I → List ℕ → I → Type 0) (keeps : O → List ℕ → O → Type 0) → ((s : O) → keeps s [] s) → (i i' : I) (o : O) (job : Job)
@@ -123,4 +133,10 @@ refuses-putting gives keeps i i' o o' job limits h number ended count n old mid 
 -- nothing was taken where nothing is held
 pub nothing-taken : {I : Type 0} (gives : I → List ℕ → I → Type 0) (i i' : I) (old new : List ℕ) → GrowsBy gives i i' old new → length new ≡ 0
     → gives i [] i' × (old ≡ []) × (new ≡ [])
-nothing-taken gives i i' old new grown empty = grind (arith, length-append, no_bytes)
+nothing-taken gives i i' old new grown empty =
+    let sum : length new ≡ length old + length grown.bytes = ap length grown.grown ∙ length-append old grown.bytes in
+    let no_more : grown.bytes ≡ [] = no_bytes grown.bytes (omega (arith, sum, empty)) in (
+      subst (λ bytes. gives i bytes i') no_more grown.taken,
+      no_bytes old (omega (arith, sum, empty)),
+      no_bytes new (omega (arith, empty)),
+    )

@@ -66,13 +66,21 @@ step-of : {I O : Type 0} (gives : I → List ℕ → I → Type 0) (keeps : O �
     (ended : Type 0) (c c' : Copier) (items blocks : ℕ) (outcome : Outcome) → HasRun gives keeps i0 i o0 o job limits c items blocks
     → (m : Moved gives keeps i i' o o' (λ taken put. Steps (job_in c) (limits_in c) ended (stored_of c) (stored_of c') taken put outcome))
     → Steps job limits ended (stored_of c) (stored_of c') m.taken m.put outcome
-step-of gives keeps i0 i i' o0 o o' job limits ended c c' items blocks outcome r m = grind arith
+step-of gives keeps i0 i i' o0 o o' job limits ended c c' items blocks outcome r m =
+    subst (λ l. Steps job l ended (stored_of c) (stored_of c') m.taken m.put outcome) r.same_limits
+    (subst (λ j. Steps j (limits_in c) ended (stored_of c) (stored_of c') m.taken m.put outcome) r.same_job m.does)
 
 -- all that was taken and put, when a step was made after a run
 moved-on : {I O : Type 0} (gives : I → List ℕ → I → Type 0) (keeps : O → List ℕ → O → Type 0) → Chains gives → Chains keeps → (i0 i i' : I) (o0 o o' : O)
     (taken put more out : List ℕ) (holds : List ℕ → List ℕ → Type 0) → gives i0 taken i → keeps o0 put o → gives i more i' → keeps o out o'
     → holds (taken ++ more) (put ++ out) → Moved gives keeps i0 i' o0 o' holds
-moved-on gives keeps chain_i chain_o i0 i i' o0 o o' taken put more out holds is_taken is_put took puts does = grind arith
+moved-on gives keeps chain_i chain_o i0 i i' o0 o o' taken put more out holds is_taken is_put took puts does = record {
+  taken = taken ++ more;
+  put = put ++ out;
+  is_taken = chain_i i0 i i' taken more is_taken took;
+  is_put = chain_o o0 o o' put out is_put puts;
+  does = does;
+}
 
 pub HasRun-header : {I O : Type 0} (gives : I → List ℕ → I → Type 0) (keeps : O → List ℕ → O → Type 0) → Chains gives → Chains keeps
     → (i0 i i' : I) (o0 o o' : O) (job : Job) (limits : FileLimitValues) (ended : Type 0) (c c' : Copier) (items blocks : ℕ)
@@ -131,22 +139,44 @@ pub HasRun-end : {I O : Type 0} (gives : I → List ℕ → I → Type 0) (keeps
     → (i0 i i' : I) (o0 o o' o'' : O) (job : Job) (limits : FileLimitValues) (ended : Type 0) (c c' : Copier) (items blocks : ℕ)
     → HasRun gives keeps i0 i o0 o job limits c items blocks → (s : Step) → s ≡ Step.End → Moves gives keeps ended i i' o o' c c' (Ok s) → keeps o' [] o''
     → CopiesFile gives keeps i0 i' o0 o'' job limits ended items blocks
-HasRun-end gives keeps chain_i chain_o i0 i i' o0 o o' o'' job limits ended c c' items blocks r s which moved flushed = grind (arith, append-nil, moved-on, step-of)
+HasRun-end gives keeps chain_i chain_o i0 i i' o0 o o' o'' job limits ended c c' items blocks r s which moved flushed =
+    let m = subst (λ q. Moves gives keeps ended i i' o o' c c' (Ok q)) which moved in
+    let does = step-of gives keeps i0 i i' o0 o o' job limits ended c c' items blocks Outcome.at_end r m in
+    let puts = subst (λ p. keeps o p o'') (append-nil m.put) (chain_o o o' o'' m.put [] m.is_put flushed) in
+    moved-on gives keeps chain_i chain_o i0 i i' o0 o o'' r.taken r.put m.taken m.put (CopiedWhole job limits ended items blocks) r.is_taken r.is_put m.is_taken puts
+    (subst (λ i. CopiedWhole job limits ended i blocks (r.taken ++ m.taken) (r.put ++ m.put)) r.sum_is
+    (subst (λ k. CopiedWhole job limits ended (sum r.counts) k (r.taken ++ m.taken) (r.put ++ m.put)) r.blocks_are
+    (CopiedWhole-end job limits (stored_of c) (stored_of c') r.counts ended r.taken r.put m.taken m.put r.done (does.gives r.goes_on.0 r.goes_on.1))))
 
 -- what was copied whole is a prefix of it
 pub CopiesFront-whole : {I O : Type 0} (gives : I → List ℕ → I → Type 0) (keeps : O → List ℕ → O → Type 0) (i0 i : I) (o0 o : O) (job : Job)
     (limits : FileLimitValues) (ended : Type 0) (items blocks : ℕ) → CopiesFile gives keeps i0 i o0 o job limits ended items blocks
     → CopiesFront gives keeps i0 i o0 o job limits
-CopiesFront-whole gives keeps i0 i o0 o job limits ended items blocks w = grind arith
+CopiesFront-whole gives keeps i0 i o0 o job limits ended items blocks w = record {
+  taken = w.taken;
+  put = w.put;
+  is_taken = w.is_taken;
+  is_put = w.is_put;
+  does = PutInAll-whole job limits ended items blocks w.taken w.put w.does;
+}
 
 pub HasRun-refused : {I O : Type 0} (gives : I → List ℕ → I → Type 0) (keeps : O → List ℕ → O → Type 0) → Chains gives → Chains keeps
     → (i0 i i' : I) (o0 o o' : O) (job : Job) (limits : FileLimitValues) (ended : Type 0) (c c' : Copier) (items blocks : ℕ) (e : CopyError)
     → HasRun gives keeps i0 i o0 o job limits c items blocks → Moves gives keeps ended i i' o o' c c' (Err e)
     → CopiesFront gives keeps i0 i' o0 o' job limits
-HasRun-refused gives keeps chain_i chain_o i0 i i' o0 o o' job limits ended c c' items blocks e r m = grind (arith, moved-on, step-of)
+HasRun-refused gives keeps chain_i chain_o i0 i i' o0 o o' job limits ended c c' items blocks e r m =
+    let does = step-of gives keeps i0 i i' o0 o o' job limits ended c c' items blocks (Outcome.refused (file_fault e)) r m in
+    moved-on gives keeps chain_i chain_o i0 i i' o0 o o' r.taken r.put m.taken m.put (PutInAll job limits) r.is_taken r.is_put m.is_taken m.is_put
+    (PutInAll-refused job limits ended (stored_of c) (stored_of c') r.counts r.taken r.put m.taken m.put (file_fault e) r.done
+    (does.gives r.goes_on.0 r.goes_on.1) does.held)
 
 pub HasRun-fault : {I O : Type 0} (gives : I → List ℕ → I → Type 0) (keeps : O → List ℕ → O → Type 0) → Chains gives → Chains keeps
     → (i0 i i' : I) (o0 o o' : O) (job : Job) (limits : FileLimitValues) (ended : Type 0) (c c' : Copier) (items blocks : ℕ) (e : CopyError) (f : FileFault)
     → HasRun gives keeps i0 i o0 o job limits c items blocks → Moves gives keeps ended i i' o o' c c' (Err e) → file_fault e ≡ Some f
     → CopiesUpTo gives keeps i0 i' o0 o' job limits ended f
-HasRun-fault gives keeps chain_i chain_o i0 i i' o0 o o' job limits ended c c' items blocks e f r m is_fault = grind (arith, moved-on, step-of)
+HasRun-fault gives keeps chain_i chain_o i0 i i' o0 o o' job limits ended c c' items blocks e f r m is_fault =
+    let does = step-of gives keeps i0 i i' o0 o o' job limits ended c c' items blocks (Outcome.refused (file_fault e)) r m in
+    moved-on gives keeps chain_i chain_o i0 i i' o0 o o' r.taken r.put m.taken m.put (λ taken put. FaultStands job limits ended taken put f)
+    r.is_taken r.is_put m.is_taken m.is_put
+    (FaultStands-refused job limits ended (stored_of c) (stored_of c') r.counts r.taken r.put m.taken m.put (file_fault e) f r.done
+    (does.gives r.goes_on.0 r.goes_on.1) is_fault)

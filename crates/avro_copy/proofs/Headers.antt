@@ -17,7 +17,10 @@ count-entries (e ∷ es) = ap suc (count-entries es)
 -- a count, the entries and the end
 pub metadata-written : (es : List (String Global × Vec ℕ Global)) (old : List ℕ) → 0 < length es
     → ((old ++ number_bytes (pos (length es))) ++ plain_entries (property_entries (properties_of es))) ++ 0 ∷ [] ≡ old ++ plain (metadata_value (properties_of es))
-metadata-written es old some = grind (arith, block-written, count-entries)
+metadata-written es old some =
+    block-written (entries_count (property_entries (properties_of es))) (length es) (plain_entries (property_entries (properties_of es))) old (count-entries es)
+    (omega (arith, some, count-entries es))
 
 pub no_metadata-written : (es : List (String Global × Vec ℕ Global)) (old : List ℕ) → length es ≡ 0 → old ++ 0 ∷ [] ≡ old ++ plain (metadata_value (properties_of es))
-no_metadata-written es old none = grind arith
+no_metadata-written [] old none = refl
+no_metadata-written (e ∷ es) old none = absurd (omega arith)

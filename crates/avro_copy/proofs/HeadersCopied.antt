@@ -42,7 +42,9 @@ copies-header gives keeps i i' o o' job limits h len old mid new none limited gr
 
 header-fault : (job : Job) (limits : FileLimitValues) (ended : Type 0) (before : Stored) (bytes new : List ℕ) (f : FileFault)
     → before.header ≡ None → bytes ≡ new → IsHeaderFault limits.header ended new f → HasFault job limits ended before bytes f
-header-fault job limits ended before bytes new f is_none all h9 = grind arith
+header-fault job limits ended before bytes new f is_none all (g, e, fails) =
+    subst (HasFault job limits ended before bytes) (sym e)
+    (HasFault.of_header is_none (subst (λ b. HeaderFails limits.header ended b g) (sym all) fails))
 
 -- a header was not taken
 pub refuses-header : {I O T : Type 0} (gives : I → List ℕ → I → Type 0) (keeps : O → List ℕ → O → Type 0) → ((s : O) → keeps s [] s) → (i i' : I) (o : O) (job : Job)

@@ -29,7 +29,8 @@ plain_made (Ok u) = Some (plain u)
 plain_made (Err e) = None
 
 made_is : (made : Resolved) (packed : List ℕ) → plain_made made ≡ Some packed → (u : Value) × (packed ≡ plain u) × (made ≡ Ok u)
-made_is made packed e = grind (arith, none-some, same_Some)
+made_is (Ok u) packed e = (u, sym (same_Some _ _ e), refl)
+made_is (Err f) packed e = absurd (none-some packed e)
 
 -- it is the datum without bytes, by equations alone
 abbrev IsEmpty : BlockReading → List ℕ → Value → Type 0
@@ -40,7 +41,9 @@ IsEmpty-prop : (r : BlockReading) (packed : List ℕ) (v : Value) → IsProp (Is
 IsEmpty-prop r packed v = hlevel (codes, props)
 
 same-empty : Prefix → PlainEncodes → (r : BlockReading) (packed : List ℕ) (v w : Value) → is_schema r.nodes ≡ true → IsEmpty r packed v → IsEmpty r packed w → v ≡ w
-same-empty prefix law r packed v w formed p q = grind arith
+same-empty prefix law r packed v w formed p q =
+    (prefix r.nodes (root_of r.nodes) v w (plain v) (plain w) [] [] (law r.nodes 0 v formed p.0) (law r.nodes 0 w formed q.0)
+    (ap (λ b. b ++ []) (p.1 ∙ sym q.1))).1
 
 pub known : Prefix → PlainEncodes → (r : BlockReading) (packed : List ℕ) → is_schema r.nodes ≡ true → ∥ PacksNoBytes r packed ∥₁ → PacksNoBytes r packed
 known prefix law r packed formed mere =
@@ -66,8 +69,10 @@ known prefix law r packed formed mere =
 
 pub known-some : Prefix → PlainEncodes → {T : Type 0} (items : T → List ℕ) (r : BlockReading) (o : Option T) → is_schema r.nodes ≡ true
     → ForSome o (λ unit. ∥ PacksNoBytes r (items unit) ∥₁) → IfSome o (λ unit. PacksNoBytes r (items unit))
-known-some prefix law items r o formed h = grind (arith, known)
+known-some prefix law items r None formed h = tt
+known-some prefix law items r (Some unit) formed h = known prefix law r (items unit) formed (h unit refl)
 
 pub merely-some : {T : Type 0} (items : T → List ℕ) (r : BlockReading) (o : Option T) → IfSome o (λ unit. PacksNoBytes r (items unit))
     → ForSome o (λ unit. ∥ PacksNoBytes r (items unit) ∥₁)
-merely-some items r o h = grind (arith, merely, none-some, same_Some)
+merely-some items r None h = λ unit is. absurd (none-some unit is)
+merely-some items r (Some one) h = λ unit is. merely (subst (λ u. PacksNoBytes r (items u)) (same_Some _ _ is) h)

@@ -28,11 +28,15 @@ TakesOne r before after bytes fits len =
 
 pub takes-within : (r : BlockReading) (before after bytes : List ℕ) (fits : Bool) (len : ℕ) → fits ≡ true → TakesOne r before after bytes fits len
     → PacksOne r before after bytes len × (length after ≤ r.limits.block)
-takes-within r before after bytes fits len is takes = grind arith
+takes-within r before after bytes fits len is takes =
+    let found = subst (λ b. TakesOne r before after bytes b len) is takes in
+    ((found.0, found.1.0, found.2), found.1.1)
 
 pub takes-over : (r : BlockReading) (before after bytes : List ℕ) (fits : Bool) (len : ℕ) → fits ≡ false → TakesOne r before after bytes fits len
     → (next : List ℕ) × PacksOne r before next bytes len × (r.limits.block < length next)
-takes-over r before after bytes fits len is takes = grind arith
+takes-over r before after bytes fits len is takes =
+    let found = subst (λ b. TakesOne r before after bytes b len) is takes in
+    (before ++ plain found.0, (found.0, refl, found.2), found.1.1)
 
 pub pack-none : (r : BlockReading) (packed : List ℕ) → packed ≡ [] → PacksData r 0 [] packed
 pack-none r packed none = record { made = no_values; whole = whole-none r; packed_are = none }
@@ -63,10 +67,22 @@ pack-more r done start len body before after packs found fits =
 pub pack-next : (r : BlockReading) (count done start len : ℕ) (body before after : List ℕ) → done < count → start ≤ length body
     → PacksData r done (take start body) before → PacksOne r before after (drop start body) len → length after ≤ r.limits.block
     → (start + len ≤ length body) × (done + 1 ≤ count) × PacksData r (done + 1) (take (start + len) body) after
-pack-next r count done start len body before after few inside packs found fits = grind (arith, length-drop, pack-more)
+pack-next r count done start len body before after few inside packs found fits = (
+  omega (arith, inside, found.2.in_bytes, length-drop start body),
+  omega (arith, few),
+  pack-more r done start len body before after packs found fits,
+)
 
 -- one datum too many
 pub pack-over : (r : BlockReading) (number count m start len : ℕ) (body before after : List ℕ) (f : FileFault) → m < count → PacksData r m (take start body) before
     → PacksOne r before after (drop start body) len → r.copied ≡ true → r.limits.block < length after
     → Some (in_block number limit_passed) ≡ Some f → IsDataFault r number count body f
-pack-over r number count m start len body before after f few packs found copied over is = grind (arith, datum_stands, same_Some)
+pack-over r number count m start len body before after f few packs found copied over is =
+    let u = found.0 in
+    let made = found.2 in (
+      limit_passed,
+      sym (same_Some _ _ is),
+      DataFail.too_much m (take start body) packs.made made.datum u few packs.whole
+          (datum_stands r start len body (Ok u) made) made.resolves
+          (copied, subst (λ b. r.limits.block < length b) (found.1 ∙ ap (λ b. b ++ plain u) packs.packed_are) over),
+    )

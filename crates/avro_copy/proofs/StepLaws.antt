@@ -48,7 +48,11 @@ AreCopiedBlocks-push job h (block ∷ blocks) vs bytes more (first, rest, is, ot
 
 IsCopied-push : (job : Job) (h : HeaderValue) (blocks : List Values) (vs : Values) (bytes more : List ℕ) → IsCopied job h blocks bytes
     → IsCopiedBlock job h vs more → IsCopied job h (blocks ++ vs ∷ []) (bytes ++ more)
-IsCopied-push job h blocks vs bytes more h6 b = grind (arith, AreCopiedBlocks-push, append_assoc)
+IsCopied-push job h blocks vs bytes more (rest, copied, e) b = (
+  rest ++ more,
+  AreCopiedBlocks-push job h blocks vs rest more copied b,
+  ap (λ all. all ++ more) e ∙ append_assoc (copied_header job h) rest more,
+)
 
 total_data-sum : (blocks : List Values) → total_data blocks ≡ sum (map values_count blocks)
 total_data-sum [] = refl
@@ -60,12 +64,28 @@ one-longer blocks vs = length-append blocks (vs ∷ [])
 -- a header alone
 BeginsWith-header : (limits : FileLimitValues) (h : HeaderValue) (header bytes rest : List ℕ) → IsHeader h header → length header ≤ limits.header
     → bytes ≡ header ++ rest → BeginsWith limits h [] bytes rest
-BeginsWith-header limits h header bytes rest is within e = grind (arith, append-nil)
+BeginsWith-header limits h header bytes rest is within e = record {
+  header_bytes = header;
+  block_bytes = [];
+  is_header = is;
+  within = within;
+  are_blocks = refl;
+  few = omega arith;
+  split = e ∙ ap (λ front. front ++ rest) (sym (append-nil header));
+}
 
 -- more bytes after them
 BeginsWith-more : (limits : FileLimitValues) (h : HeaderValue) (blocks : List Values) (bytes rest more : List ℕ) → BeginsWith limits h blocks bytes rest
     → BeginsWith limits h blocks (bytes ++ more) (rest ++ more)
-BeginsWith-more limits h blocks bytes rest more b = grind (arith, append_assoc)
+BeginsWith-more limits h blocks bytes rest more b = record {
+  header_bytes = b.header_bytes;
+  block_bytes = b.block_bytes;
+  is_header = b.is_header;
+  within = b.within;
+  are_blocks = b.are_blocks;
+  few = b.few;
+  split = ap (λ front. front ++ more) b.split ∙ append_assoc (b.header_bytes ++ b.block_bytes) rest more;
+}
 
 -- one block more
 BeginsWith-push : (limits : FileLimitValues) (h : HeaderValue) (blocks : List Values) (vs : Values) (bytes rest block after : List ℕ)
@@ -135,7 +155,13 @@ Done-run job limits s counts taken put (Run.block {s = before} {counts = i} {tak
 -- a file that is copied whole
 IsFile-whole : (limits : FileLimitValues) (h : HeaderValue) (blocks : List Values) (bytes : List ℕ) → BeginsWith limits h blocks bytes []
     → IsFile h blocks bytes
-IsFile-whole limits h blocks bytes b = grind (arith, AreBlocks-within, append-nil)
+IsFile-whole limits h blocks bytes b = record {
+  header = b.header_bytes;
+  rest = b.block_bytes;
+  is_header = b.is_header;
+  are_blocks = AreBlocks-within limits h blocks b.block_bytes b.are_blocks;
+  split = b.split ∙ append-nil (b.header_bytes ++ b.block_bytes);
+}
 
 -- at the end the whole file was copied
 pub CopiedWhole-end : (job : Job) (limits : FileLimitValues) (s t : Stored) (counts : List ℕ) (ended : Type 0) (taken put more out : List ℕ)
@@ -159,7 +185,9 @@ CopiedWhole-end job limits s t counts ended taken put more out (Done.some h has)
 
 -- what follows a front is no longer than the whole
 rest-short : (all front rest : List ℕ) (most : ℕ) → all ≡ front ++ rest → length all ≤ most → length rest ≤ most
-rest-short all front rest most e short = grind (arith, length-append)
+rest-short all front rest most e short =
+    let sum : length all ≡ length front + length rest = ap length e ∙ length-append front rest in
+    omega (arith, sum, short)
 
 -- a refused step puts a front
 PutInAll-front : (job : Job) (limits : FileLimitValues) (s : Stored) (counts taken put more out : List ℕ) → Done job limits s counts taken put
@@ -194,12 +222,14 @@ PutInAll-front job limits s counts taken put more out (Done.some h has) (PutsFro
 pub PutInAll-refused : (job : Job) (limits : FileLimitValues) (ended : Type 0) (s t : Stored) (counts taken put more out : List ℕ) (fault : Option FileFault)
     → Done job limits s counts taken put → RefusedStep job limits ended s t more out fault → length (s.ahead ++ more) ≤ most_ahead limits
     → PutInAll job limits (taken ++ more) (put ++ out)
-PutInAll-refused job limits ended s t counts taken put more out fault done step held = grind (arith, PutInAll-front)
+PutInAll-refused job limits ended s t counts taken put more out fault done step held =
+    PutInAll-front job limits s counts taken put more out done step.refusal.puts held
 
 -- what was copied whole is a front too
 pub PutInAll-whole : (job : Job) (limits : FileLimitValues) (ended : Type 0) (items blocks : ℕ) (taken put : List ℕ)
     → CopiedWhole job limits ended items blocks taken put → PutInAll job limits taken put
-PutInAll-whole job limits ended items blocks taken put w = grind (arith, append-nil)
+PutInAll-whole job limits ended items blocks taken put w =
+    PutInAll.front w.header w.blocks [] put [] w.within (omega arith) w.is_copy (sym (append-nil put))
 
 -- a fault of a step stands after all that was copied before it
 FaultStands-done : (job : Job) (limits : FileLimitValues) (s : Stored) (ended : Type 0) (counts taken put more out : List ℕ)
@@ -222,24 +252,35 @@ FaultStands-done job limits s ended counts taken put more out f (Done.some h has
 pub FaultStands-refused : (job : Job) (limits : FileLimitValues) (ended : Type 0) (s t : Stored) (counts taken put more out : List ℕ)
     (fault : Option FileFault) (f : FileFault) → Done job limits s counts taken put → RefusedStep job limits ended s t more out fault → fault ≡ Some f
     → FaultStands job limits ended (taken ++ more) (put ++ out) f
-FaultStands-refused job limits ended s t counts taken put more out fault f done step is_fault = grind (arith, FaultStands-done)
+FaultStands-refused job limits ended s t counts taken put more out fault f done step is_fault =
+    let there = step.refusal.there f is_fault in
+    FaultStands-done job limits s ended counts taken put more out f done there.0 there.1
 
 -- what a step takes is bounded
 TakenAhead-done : (job : Job) (limits : FileLimitValues) (s : Stored) (counts taken put more : List ℕ) → Done job limits s counts taken put
     → length (s.ahead ++ more) ≤ most_ahead limits → TakenAhead job limits (taken ++ more) put
-TakenAhead-done job limits s counts taken put more h7 held = grind (arith, BeginsWith-more)
+TakenAhead-done job limits s counts taken put more (Done.none_yet none no_block zero whole nothing) held =
+    TakenAhead.none_yet nothing (subst (λ (all : List ℕ). length (all ++ more) ≤ most_ahead limits) (sym whole) held)
+TakenAhead-done job limits s counts taken put more (Done.some h has) held =
+    TakenAhead.some h has.blocks (s.ahead ++ more) (BeginsWith-more limits h has.blocks taken s.ahead more has.begins) held has.copied
 
 -- the laws of runs
 pub run_ends_lem : (job : Job) (limits : FileLimitValues) (ended : Type 0) (s t : Stored) (counts taken put more out : List ℕ)
     → Run job limits s counts taken put → EndStep ended s t more out → CopiedWhole job limits ended (sum counts) s.blocks (taken ++ more) (put ++ out)
-run_ends_lem job limits ended s t counts taken put more out run step = grind (arith, CopiedWhole-end, Done-run)
+run_ends_lem job limits ended s t counts taken put more out run step =
+    CopiedWhole-end job limits s t counts ended taken put more out (Done-run job limits s counts taken put run) step
 
 pub run_refused_lem : (job : Job) (limits : FileLimitValues) (ended : Type 0) (s t : Stored) (counts taken put more out : List ℕ) (fault : Option FileFault)
     → Run job limits s counts taken put → RefusedStep job limits ended s t more out fault → length (s.ahead ++ more) ≤ most_ahead limits
     → PutInAll job limits (taken ++ more) (put ++ out)
     × ((f : FileFault) → fault ≡ Some f → FaultStands job limits ended (taken ++ more) (put ++ out) f)
-run_refused_lem job limits ended s t counts taken put more out fault run step held = grind (arith, Done-run, FaultStands-refused, PutInAll-refused)
+run_refused_lem job limits ended s t counts taken put more out fault run step held =
+    let done = Done-run job limits s counts taken put run in (
+      PutInAll-refused job limits ended s t counts taken put more out fault done step held,
+      λ f is_fault. FaultStands-refused job limits ended s t counts taken put more out fault f done step is_fault,
+    )
 
 pub run_bounded_lem : (job : Job) (limits : FileLimitValues) (ended : Type 0) (s t : Stored) (counts taken put more out : List ℕ) (outcome : Outcome)
     → Run job limits s counts taken put → Steps job limits ended s t more out outcome → TakenAhead job limits (taken ++ more) put
-run_bounded_lem job limits ended s t counts taken put more out outcome run step = grind (arith, Done-run, TakenAhead-done)
+run_bounded_lem job limits ended s t counts taken put more out outcome run step =
+    TakenAhead-done job limits s counts taken put more (Done-run job limits s counts taken put run) step.held

@@ -1,5 +1,5 @@
 -- A block stands, and its data are packed.
-use Rattle.std.proofs.Common.{arith, ◌≡◌, ◌+◌, List, ℕ, length, take, drop, ap, sym, subst, ◌∙◌, refl}
+use Rattle.std.proofs.Common.{◌≡◌, ◌+◌, List, ℕ, length, take, drop, ap, sym, subst, ◌∙◌, refl}
 use Rattle.std.proofs.lemmas.Result.{err_from_is_err_and}
 use Rattle.avro_container.specs.BlockStands.{BlockStands}
 use Rattle.avro_container.specs.DataRead.{IsDataFault}
@@ -39,4 +39,6 @@ returns-in_err-pack_data-in-Some-clause-refused g c =
     (head.start + head.size + 16) _ new f whole (rw c.in-Some.is at c.in_ok-take_block.ensures.few) stands fault)
 
 pub returns-in_err-take_block-clause-refused : goal.returns-in_err-take_block-clause-refused
-returns-in_err-take_block-clause-refused g c = grind (arith, err_from_is_err_and)
+returns-in_err-take_block-clause-refused g c =
+    let p = err_from_is_err_and c.from_residual.result c.from_residual.ensures.1 in
+    rw (p.1, p.2) (λ f is. c.in_err-take_block.ensures.refused f is (reading_for c.args.block.now) refl (sym c.sync-sync.ensures.marker))

@@ -48,7 +48,16 @@ loop-datum-preserved-in_ok-unit-in-Ok-2 c =
     )
 
 pub returns-then-not-fits-clause-refused : goal.returns-then-not-fits-clause-refused
-returns-then-not-fits-clause-refused c = grind (arith, pack-over, takes-over)
+returns-then-not-fits-clause-refused c = λ f is.
+    let r = reading_for c.args.block.now in
+    let before = c.loop-datum.packed.items in
+    let after = c.pack_datum.new.packed.items in
+    let no : c.in-Ok.fits ≡ false = search rules in
+    let takes = subst (λ (bytes : List ℕ). TakesOne r before after bytes c.in-Ok.fits c.in-Ok.len) c.split_at.ensures.back (c.in-Ok.ensures c.datum-limits.ensures).found in
+    let over = takes-over r before after _ c.in-Ok.fits c.in-Ok.len no takes in
+    let few : c.loop-datum.datum < c.args.count = search rules in
+    pack-over r c.args.block.now.number c.args.count c.loop-datum.datum c.loop-datum.start c.in-Ok.len c.args.body.now before over.0 f
+    few c.loop-datum.invariant.2 over.1 refl over.2 is
 
 pub datum_error-requires : goal.datum_error-requires
 datum_error-requires c =
@@ -65,4 +74,10 @@ datum_error-requires c =
     }
 
 pub returns-in-Err-clause-refused : goal.returns-in-Err-clause-refused
-returns-in-Err-clause-refused c = grind (arith, datum_fails)
+returns-in-Err-clause-refused c = λ f is.
+    let r = reading_for c.args.block.now in
+    let refuses = subst (λ (bytes : List ℕ). PacksNext r c.loop-datum.packed.items c.pack_datum.new.packed.items bytes (Err c.in-Err.error))
+    c.split_at.ensures.back (c.in-Err.ensures c.datum-limits.ensures) in
+    let few : c.loop-datum.datum < c.args.count = search rules in
+    datum_fails _ r c.args.block.now.number c.args.count c.loop-datum.datum c.loop-datum.start c.args.body.now c.loop-datum.invariant.2.made c.in-Err.error f
+    few c.loop-datum.invariant.0 c.loop-datum.invariant.2.whole refuses (sym c.datum_error.ensures.fault ∙ is)
