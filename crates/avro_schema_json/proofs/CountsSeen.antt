@@ -1,5 +1,5 @@
 -- An object is a default only of records that have as many fields as it has members.
-use Rattle.avro_schema_json.proofs.Words.{arith, ◌≡◌, ℕ, zero, suc, Bool, true, false, ◌||◌, List, [], ◌∷◌, length, map, Option, Some, option_and_then, refl, sym, ap, subst, ◌∙◌, Ordering, list_any, IsEquivalence, both_ways, slice_cmp, or-true, and_parts, false≢true, is_eq-slice_cmp, bytes_eq-Decides, none-some, Members, no_members, member, get_member, value, Node, FieldNode, node_at, default_of, default_under, fields_default, member_keys, names_only, default_of_fields}
+use Rattle.avro_schema_json.proofs.Words.{arith, ◌≡◌, ℕ, zero, suc, Bool, true, ◌||◌, List, [], ◌∷◌, length, map, Option, Some, option_and_then, refl, sym, ap, subst, ◌∙◌, Ordering, list_any, IsEquivalence, both_ways, slice_cmp, or-true, and_parts, false≢true, is_eq-slice_cmp, bytes_eq-Decides, none-some, Members, no_members, member, get_member, value, Node, FieldNode, node_at, default_of, default_under, fields_default, member_keys, names_only, default_of_fields}
 use Rattle.std.specs.Prelude.{is_some, slice_get, bytes_eq}
 use Rattle.std.specs.List.{IsDistinct}
 use Rattle.std.specs.Ordering.{nat_cmp, is_eq}

@@ -1,5 +1,5 @@
 -- Which rows cover a text, and an object by how many members it has.
-use Rattle.avro_schema_json.proofs.Words.{arith, ◌≡◌, ℕ, suc, true, false, ◌==◌, List, [], ◌∷◌, length, Option, Some, None, option_map, option_and_then, refl, sym, ap, subst, ◌∙◌, Less, AllByRecursion, Vec, string_cmp, false≢true, Decides-eqb, length-map, is_eq-slice_cmp, Node, node_at, Value, Data, Members, members_view, Entry, symbol_index, text_default, bytes_of_text, object_default, entries_default, default_under, member_keys, only_if, place_of, Covers, kind_of, HasKind, AreKinds, AreNamesDistinct, has_place, symbols_of, HasSymbol, AreSymbols, Row}
+use Rattle.avro_schema_json.proofs.Words.{arith, ◌≡◌, ℕ, suc, true, false, ◌==◌, List, [], ◌∷◌, length, Option, Some, option_map, option_and_then, refl, sym, ap, subst, ◌∙◌, Less, AllByRecursion, Vec, string_cmp, false≢true, length-map, is_eq-slice_cmp, Node, node_at, Value, Data, Members, members_view, Entry, symbol_index, text_default, bytes_of_text, object_default, entries_default, default_under, member_keys, only_if, place_of, Covers, kind_of, HasKind, AreKinds, AreNamesDistinct, has_place, symbols_of, HasSymbol, AreSymbols, Row}
 use Rattle.std.specs.Prelude.{is_some, String, string_bytes, bytes_eq}
 use Rattle.std.specs.declared.alloc.Global.{Global}
 use Rattle.std.specs.List.{IsDistinct}

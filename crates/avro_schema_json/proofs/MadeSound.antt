@@ -1,5 +1,5 @@
 -- No fault of a tree says that the text is not JSON, or that memory ran out.
-use Rattle.avro_schema_json.proofs.Words.{◌≡◌, ℕ, zero, suc, ◌+◌, ◌<◌, Bool, true, false, not, List, [], ◌∷◌, ◌++◌, Option, Some, None, Result, Ok, Err, length, refl, arith, nat_lt, subst, Ordering, map, Contains, slice_index_or, codes, is_some, ok_or, if◌then◌else◌, nat_cmp, list_all, match_ordering, slice_cmp, and_parts, list_all-append, Name, has_dot, name_of, Node, max_nodes, NodeFault, faults_of_nodes, Data, Items, no_items, item, Members, no_members, member, get_member, SchemaError, unless, needed, text_in, namespace_from, name_from, name_in, alias_texts_from, aliases_in, default_symbol_from, symbols_in, size_in, has_float, faults_of, refusals_of_nodes, or_else, HasFault, completed_nodes, are_all_defaults_read, refusal_of_fault, RawField, Known, Made, Meaning, faulty, in_turn, use_of, id_of, reference, Word, null_word, boolean_word, int_word, long_word, bytes_word, string_word, unsupported_word, type_name, word_of, type_of_word, union_of, container_of, name_faults, record_named, enum_named, fixed_named, definition_of, Form, record_form, enum_form, fixed_form, array_form, map_form, error_form, word_form, no_form, form_of, type_of_form, field_of, no_field, meaning_of, branches_of, meaning_under, fields_under, fields_from, field_meanings, field_meaning, made_of}
+use Rattle.avro_schema_json.proofs.Words.{◌≡◌, ℕ, zero, suc, ◌+◌, ◌<◌, Bool, true, false, not, List, [], ◌∷◌, ◌++◌, Option, Some, None, Result, Ok, Err, length, refl, arith, nat_lt, subst, Ordering, map, Contains, slice_index_or, codes, is_some, ok_or, if◌then◌else◌, nat_cmp, list_all, match_ordering, slice_cmp, and_parts, list_all-append, Name, has_dot, name_of, Node, max_nodes, NodeFault, faults_of_nodes, Data, Items, no_items, item, Members, no_members, member, get_member, SchemaError, unless, needed, text_in, namespace_from, name_from, name_in, alias_texts_from, aliases_in, default_symbol_from, symbols_in, size_in, has_float, faults_of, refusals_of_nodes, or_else, HasFault, completed_nodes, are_all_defaults_read, refusal_of_fault, RawField, Known, Made, Meaning, faulty, in_turn, use_of, id_of, reference, Word, word_of, type_of_word, union_of, container_of, name_faults, record_named, enum_named, fixed_named, definition_of, Form, record_form, enum_form, fixed_form, array_form, map_form, error_form, word_form, no_form, form_of, type_of_form, field_of, no_field, meaning_of, branches_of, meaning_under, fields_under, fields_from, field_meanings, field_meaning, made_of}
 
 -- a fault that a tree can have
 abbrev is_of_tree : SchemaError → Bool

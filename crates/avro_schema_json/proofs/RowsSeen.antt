@@ -1,5 +1,5 @@
 -- Rows of bits, word by word.
-use Rattle.avro_schema_json.proofs.Words.{◌≡◌, ◌≢◌, ℕ, ◌/◌, ◌%◌, ◌^◌, ◌*◌, ◌<◌, Bool, true, false, ◌==◌, List, length, get_or, set, refl, arith, bit_at, bit_or, get_or-set_same, get_or-set_other, bit_at_or, bit_at_and, bit_at-lt, bit_at_set_same, bit_at-zero, Decides-eqb, has_place, IsWithin, ◌≤◌}
+use Rattle.avro_schema_json.proofs.Words.{◌≡◌, ℕ, ◌/◌, ◌%◌, ◌^◌, ◌*◌, ◌<◌, Bool, true, false, ◌==◌, List, length, get_or, set, refl, arith, bit_at, bit_or, get_or-set_same, get_or-set_other, bit_at_or, bit_at_and, bit_at-lt, bit_at_set_same, bit_at-zero, Decides-eqb, has_place, IsWithin, ◌≤◌}
 unfoldable use Rattle.avro_schema_json.specs.inside.Parents.{has_bit}
 use Rattle.std.specs.Prelude.{nat_lt}
 use Rattle.std.proofs.lemmas.List.{get_or_past}

@@ -1,4 +1,4 @@
-use Rattle.avro_schema_json.proofs.Words.{◌≡◌, [], ◌∷◌, length, length-append, option_map, sym, ap, ◌∙◌, arith, rules, node_at, value_of, ids_of, Value, Data, view, items_view, members_view, view-lookup, each_default, entries_default, fields_seen, member_at, nodes_of}
+use Rattle.avro_schema_json.proofs.Words.{◌≡◌, [], ◌∷◌, length, length-append, option_map, sym, ap, ◌∙◌, arith, rules, node_at, value_of, Data, view, items_view, members_view, view-lookup, each_default, entries_default, fields_seen, member_at, nodes_of}
 use Rattle.std.specs.Vec.{vec_len}
 use Rattle.avro_schema.proofs.public.DatumViews.{value_of-Map}
 use Rattle.avro_schema_json.proofs.DefaultsSeen.{default-no_union, default-union, entries_end}

@@ -1,4 +1,4 @@
-use Rattle.avro_schema_json.proofs.Words.{◌≡◌, Option, Some, None, Bor, refl, ap, ◌∙◌, arith, option_map, unwrap_or, KeptNode as RawNode, without_defaults, node_or_null}
+use Rattle.avro_schema_json.proofs.Words.{◌≡◌, Option, Bor, arith, option_map, unwrap_or, KeptNode as RawNode, without_defaults, node_or_null}
 use Rattle.avro_schema_json.proofs.DefaultsSeen.{node_at-raws}
 use Rattle.avro_schema_json.proofs.raw_nodes.raw_at.Goals as goal
 

@@ -1,4 +1,4 @@
-use Rattle.avro_schema_json.proofs.Words.{arith, ◌≡◌, ◌⊎◌, inl, inr, true, false, List, [], Result, Ok, Err, sym, ◌∙◌, Contains, IfOk, IfErr, OnOk, err_from_is_err_and, schema_nodes, is_schema, Schema, Data, has_float, view, SchemaError, RawNode, made_of, unless, refusals_of_nodes, or_else, HasFault, completed_nodes, are_all_defaults_read, DeclaresSchema, raw_nodes_of}
+use Rattle.avro_schema_json.proofs.Words.{◌≡◌, ◌⊎◌, inl, inr, true, false, List, [], Result, Ok, Err, sym, ◌∙◌, Contains, IfOk, IfErr, OnOk, err_from_is_err_and, schema_nodes, is_schema, Schema, Data, has_float, view, SchemaError, RawNode, made_of, unless, refusals_of_nodes, or_else, HasFault, completed_nodes, are_all_defaults_read, DeclaresSchema, raw_nodes_of}
 use Rattle.avro_schema_json.proofs.MadeSound.{made_fault, fault-other}
 use Rattle.avro_schema_json.proofs.ReadSeen.{declared-found, fault-found}
 use Rattle.avro_schema_json.proofs.read.declared_schema.Goals as goal

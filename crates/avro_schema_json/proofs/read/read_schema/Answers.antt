@@ -1,4 +1,4 @@
-use Rattle.avro_schema_json.proofs.Words.{arith, ◌≡◌, ◌⊎◌, inl, inr, List, ℕ, Some, None, Result, Ok, Err, ap, sym, ◌∙◌, IfErr, Node, Schema, Data, view, SchemaError, HasFault, declared, DeclaresSchema}
+use Rattle.avro_schema_json.proofs.Words.{◌≡◌, ◌⊎◌, inl, inr, List, ℕ, Some, None, Result, Ok, Err, ap, sym, ◌∙◌, IfErr, Node, Schema, Data, view, SchemaError, HasFault, declared, DeclaresSchema}
 use Rattle.avro_schema_json.specs.Declaration.{HasTree}
 use Rattle.avro_schema_json.proofs.DeclarationLaws.{none_declared-from_fault}
 use Rattle.avro_schema_json.proofs.read.read_schema.Goals as goal

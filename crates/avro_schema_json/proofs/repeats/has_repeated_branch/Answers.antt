@@ -1,4 +1,4 @@
-use Rattle.avro_schema_json.proofs.Words.{arith, sym, ◌∙◌, ids_of}
+use Rattle.avro_schema_json.proofs.Words.{arith}
 use Rattle.avro_schema_json.proofs.RepeatsSeen.{some-repeats}
 use Rattle.avro_schema_json.proofs.repeats.has_repeated_branch.Goals as goal
 

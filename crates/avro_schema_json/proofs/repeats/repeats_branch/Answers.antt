@@ -1,4 +1,4 @@
-use Rattle.avro_schema_json.proofs.Words.{arith, sym, ◌∙◌, all_without_defaults}
+use Rattle.avro_schema_json.proofs.Words.{arith, all_without_defaults}
 use Rattle.avro_schema_json.proofs.RepeatsSeen.{repeat-found, repeat-next}
 use Rattle.avro_schema_json.proofs.repeats.repeats_branch.Goals as goal
 

@@ -1,4 +1,4 @@
-use Rattle.avro_schema_json.proofs.Words.{arith, ◌≡◌, List, ℕ, false, Option, Some, None, refl, sym, ap, ◌∙◌, slice_get, string_bytes, is_some, label_of, btree_map_updates_str, fields_seen, KeptField as RawField}
+use Rattle.avro_schema_json.proofs.Words.{arith, ◌≡◌, List, ℕ, false, Option, None, refl, sym, ap, ◌∙◌, slice_get, string_bytes, is_some, label_of, btree_map_updates_str, fields_seen, KeptField as RawField}
 use Rattle.avro_schema_json.proofs.DefaultSteps.{field_at-found}
 use Rattle.avro_schema_json.proofs.RawSeen.{field_item, fields_past}
 use Rattle.avro_schema_json.proofs.RepeatsSeen.{name-found, names-next, new-next, none-left}

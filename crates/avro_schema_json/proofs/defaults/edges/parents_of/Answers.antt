@@ -1,4 +1,4 @@
-use Rattle.avro_schema_json.proofs.Words.{arith, ◌+◌, subst, ◌∙◌, false≢true, place_of, all_without_defaults, without_defaults, Label, IsParent, HasSymbols}
+use Rattle.avro_schema_json.proofs.Words.{◌+◌, subst, ◌∙◌, false≢true, place_of, all_without_defaults, without_defaults, Label, IsParent, HasSymbols}
 use Rattle.avro_schema_json.proofs.NodesSeen.{next-node, all-nodes}
 use Rattle.avro_schema_json.proofs.ParentsSeen.{null-parent, parent-kept, has-kept}
 use Rattle.avro_schema_json.proofs.defaults.edges.parents_of.Goals as goal

@@ -1,4 +1,4 @@
-use Rattle.avro_schema_json.proofs.Words.{arith, sym, ap, ◌∙◌, field_without_default, all_without_defaults, fields_seen, label_of, IsField, raw_field_of}
+use Rattle.avro_schema_json.proofs.Words.{sym, ap, ◌∙◌, field_without_default, all_without_defaults, fields_seen, label_of, IsField, raw_field_of}
 use Rattle.avro_schema_json.proofs.EachSeen.{mapped-twice, before-next, before-all}
 use Rattle.avro_schema_json.proofs.ParentsSeen.{keeps-on, names-on, field-kept}
 use Rattle.avro_schema_json.proofs.RawSeen.{fields_past}

@@ -1,4 +1,4 @@
-use Rattle.avro_schema_json.proofs.Words.{arith, sym, btree_map_updates_str}
+use Rattle.avro_schema_json.proofs.Words.{sym, btree_map_updates_str}
 use Rattle.avro_schema_json.proofs.ParentsSeen.{label-kept}
 use Rattle.avro_schema_json.proofs.defaults.edges.put_label.Goals as goal
 

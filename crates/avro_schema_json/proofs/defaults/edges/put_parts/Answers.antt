@@ -1,4 +1,4 @@
-use Rattle.avro_schema_json.proofs.Words.{arith, get_or, subst, ids_of, NodeId, place_of, has_bit, words_of}
+use Rattle.avro_schema_json.proofs.Words.{get_or, subst, ids_of, NodeId, place_of, has_bit, words_of}
 use Rattle.avro_schema_json.proofs.EachSeen.{mapped-get, before-next}
 use Rattle.avro_schema_json.proofs.ParentsSeen.{keeps-on, parts-all}
 use Rattle.avro_schema_json.proofs.defaults.edges.put_parts.Goals as goal

@@ -1,4 +1,4 @@
-use Rattle.avro_schema_json.proofs.Words.{arith, ◌+◌, ap, sym, ◌∙◌, Label, label_of, HasSymbol}
+use Rattle.avro_schema_json.proofs.Words.{◌+◌, ap, sym, ◌∙◌, Label, label_of, HasSymbol}
 use Rattle.avro_schema_json.proofs.ParentsSeen.{keeps-on, names-on, has-kept}
 use Rattle.avro_schema_json.proofs.SymbolsSeen.{next-word, all-words}
 use Rattle.avro_schema_json.proofs.defaults.edges.put_symbols.Goals as goal

@@ -1,4 +1,4 @@
-use Rattle.avro_schema_json.proofs.Words.{arith, ℕ, List, ap, ◌∙◌, list_any, member_keys, names_only, fields_seen, members_view}
+use Rattle.avro_schema_json.proofs.Words.{ℕ, List, ap, ◌∙◌, list_any, member_keys, names_only, fields_seen, members_view}
 use Rattle.avro_schema_json.proofs.NamesSeen.{is_named, key_named, key_unnamed}
 use Rattle.avro_schema_json.proofs.defaults.fields.names_fields.Goals as goal
 

@@ -1,4 +1,4 @@
-use Rattle.avro_schema_json.proofs.Words.{arith, list_any, slice_cmp, get_by, btree_map_updates_str, fields_seen}
+use Rattle.avro_schema_json.proofs.Words.{list_any, slice_cmp, get_by, btree_map_updates_str, fields_seen}
 use Rattle.std.specs.Prelude.{is_some}
 use Rattle.std.specs.Ordering.{nat_cmp}
 use Rattle.avro_schema_json.proofs.NamesSeen.{is_named, name_next, names_end}

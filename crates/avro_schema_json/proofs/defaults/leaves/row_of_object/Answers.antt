@@ -1,4 +1,4 @@
-use Rattle.avro_schema_json.proofs.Words.{arith, ℕ, sym, subst, ◌∙◌, members_view, HasKind}
+use Rattle.avro_schema_json.proofs.Words.{ℕ, sym, subst, ◌∙◌, members_view, HasKind}
 use Rattle.avro_schema_json.proofs.LeavesSeen.{object-kind, keys-distinct, keys-count}
 use Rattle.avro_schema_json.proofs.defaults.leaves.row_of_object.Goals as goal
 

@@ -1,4 +1,4 @@
-use Rattle.avro_schema_json.proofs.Words.{ℕ, List, [], ◌∷◌, arith, length, length-append, refl, ap, ◌∙◌, rules, Data, get_member, view, items_view, members_view, view-Array, view-Object, Row, on_ok_weaker}
+use Rattle.avro_schema_json.proofs.Words.{ℕ, List, [], ◌∷◌, arith, length, length-append, refl, ap, ◌∙◌, Data, get_member, view, items_view, members_view, view-Array, view-Object, Row, on_ok_weaker}
 use Rattle.avro_schema_json.proofs.MarksSeen.{item-at, gathers-none, gathers-next, gathered, covered-marked, stays-twice}
 use Rattle.avro_schema_json.proofs.WalkSeen.{all-left, left-first, left-pushed}
 use Rattle.avro_schema_json.proofs.defaults.marks.+marks.Goals as goal

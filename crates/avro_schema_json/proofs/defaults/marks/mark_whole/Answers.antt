@@ -1,4 +1,4 @@
-use Rattle.std.proofs.Common.{arith, rules}
+use Rattle.std.proofs.Common.{rules}
 use Rattle.avro_schema_json.proofs.MarksSeen.{steps-stay, stays-appended, whole-marked}
 use Rattle.avro_schema_json.proofs.defaults.marks.mark_whole.Goals as goal
 

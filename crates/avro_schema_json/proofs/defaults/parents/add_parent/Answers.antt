@@ -1,4 +1,4 @@
-use Rattle.avro_schema_json.proofs.Words.{◌/◌, ◌%◌, refl, arith}
+use Rattle.avro_schema_json.proofs.Words.{arith}
 use Rattle.avro_schema_json.proofs.ParentsSeen.{bit-kept, bit-set}
 use Rattle.avro_schema_json.proofs.RowsSeen.{bit-itself, more-right}
 use Rattle.avro_schema_json.proofs.defaults.parents.add_parent.Goals as goal

@@ -1,5 +1,4 @@
-use Rattle.avro_schema_json.proofs.Words.{arith, ◌≡◌, ℕ, [], List, Option, Some, None, unwrap_or, refl, sym, ap, subst, ◌∙◌, get, Vec, has_bit, words_or_none, words_under}
-use Rattle.std.specs.Ordering.{is_eq, nat_cmp}
+use Rattle.avro_schema_json.proofs.Words.{arith, ◌≡◌, ℕ, [], Option, unwrap_or, Vec, words_or_none}
 use Rattle.avro_schema_json.proofs.ParentsSeen.{kept-put, same_key}
 use Rattle.avro_schema_json.proofs.defaults.parents.put_under.Goals as goal
 

@@ -1,5 +1,4 @@
-use Rattle.avro_schema_json.proofs.Words.{arith, ◌≡◌, Some, length, option_map, refl, sym, ap, ◌∙◌, slice_get_read, Row}
-use Rattle.std.specs.Prelude.{slice_get}
+use Rattle.avro_schema_json.proofs.Words.{arith, slice_get_read}
 use Rattle.avro_schema_json.proofs.defaults.sets.row_of.Goals as goal
 
 pub returns-in-Some : goal.returns-in-Some

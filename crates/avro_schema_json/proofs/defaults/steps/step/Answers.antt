@@ -1,4 +1,4 @@
-use Rattle.avro_schema_json.proofs.Words.{arith, sym, get, pair_cmp, LeadsTo}
+use Rattle.avro_schema_json.proofs.Words.{sym, get, pair_cmp, LeadsTo}
 use Rattle.std.specs.Ordering.{is_eq}
 use Rattle.avro_schema_json.proofs.EachSeen.{put-all}
 use Rattle.avro_schema_json.proofs.MarksSeen.{steps-stay}

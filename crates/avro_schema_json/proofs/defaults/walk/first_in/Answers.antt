@@ -1,4 +1,4 @@
-use Rattle.avro_schema_json.proofs.Words.{ℕ, false, sym, subst, ◌∙◌, ◌≡◌, arith, has_place}
+use Rattle.avro_schema_json.proofs.Words.{arith}
 use Rattle.avro_schema_json.proofs.WalkSeen.{none-next}
 use Rattle.avro_schema_json.proofs.defaults.walk.first_in.Goals as goal
 

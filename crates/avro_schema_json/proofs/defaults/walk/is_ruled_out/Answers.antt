@@ -1,4 +1,4 @@
-use Rattle.avro_schema_json.proofs.Words.{arith, ◌≡◌, ℕ, Bool, true, false, not, refl, sym, subst, ◌∙◌, false≢true, has_place}
+use Rattle.avro_schema_json.proofs.Words.{arith, ◌≡◌, Bool, true, false, not}
 use Rattle.avro_schema_json.proofs.WalkSeen.{not-fit}
 use Rattle.avro_schema_json.proofs.defaults.walk.is_ruled_out.Goals as goal
 

@@ -1,5 +1,4 @@
-use Rattle.avro_schema_json.proofs.Words.{arith, ◌+◌, List, Option, sym, ap, subst, ◌∙◌, view, IsKnown, Mark}
-use Rattle.std.specs.Prelude.{slice_get}
+use Rattle.avro_schema_json.proofs.Words.{arith}
 use Rattle.avro_schema_json.proofs.WalkSeen.{known-part}
 use Rattle.avro_schema_json.proofs.defaults.walk.part_mark.Goals as goal
 

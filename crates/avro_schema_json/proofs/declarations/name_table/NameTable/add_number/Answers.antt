@@ -1,4 +1,4 @@
-use Rattle.avro_schema_json.proofs.Words.{arith, ap, ◌∙◌, number_of}
+use Rattle.avro_schema_json.proofs.Words.{ap, ◌∙◌, number_of}
 use Rattle.avro_schema_json.proofs.KnownFound.{inserted_after}
 use Rattle.avro_schema_json.proofs.declarations.name_table.NameTable.add_number.Goals as goal
 

@@ -1,4 +1,4 @@
-use Rattle.avro_schema_json.proofs.Words.{arith, sym, ap, ◌∙◌, id_of, number_of, IfOk-weaker}
+use Rattle.avro_schema_json.proofs.Words.{sym, ap, ◌∙◌, id_of, number_of, IfOk-weaker}
 use Rattle.avro_schema_json.proofs.declarations.name_table.NameTable.id.Goals as goal
 
 pub returns-in-Some : goal.returns-in-Some

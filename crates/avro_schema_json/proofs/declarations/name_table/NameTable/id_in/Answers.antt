@@ -1,4 +1,4 @@
-use Rattle.avro_schema_json.proofs.Words.{arith, rules, ◌≡◌, ap, ◌∙◌, get, id_of, key_cmp}
+use Rattle.avro_schema_json.proofs.Words.{rules, ◌≡◌, ap, ◌∙◌, get, id_of, key_cmp}
 use Rattle.avro_schema_json.proofs.declarations.name_table.NameTable.id_in.Goals as goal
 
 pub returns : goal.returns

@@ -1,4 +1,4 @@
-use Rattle.avro_schema_json.proofs.Words.{arith, ℕ, ◌∷◌, [], List, Option, IfOk, IfErr, codes, refl, sym, ap, ◌∙◌, subst, map-append, err_from_is_err_and, Node, ids_of, view, items_view, members_view, view-Array, view-Object, SchemaError, RawNode, RawField, Meaning, meaning_of, in_turn, field_meaning, field_meanings, fields_under, made_at, Reads, Refuses, fields_meaning, state_of, raw_field_of, raw_fields_of}
+use Rattle.avro_schema_json.proofs.Words.{arith, ◌∷◌, [], List, Option, IfOk, IfErr, codes, refl, sym, ap, ◌∙◌, subst, map-append, err_from_is_err_and, Node, ids_of, view, members_view, view-Array, view-Object, SchemaError, RawNode, RawField, Meaning, meaning_of, in_turn, field_meaning, fields_under, made_at, Reads, Refuses, fields_meaning, state_of, raw_field_of, raw_fields_of}
 use Rattle.avro_schema_json.proofs.DefinitionsRead.{record-definition, unbegun, misnamed, part-refused, definition-read}
 use Rattle.avro_schema_json.proofs.ObjectsRead.{member-found, member-missing, refuses-faulty, object-array, object-no_items, object-map, object-no_values, fields-found, fields-missing, field-unnamed, field-refused, field-untyped, field-read}
 use Rattle.avro_schema_json.proofs.TypesRead.{held-added, node_with-read, node_with-part, reading-begun, item-read, item-refused, items-read, branch_meanings, list_meanings, next_branch, next_field}

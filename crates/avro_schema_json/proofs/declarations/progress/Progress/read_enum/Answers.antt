@@ -1,4 +1,4 @@
-use Rattle.avro_schema_json.proofs.Words.{arith, err_from_is_err_and, members_view, texts_of, state_of}
+use Rattle.avro_schema_json.proofs.Words.{err_from_is_err_and, members_view, texts_of, state_of}
 use Rattle.avro_schema_json.proofs.DefinitionsRead.{enum-definition, nothing-read, unbegun, misnamed, misformed, definition-read}
 use Rattle.avro_schema_json.proofs.declarations.progress.Progress.read_enum.Goals as goal
 

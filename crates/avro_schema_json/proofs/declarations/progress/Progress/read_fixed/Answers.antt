@@ -1,4 +1,4 @@
-use Rattle.avro_schema_json.proofs.Words.{arith, err_from_is_err_and, members_view, state_of}
+use Rattle.avro_schema_json.proofs.Words.{err_from_is_err_and, members_view, state_of}
 use Rattle.avro_schema_json.proofs.DefinitionsRead.{fixed-definition, nothing-read, unbegun, misnamed, misformed, definition-read}
 use Rattle.avro_schema_json.proofs.declarations.progress.Progress.read_fixed.Goals as goal
 

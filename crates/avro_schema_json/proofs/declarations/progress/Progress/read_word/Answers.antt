@@ -1,4 +1,4 @@
-use Rattle.avro_schema_json.proofs.Words.{arith, ℕ, IfErr, subst, Meaning, Refuses, state_of}
+use Rattle.avro_schema_json.proofs.Words.{arith}
 use Rattle.avro_schema_json.proofs.declarations.progress.Progress.read_word.Goals as goal
 
 pub returns-in-TypeName-clause-refused : goal.returns-in-TypeName-clause-refused
