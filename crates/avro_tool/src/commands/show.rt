@@ -219,13 +219,7 @@ fn show_line<'a, O: Write>(
     datum: &Datum,
 ) -> Result<(), Failure<'a>> {
     let held = lines.text.len();
-    match put_line(
-        &mut lines.out,
-        &mut lines.text,
-        alloc,
-        &lines.table,
-        datum,
-    ) {
+    match put_line(&mut lines.out, &mut lines.text, alloc, &lines.table, datum) {
         Ok(()) => put_long(lines),
         Err(PutError::CannotWrite) => {
             lines.text.clear();
