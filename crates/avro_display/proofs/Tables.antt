@@ -1,24 +1,24 @@
 -- A table as it is made.
-use Rattle.std.proofs.Common.{◌≡◌, ◌<◌, ◌≤◌, ◌+◌, ℕ, zero, suc, List, [], ◌∷◌, ◌++◌, length, map, drop, get_or, refl, sym, ap, ◌∙◌, subst, append-nil, Ordering, Less, Equal, Greater}
+use Rattle.std.proofs.Common.{◌≡◌, ◌<◌, ◌≤◌, ◌+◌, ℕ, zero, suc, List, [], ◌∷◌, ◌++◌, length, map, drop, get_or, refl, sym, ap, ◌∙◌, subst, append-nil, append_assoc, arith, Ordering, Less, Equal, Greater}
 use Rattle.std.specs.List.{AllByRecursion}
-use Rattle.std.proofs.lemmas.List.{drop_more, drop_all, length_push}
-use Rattle.std.proofs.lemmas.Option.{slice_get_past}
+use Rattle.std.proofs.lemmas.List.{drop_more, drop_all, length_push, map-append}
+use Rattle.std.proofs.lemmas.Map.Lookups.{exact_bytes}
+use Rattle.std.proofs.lemmas.Option.{slice_get_past, slice_get_read}
 use Rattle.std.specs.BTreeMap.{insert_entry}
 use Rattle.std.specs.Cmp.Lexicographic.{slice_cmp}
 use Rattle.std.specs.Ordering.{nat_cmp, match_ordering}
-use Rattle.std.specs.Prelude.{String, string_bytes}
+use Rattle.std.specs.Prelude.{Some, Vec, slice_get, string_bytes}
 use Rattle.std.specs.declared.alloc.Global.{Global}
+use Rattle.avro_display.specs.DisplayTree.{record_fields}
 use denote.Ref.{Bor}
 use Rattle.avro_schema.specs.Node.{Node, FieldNode, node_at}
-use Rattle.avro_schema.specs.Seen.{seen_fields, entries_of}
-use Rattle.avro_schema.specs.Value.{keys_of}
-use Rattle.avro_schema.specs.declared.datum.Datum.{Datum}
+use Rattle.avro_schema.specs.Seen.{seen_fields}
 use Rattle.avro_schema.specs.declared.schema.Field.{Field}
 use Rattle.serde_json.specs.Data.{Data, no_members, put}
 use Rattle.avro_display.specs.Order.{put_each, in_order, IsOrder}
-use Rattle.avro_display.specs.Table.{AreMembers, IsMember, place_of}
+use Rattle.avro_display.specs.Table.{AreHeads, AreMembers, IsMember, field_id, field_name, head_text, place_of}
 use Rattle.avro_display.specs.declared.member.Member.{Member}
-use Rattle.avro_display.specs.inside.Tables.{Holds, seen_place}
+use Rattle.avro_display.specs.inside.Tables.{AreAllMembers, AreNamed, Holds, seen_place}
 
 -- ---- what holds of each item at its index
 
@@ -36,6 +36,18 @@ one_more P xs new x m pushed (count, all) last =
 -- a node that is not there has no members
 pub no_node : (nodes : List Node) (k : ℕ) → length nodes ≤ k → node_at nodes k ≡ Node.null
 no_node nodes k past = rw (slice_get_past nodes k past) refl
+
+-- the members of a node, and none of what is no node
+pub members_there : (nodes : List Node) (lists seen : List (Vec Member Global)) (k : ℕ) (ms : Vec Member Global) → seen ≡ lists → AreAllMembers nodes lists → k < length seen → ms ≡ get_or seen k ms
+    → AreMembers (record_fields (node_at nodes k)) ms.items
+members_there nodes lists seen k ms same all within is = all.1 k ms (subst (λ (l : List (Vec Member Global)). slice_get l k ≡ Some ms) same (slice_get_read seen (length seen) k ms refl within is))
+
+pub members_none : (nodes : List Node) (lists seen : List (Vec Member Global)) (k : ℕ) (ms : List Member) → seen ≡ lists → AreAllMembers nodes lists → length seen ≤ k → ms ≡ []
+    → AreMembers (record_fields (node_at nodes k)) ms
+members_none nodes lists seen k ms same all past none =
+    let there : length nodes ≤ k = subst (λ (n : ℕ). n ≤ k) (ap length same ∙ all.0) past in
+    subst (λ (l : List Member). AreMembers (record_fields (node_at nodes k)) l) (sym none)
+    (subst (λ (n : Node). AreMembers (record_fields n) []) (sym (no_node nodes k there)) (record { order = λ tree. refl; each = tt; heads = tt }))
 
 -- ---- the order of keys
 
@@ -66,49 +78,103 @@ left_more all left rest i es new k is inserted have tree =
 pub left_none : (all left : List (List ℕ)) (i : ℕ) (es : List (Bor (List ℕ) × ℕ)) → left ≡ [] → AreLeft all i left es → IsOrder all (map seen_place es)
 left_none all left i es is have tree = ap (λ l. put_each tree i l (in_order tree (map seen_place es))) (sym is) ∙ have tree
 
--- the names of fields, and the keys of entries, from an index on
+-- what holds of each place holds of each after another was inserted
+all_match : (P : List ℕ × ℕ → Type 0) (o : Ordering) (a b c : List (Bor (List ℕ) × ℕ)) → (o ≡ Less → AllByRecursion P (map seen_place a)) → (o ≡ Equal → AllByRecursion P (map seen_place b))
+    → (o ≡ Greater → AllByRecursion P (map seen_place c)) → AllByRecursion P (map seen_place (match_ordering o a b c))
+all_match P Less a b c less equal greater = less refl
+all_match P Equal a b c less equal greater = equal refl
+all_match P Greater a b c less equal greater = greater refl
+
+all_insert : (P : List ℕ × ℕ → Type 0) (es : List (Bor (List ℕ) × ℕ)) (k : Bor (List ℕ)) (i : ℕ) → AllByRecursion P (map seen_place es) → P (k.now, i)
+    → AllByRecursion P (map seen_place (insert_entry key_cmp es k i))
+all_insert P [] k i all here = (here, tt)
+all_insert P (e ∷ es) k i all here =
+    all_match P (key_cmp k e.0) _ _ _ (λ less. (here, all)) (λ equal. (subst (λ (n : List ℕ). P (n, i)) (exact_bytes k.now e.0.now equal) here, all.1))
+    (λ greater. (all.0, all_insert P es k i all.1 here))
+
+pub all_more : (P : List ℕ × ℕ → Type 0) (es new : List (Bor (List ℕ) × ℕ)) (k : Bor (List ℕ)) (i : ℕ) → new ≡ insert_entry key_cmp es k i → AllByRecursion P (map seen_place es) → P (k.now, i)
+    → AllByRecursion P (map seen_place new)
+all_more P es new k i is all here = subst (λ (l : List (Bor (List ℕ) × ℕ)). AllByRecursion P (map seen_place l)) (sym is) (all_insert P es k i all here)
+
+-- the names of fields from an index on
 abbrev pub names_past : List Field → ℕ → List (List ℕ)
 names_past fs i = map (λ f. f.name) (seen_fields (drop i fs))
-
-abbrev pub keys_past : List (String Global × Datum) → ℕ → List (List ℕ)
-keys_past es i = keys_of (entries_of (drop i es))
 
 pub name_here : (fs : List Field) (i : ℕ) (f : Field) (k : List ℕ) → i < length fs → k ≡ string_bytes (get_or fs i f).name → names_past fs i ≡ k ∷ names_past fs (i + 1)
 name_here fs i f k within has =
     ap (λ l. map (λ (g : FieldNode). g.name) (seen_fields l)) (drop_more fs i f within)
     ∙ ap (λ (n : List ℕ). n ∷ names_past fs (i + 1)) (sym has)
 
-pub key_here : (es : List (String Global × Datum)) (i : ℕ) (e : String Global × Datum) (k : List ℕ) → i < length es → k ≡ string_bytes (get_or es i e).0
-    → keys_past es i ≡ k ∷ keys_past es (i + 1)
-key_here es i e k within has =
-    ap (λ l. keys_of (entries_of l)) (drop_more es i e within)
-    ∙ ap (λ (n : List ℕ). n ∷ keys_past es (i + 1)) (sym has)
-
 pub names_end : (fs : List Field) (i : ℕ) → length fs ≤ i → names_past fs i ≡ []
 names_end fs i past = ap (λ l. map (λ (f : FieldNode). f.name) (seen_fields l)) (drop_all i fs past)
 
+pub name_at : (fs : List Field) (i : ℕ) (f : Field) (k : List ℕ) → i < length fs → k ≡ string_bytes (get_or fs i f).name → (i < length (seen_fields fs)) × (k ≡ field_name (seen_fields fs) i)
+name_at [] i f k within is = absurd (omega (arith, within))
+name_at (x ∷ fs) zero f k within is = (omega arith, is)
+name_at (x ∷ fs) (suc i) f k within is = let next = name_at fs i f k (omega (arith, within)) is in (omega (arith, next.0), next.1)
+
+-- the keys of entries from an index on
+pub key_here : (keys : List (List ℕ)) (i : ℕ) (k : List ℕ) → slice_get keys i ≡ Some k → drop i keys ≡ k ∷ drop (i + 1) keys
+key_here [] i k is = absurd (cc (is))
+key_here (x ∷ keys) zero k is = let same : x ≡ k = cc (is) in ap (λ (n : List ℕ). n ∷ keys) same
+key_here (x ∷ keys) (suc i) k is = let next : suc (i + 1) ≡ suc i + 1 = omega arith in key_here keys i k is ∙ ap (λ (j : ℕ). k ∷ drop j (x ∷ keys)) next
+
 -- ---- members in an order
 
-pub each_push : (fields : List FieldNode) (ms : List Member) (m : Member) → AllByRecursion (IsMember fields) ms → IsMember fields m → AllByRecursion (IsMember fields) (ms ++ m ∷ [])
+-- the text before the next member
+abbrev pub opener_after : List Member → ℕ
+opener_after [] = 123
+opener_after (m ∷ ms) = 44
+
+each_push : (fields : List FieldNode) (ms : List Member) (m : Member) → AllByRecursion (IsMember fields) ms → IsMember fields m → AllByRecursion (IsMember fields) (ms ++ m ∷ [])
 each_push fields [] m all last = (last, tt)
 each_push fields (x ∷ ms) m all last = (all.0, each_push fields ms m all.1 last)
 
-places_push : (ms : List Member) (m : Member) → map place_of (ms ++ m ∷ []) ≡ map place_of ms ++ place_of m ∷ []
-places_push [] m = refl
-places_push (x ∷ ms) m = ap (λ l. place_of x ∷ l) (places_push ms m)
+later_push : (fields : List FieldNode) (ms : List Member) (m : Member) → AreHeads fields 44 ms → m.head.items ≡ 44 ∷ head_text (field_name fields m.field) → AreHeads fields 44 (ms ++ m ∷ [])
+later_push fields [] m all last = (last, tt)
+later_push fields (x ∷ ms) m all last = (all.0, later_push fields ms m all.1 last)
 
-moved : {X : Type 0} (xs : List X) (x : X) (ys : List X) → (xs ++ x ∷ []) ++ ys ≡ xs ++ x ∷ ys
-moved [] x ys = refl
-moved (z ∷ xs) x ys = ap (λ l. z ∷ l) (moved xs x ys)
+heads_push : (fields : List FieldNode) (ms : List Member) (m : Member) → AreHeads fields 123 ms → m.head.items ≡ opener_after ms ∷ head_text (field_name fields m.field) → AreHeads fields 123 (ms ++ m ∷ [])
+heads_push fields [] m all last = (last, tt)
+heads_push fields (x ∷ ms) m all last = (all.0, later_push fields ms m all.1 last)
+
+after_push : (ms : List Member) (m : Member) → 44 ≡ opener_after (ms ++ m ∷ [])
+after_push [] m = refl
+after_push (x ∷ ms) m = refl
 
 -- of an order of places, some have their members
-pub record AreMade (fields : List FieldNode) (all left : List (Bor (List ℕ) × ℕ)) (ms : List Member) : Type 0 where
-  pub places : map place_of ms ++ map seen_place left ≡ map seen_place all
+pub record AreMade (fields : List FieldNode) (all left : List (Bor (List ℕ) × ℕ)) (ms : List Member) (opener : ℕ) : Type 0 where
+  pub places : map (place_of fields) ms ++ map seen_place left ≡ map seen_place all
+  pub named : AreNamed fields (map seen_place left)
   pub each : AllByRecursion (IsMember fields) ms
+  pub heads : AreHeads fields 123 ms
+  pub next : opener ≡ opener_after ms
 
-pub made_all : (fields : List FieldNode) (all left : List (Bor (List ℕ) × ℕ)) (ms : List Member) → left ≡ [] → AreMade fields all left ms
+pub made_more : (fields : List FieldNode) (all left rest : List (Bor (List ℕ) × ℕ)) (e : Bor (List ℕ) × ℕ) (ms new : List Member) (m : Member) (opener : ℕ) → left ≡ e ∷ rest → new ≡ ms ++ m ∷ []
+    → m.node.0 ≡ field_id fields m.field → m.field ≡ e.1 → m.head.items ≡ opener ∷ head_text e.0.now → AreMade fields all left ms opener → AreMade fields all rest new 44
+made_more fields all left rest e ms new m opener is pushed good at head have =
+    let named : AreNamed fields (map seen_place (e ∷ rest)) = subst (λ (l : List (Bor (List ℕ) × ℕ)). AreNamed fields (map seen_place l)) is have.named in
+    let name : e.0.now ≡ field_name fields m.field = named.0.1 ∙ ap (field_name fields) (sym at) in
+    let within : m.field < length fields = subst (λ (k : ℕ). k < length fields) (sym at) named.0.0 in
+    let place : place_of fields m ≡ seen_place e = ap (λ (n : List ℕ). (n, m.field)) (sym name) ∙ ap (λ (k : ℕ). (e.0.now, k)) at in
+    let text : m.head.items ≡ opener_after ms ∷ head_text (field_name fields m.field) =
+    head ∙ ap (λ (c : ℕ). c ∷ head_text e.0.now) have.next ∙ ap (λ (n : List ℕ). opener_after ms ∷ head_text n) name in
+    subst (λ (l : List Member). AreMade fields all rest l 44) (sym pushed) (record {
+      places = ap (λ (l : List (List ℕ × ℕ)). l ++ map seen_place rest) (map-append (place_of fields) ms (m ∷ []))
+          ∙ append_assoc (map (place_of fields) ms) (place_of fields m ∷ []) (map seen_place rest)
+          ∙ ap (λ (p : List ℕ × ℕ). map (place_of fields) ms ++ p ∷ map seen_place rest) place
+          ∙ ap (λ (l : List (Bor (List ℕ) × ℕ)). map (place_of fields) ms ++ map seen_place l) (sym is) ∙ have.places;
+      named = named.1;
+      each = each_push fields ms m have.each (within, good);
+      heads = heads_push fields ms m have.heads text;
+      next = after_push ms m;
+    })
+
+pub made_all : (fields : List FieldNode) (all left : List (Bor (List ℕ) × ℕ)) (ms : List Member) (opener : ℕ) → left ≡ [] → AreMade fields all left ms opener
     → IsOrder (map (λ f. f.name) fields) (map seen_place all) → AreMembers fields ms
-made_all fields all left ms is have order = record {
-  order = subst (IsOrder (map (λ f. f.name) fields)) (sym have.places ∙ ap (λ l. map place_of ms ++ map seen_place l) is ∙ append-nil (map place_of ms)) order;
+made_all fields all left ms opener is have order = record {
+  order = subst (IsOrder (map (λ f. f.name) fields))
+      (sym have.places ∙ ap (λ l. map (place_of fields) ms ++ map seen_place l) is ∙ append-nil (map (place_of fields) ms)) order;
   each = have.each;
+  heads = have.heads;
 }

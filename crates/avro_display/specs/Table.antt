@@ -1,5 +1,5 @@
 -- What is known of a schema before data are displayed: each record's fields in their order, and finished texts of names.
-use Rattle.std.specs.Prelude.{◌≡◌, ℕ, zero, suc, List, [], ◌∷◌, ◌++◌, map, Option, Some, None, slice_get, option_map, unwrap_or}
+use Rattle.std.specs.Prelude.{◌≡◌, ◌<◌, ℕ, zero, suc, length, List, [], ◌∷◌, ◌++◌, map, Option, Some, None, slice_get, option_map, unwrap_or}
 use Rattle.std.specs.List.{AllByRecursion}
 use Rattle.avro_schema.specs.Value.{Value, Values, no_values, value, Entries, no_entries, entry}
 use Rattle.avro_schema.specs.Node.{Node, FieldNode, node_at}
@@ -41,16 +41,25 @@ entry_at (entry k v es) (suc index) = entry_at es index
 abbrev pub entry_tree : List Node → Node → Entries → ℕ → Data
 entry_tree nodes n es index = display_tree nodes n (entry_at es index)
 
--- the key and the index of a member
-abbrev pub place_of : Member → List ℕ × ℕ
-place_of m = (m.name.now, m.field)
+-- the name of the field at an index
+abbrev pub field_name : List FieldNode → ℕ → List ℕ
+field_name fields index = unwrap_or (option_map (λ f. f.name) (slice_get fields index)) []
 
--- a member has the node of its field, and the text before its value
-pub record IsMember (fields : List FieldNode) (m : Member) : Type 0 where
-  pub node : m.node.0 ≡ field_id fields m.field
-  pub head : m.head.items ≡ head_text m.name.now
+-- the key and the index of a member
+abbrev pub place_of : List FieldNode → Member → List ℕ × ℕ
+place_of fields m = (field_name fields m.field, m.field)
+
+-- a member is of a field, and has its node
+abbrev pub IsMember : List FieldNode → Member → Type 0
+IsMember fields m = (m.field < length fields) × (m.node.0 ≡ field_id fields m.field)
+
+-- the text before each value: a brace or a comma, and the key
+abbrev pub AreHeads : List FieldNode → ℕ → List Member → Type 0
+AreHeads fields opener [] = Unit {0}
+AreHeads fields opener (m ∷ ms) = (m.head.items ≡ opener ∷ head_text (field_name fields m.field)) × AreHeads fields 44 ms
 
 -- a record's fields in the order of its members
 pub record AreMembers (fields : List FieldNode) (ms : List Member) : Type 0 where
-  pub order : IsOrder (map (λ f. f.name) fields) (map place_of ms)
+  pub order : IsOrder (map (λ f. f.name) fields) (map (place_of fields) ms)
   pub each : AllByRecursion (IsMember fields) ms
+  pub heads : AreHeads fields 123 ms

@@ -4,18 +4,25 @@
 //! whose key is its branch, except for null, and bytes are a string of one character per byte.
 //!
 //! A display goes out in pieces ([`put_display`], [`put_line`]), so that nothing holds all of it; [`show`] returns it as one text.
+//! What is displayed need not be held either: [`put_displayed`] opens one part after another of whatever is [`Displayed`].
 #![tactic(auto)]
 
 mod display;
+mod displayed;
 mod labels;
 mod member;
 mod members;
 mod parts;
 mod pieces;
+mod plain;
 mod put_error;
+mod putting;
 mod table;
 
 pub use display::{put_display, put_line, show};
+pub use displayed::{Displayed, Opened};
 pub use member::Member;
+pub use plain::Plain;
 pub use put_error::PutError;
+pub use putting::put_displayed;
 pub use table::DisplayTable;

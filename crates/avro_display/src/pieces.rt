@@ -13,6 +13,7 @@ use avro_device::{Output, put_all};
 use itoa::Buffer;
 use json::Writer;
 use std::alloc::{AllocError, Global};
+use std::mem::replace;
 
 /// A longer text is put in several pieces.
 const PIECE: usize = 1_048_576;
@@ -109,8 +110,8 @@ fn append_number(text: &mut Vec<u8>, number: i64) -> Result<(), AllocError>
 fn append_quoted(text: &mut Vec<u8>, alloc: Global, string: &str) -> Result<(), AllocError>
     ensures { OnOk result (text.new.items ≡ text.old.items ++ quoted string.now) }
 {
-    let mut writer = Writer::new(Vec::new(alloc));
-    writer.string(string)?;
-    text.extend_from_slice(&writer.into_inner())?;
-    Ok(())
+    let mut writer = Writer::new(replace(text, Vec::new(alloc)));
+    let written = writer.string(string);
+    *text = writer.into_inner();
+    written
 }

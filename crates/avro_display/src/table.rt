@@ -6,7 +6,7 @@ use crate::labels::opening;
 use crate::member::Member;
 use crate::members::members_of;
 use crate::parts::node_fields;
-use avro_schema::{Memory, NodeId, Schema};
+use avro_schema::{Memory, Node, NodeId, Schema};
 use std::alloc::Global;
 use std::marker::Model;
 
@@ -16,14 +16,17 @@ use std::marker::Model;
 pub struct DisplayTable<'a> {
     schema: &'a Schema,
     openings: Vec<Option<Vec<u8>>>,
-    members: Vec<Vec<Member<'a>>>,
+    members: Vec<Vec<Member>>,
     // the members of what is no record
-    none: Vec<Member<'a>>,
+    none: Vec<Member>,
+    null: Node,
 }
 
 impl<'a> Model for DisplayTable<'a> {
     ghost use Rattle.avro_schema.specs.contracts.datum.Datum as datum;
     ghost use Rattle.avro_schema.specs.declared.schema.Schema.{Schema};
+    ghost use Rattle.avro_schema.specs.Node.Node.{null as NullNode};
+    ghost use Rattle.avro_schema.specs.Seen.{node_of};
     ghost use Rattle.avro_schema.specs.SeenSchema.{schema_nodes};
     ghost use Rattle.avro_display.specs.inside.Tables.{AreOpenings, AreAllMembers};
     ghost use Rattle.std.specs.Prelude.{◌≡◌, []};
@@ -35,12 +38,13 @@ impl<'a> Model for DisplayTable<'a> {
 
     ghost view = { λ t. t.schema.now };
 
-    ghost invariant = { λ t. AreOpenings (schema_nodes t.schema.now) t.openings.items × AreAllMembers (schema_nodes t.schema.now) t.members.items × (t.none.items ≡ []) };
+    ghost invariant = { λ t. AreOpenings (schema_nodes t.schema.now) t.openings.items × AreAllMembers (schema_nodes t.schema.now) t.members.items × (t.none.items ≡ []) × (node_of t.null ≡ NullNode) };
 }
 
 impl<'a> DisplayTable<'a> {
     ghost use Rattle.std.specs.Prelude.{◌≡◌, IfOk, option_map};
     ghost use Rattle.avro_schema.specs.Node.{node_at};
+    ghost use Rattle.avro_schema.specs.Seen.{node_of};
     ghost use Rattle.avro_schema.specs.SeenSchema.{schema_nodes};
     ghost use Rattle.avro_display.specs.DisplayTree.{part_at, record_fields};
     ghost use Rattle.avro_display.specs.Table.{AreMembers, opening_of};
@@ -60,6 +64,7 @@ impl<'a> DisplayTable<'a> {
             openings,
             members,
             none: Vec::new(alloc),
+            null: Node::Null,
         })
     }
 
@@ -70,8 +75,18 @@ impl<'a> DisplayTable<'a> {
         self.schema
     }
 
+    /// The node with this id; null if there is none.
+    pub fn node(&self, id: Option<NodeId>) -> &Node
+        ensures { node_of result.now ≡ part_at (schema_nodes self.now) (option_map (λ id. id.0) id) }
+    {
+        match id {
+            Some(id) => self.schema.get(id),
+            None => &self.null,
+        }
+    }
+
     /// The fields of a record, in the order in which they are displayed; none for other nodes.
-    pub fn members(&self, id: NodeId) -> &[Member<'a>]
+    pub fn members(&self, id: NodeId) -> &[Member]
         ensures { AreMembers (record_fields (node_at (schema_nodes self.now) id.0)) result.now }
     {
         match self.members.get(id.0 as usize) {
@@ -81,7 +96,7 @@ impl<'a> DisplayTable<'a> {
     }
 
     /// The same for a node that may be missing.
-    pub(crate) fn part_members(&self, id: Option<NodeId>) -> &[Member<'a>]
+    pub(crate) fn part_members(&self, id: Option<NodeId>) -> &[Member]
         ensures { AreMembers (record_fields (part_at (schema_nodes self.now) (option_map (λ id. id.0) id))) result.now }
     {
         match id {
@@ -133,7 +148,7 @@ fn openings(alloc: Global, schema: &Schema) -> Result<Vec<Option<Vec<u8>>>, Memo
 }
 
 /// For each node the members of its data, where it is a record.
-fn all_members<'a>(alloc: Global, schema: &'a Schema) -> Result<Vec<Vec<Member<'a>>>, Memory>
+fn all_members(alloc: Global, schema: &Schema) -> Result<Vec<Vec<Member>>, Memory>
     ensures { IfOk result (λ lists. AreAllMembers (schema_nodes schema.now) lists.items) }
 {
     let mut lists = Vec::new(alloc);

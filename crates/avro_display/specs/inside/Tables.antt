@@ -1,15 +1,20 @@
 -- The parts of a table, a node after another.
-use Rattle.std.specs.Prelude.{◌≡◌, ℕ, List, length, Option, Some, option_map, slice_get, Vec}
+use Rattle.std.specs.Prelude.{◌≡◌, ◌<◌, ℕ, List, length, Option, Some, option_map, slice_get, Vec}
 use denote.Ref.{Bor}
 use Rattle.std.specs.declared.alloc.Global.{Global}
-use Rattle.avro_schema.specs.Node.{Node, node_at}
+use Rattle.std.specs.List.{AllByRecursion}
+use Rattle.avro_schema.specs.Node.{Node, FieldNode, node_at}
 use Rattle.avro_display.specs.DisplayTree.{record_fields}
-use Rattle.avro_display.specs.Table.{AreMembers, opening_of}
+use Rattle.avro_display.specs.Table.{AreMembers, field_name, opening_of}
 use Rattle.avro_display.specs.declared.member.Member.{Member}
 
 -- a borrowed key with its index
 abbrev pub seen_place : Bor (List ℕ) × ℕ → List ℕ × ℕ
 seen_place e = (e.0.now, e.1)
+
+-- each key is the name of the field at its index
+abbrev pub AreNamed : List FieldNode → List (List ℕ × ℕ) → Type 0
+AreNamed fields order = AllByRecursion (λ e. (e.1 < length fields) × (e.0 ≡ field_name fields e.1)) order
 
 -- what holds of each item at its index
 abbrev pub Holds : {A : Type 0} → (ℕ → A → Type 0) → List A → Type 0

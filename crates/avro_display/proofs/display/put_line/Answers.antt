@@ -1,6 +1,5 @@
-use Rattle.std.proofs.Common.{◌≡◌, ◌++◌, ◌∷◌, [], ◌∙◌, List, ap, rules, subst}
-use Rattle.std.specs.Prelude.{OnOk}
-use Rattle.avro_schema.specs.Node.{Node, node_at, root_of}
+use Rattle.std.proofs.Common.{◌≡◌, ◌++◌, ◌∷◌, [], ap, rules, subst}
+use Rattle.avro_schema.specs.Node.{node_at, root_of}
 use Rattle.avro_schema.specs.Seen.{value_of}
 use Rattle.avro_schema.specs.SeenSchema.{schema_nodes}
 use Rattle.avro_display.specs.DisplayTree.{display_text}

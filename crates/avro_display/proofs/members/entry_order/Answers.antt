@@ -1,11 +1,32 @@
-use Rattle.std.proofs.Common.{◌+◌}
-use Rattle.avro_display.proofs.Tables.{left_more, key_here, keys_past}
+use Rattle.std.proofs.Common.{◌≡◌, ◌∙◌, ◌+◌, ◌<◌, [], drop, get_or, length, Some, refl, sym, ap, arith}
+use Rattle.std.specs.Prelude.{slice_get}
+use Rattle.std.proofs.lemmas.List.{drop_all}
+use Rattle.std.proofs.lemmas.Option.{slice_get-get_or}
+use Rattle.avro_display.proofs.Tables.{all_more, key_here, left_more, left_none}
 use Rattle.avro_display.proofs.members.entry_order.Goals as goal
 
-pub loop-i-preserved : goal.loop-i-preserved
-loop-i-preserved c =
-    let entries = c.args.entries.now in
-    let i = c.loop-i.i in
-    left_more (keys_past entries 0) (keys_past entries i) (keys_past entries (i + 1)) i c.loop-i.order.entries c.insert.new.self.entries c.as_str.result
-    (key_here entries i c.index-entries-i.result c.as_str.result.now c.loop-i-test.true c.as_str.ensures.value)
-    c.in_ok-insert.ensures.entries c.loop-i.invariant
+pub loop-index-init : goal.loop-index-init
+loop-index-init g c = λ keys tree are. (λ t. rw (c.new-order.ensures.empty) refl, rw (c.new-order.ensures.empty) tt)
+
+pub loop-index-preserved : goal.loop-index-preserved
+loop-index-preserved g c = λ keys tree are.
+    let l = c.loop-index in
+    let i = l.index in
+    let k = get_or keys i [] in
+    let within : i < length keys = omega (arith, are.0, c.loop-index-test.true) in
+    let there : slice_get keys i ≡ Some k = slice_get-get_or keys i [] within in
+    let same = c.key.ensures k (tree i) (are.1 i k there) in
+    let have = l.invariant keys tree are in (
+      left_more keys (drop i keys) (drop (i + 1) keys) i l.order.entries c.insert.new.self.entries c.key.result
+          (key_here keys i c.key.result.now (there ∙ ap Some (sym same))) c.in_ok-insert.ensures.entries have.0,
+      all_more (λ e. g.D.Displayed.entry_shows c.args.displayed.now c.args.object e.1 e.0 (tree e.1)) l.order.entries c.insert.new.self.entries c.key.result i c.in_ok-insert.ensures.entries have.1
+          (are.1 i c.key.result.now (there ∙ ap Some (sym same))),
+    )
+
+pub returns-clause-order : goal.returns-clause-order
+returns-clause-order g c = λ keys tree are.
+    let l = c.loop-index in
+    left_none keys (drop l.index keys) l.index l.order.entries (drop_all l.index keys (omega (arith, are.0, c.loop-index-test.false))) (l.invariant keys tree are).0
+
+pub returns-clause-have : goal.returns-clause-have
+returns-clause-have g c = λ keys tree are. (c.loop-index.invariant keys tree are).1

@@ -1,0 +1,184 @@
+-- Data of nodes, as they are opened.
+use Rattle.std.proofs.Common.{◌≡◌, ◌<◌, ◌≤◌, ℕ, zero, suc, List, [], ◌∷◌, get_or, length, map, take, Option, Some, None, inl, inr, refl, sym, ap, subst, ◌∙◌, arith, max}
+use Rattle.std.specs.List.{AllByRecursion}
+use Rattle.std.specs.Prelude.{IfSome, String, slice_get, string_bytes}
+use Rattle.std.specs.declared.alloc.Global.{Global}
+use Rattle.std.specs.Global.{Box, Vec}
+use Rattle.avro_schema.specs.Seen.{entries_of, seen_fields, value_of, values_of, view_step}
+use Rattle.avro_schema.specs.declared.datum.Datum.TheOpen.{Datum-F}
+use Rattle.avro_schema.specs.declared.datum.Datum.TheViews as view
+use Rattle.avro_schema.specs.declared.datum.Datum.TheVariants as variants
+use Rattle.avro_schema.specs.declared.datum.Datum.TheFolds.{fold-roll-Datum}
+use Rattle.avro_schema.specs.declared.datum.Datum.{Datum}
+use Rattle.avro_schema.specs.declared.schema.Field.{Field}
+use Rattle.std.proofs.lemmas.List.{length-map, length-take-le}
+use Rattle.avro_schema.specs.Node.{Node, node_at, items_node, values_node}
+use Rattle.avro_schema.specs.Value.{Value, Values, depth, values_depth, entries_depth, no_values, value, Entries, no_entries, entry, values_count, entries_count, keys_of}
+use Rattle.serde_json.specs.Data.{Data, Items, array, object, no_members}
+use Rattle.serde_json.specs.Written.{compact_text}
+use Rattle.avro_display.specs.Displayed.{EntriesAre, ItemsAre, item_at, items_count, object_text}
+use Rattle.avro_display.specs.DisplayTree.{display_fields, display_items, display_tree, part_at, record_fields}
+use Rattle.avro_display.specs.Order.{put_each}
+use Rattle.avro_display.specs.Plain.{PlainPart, plain_entry, plain_item, plain_levels, plain_member, plain_node, plain_value}
+use Rattle.avro_display.specs.Table.{AreMembers, IsMember, entry_tree, field_id, field_tree, place_of, value_at}
+use Rattle.avro_display.specs.declared.member.Member.{Member}
+use Rattle.avro_display.proofs.public.Ordering.{all_entries, all_members, first_fields, name_of, ordered_fields}
+
+pub value_of-Array : (v : Vec Datum) → value_of (view.Array v) ≡ Value.array (values_of v.items)
+value_of-Array v = ap value_of (sym (variants.rolls-Array v)) ∙ fold-roll-Datum Value view_step (Datum-F.Array v)
+
+pub value_of-Record : (v : Vec Datum) → value_of (view.Record v) ≡ Value.record_of (values_of v.items)
+value_of-Record v = ap value_of (sym (variants.rolls-Record v)) ∙ fold-roll-Datum Value view_step (Datum-F.Record v)
+
+pub value_of-Union : (k : ℕ) (b : Box Datum) → value_of (view.Union k b) ≡ Value.union k (value_of b.value)
+value_of-Union k b = ap value_of (sym (variants.rolls-Union k b)) ∙ fold-roll-Datum Value view_step (Datum-F.Union k b)
+
+module _ (nodes : List Node) (n : Node) where
+  pub count_items : (vs : Values) → items_count (display_items nodes n vs) ≡ values_count vs
+  count_items no_values = refl
+  count_items (value v vs) = ap suc (count_items vs)
+
+  pub each_item : (vs : Values) (i : ℕ) → i < values_count vs → item_at (display_items nodes n vs) i ≡ display_tree nodes n (value_at vs i)
+  each_item no_values i within = absurd (omega (arith, within))
+  each_item (value v vs) zero within = refl
+  each_item (value v vs) (suc i) within = each_item vs i (omega (arith, within))
+
+pub count_keys : (es : Entries) → length (keys_of es) ≡ entries_count es
+count_keys no_entries = refl
+count_keys (entry k v es) = ap suc (count_keys es)
+
+some_taken : {A : Type 0} (n : ℕ) (xs : List A) (i : ℕ) (x : A) → slice_get (take n xs) i ≡ Some x → (i < n) × (slice_get xs i ≡ Some x)
+some_taken zero xs i x got = absurd (cc (got))
+some_taken (suc n) [] i x got = absurd (cc (got))
+some_taken (suc n) (y ∷ xs) zero x got = (omega arith, got)
+some_taken (suc n) (y ∷ xs) (suc i) x got = let next = some_taken n xs i x got in (omega (arith, next.0), next.1)
+
+all_map : {A : Type 0} (P Q : A → Type 0) → ((x : A) → P x → Q x) → (xs : List A) → AllByRecursion P xs → AllByRecursion Q xs
+all_map P Q f [] all = tt
+all_map P Q f (x ∷ xs) all = (f x all.0, all_map P Q f xs all.1)
+
+module _ (nodes : List Node) (p : PlainPart) where
+  pub opened_items : (vs : Values) (n : ℕ) (d : Data) → plain_value p ≡ Value.array vs → n ≡ values_count vs → d ≡ display_tree nodes (plain_node nodes p) (plain_value p)
+      → (ds : Items) × (d ≡ array ds) × ItemsAre (plain_item nodes) p n ds
+  opened_items vs n d is count shown =
+      let item = part_at nodes (items_node (plain_node nodes p)) in (
+        display_items nodes item vs,
+        shown ∙ ap (display_tree nodes (plain_node nodes p)) is,
+        (
+          count_items nodes item vs ∙ sym count,
+          λ i within. let here : i < values_count vs = subst (λ (m : ℕ). i < m) count within in (vs, is, here, each_item nodes item vs i here),
+        ),
+      )
+
+  pub opened_entries : (es : Entries) (n : ℕ) (d : Data) → plain_value p ≡ Value.map_of es → n ≡ entries_count es → d ≡ display_tree nodes (plain_node nodes p) (plain_value p)
+      → (keys : List (List ℕ)) × (tree : ℕ → Data) × (d ≡ object (put_each tree 0 keys no_members)) × EntriesAre (plain_entry nodes) p n keys tree
+  opened_entries es n d is count shown =
+      let item = part_at nodes (values_node (plain_node nodes p)) in (
+        keys_of es,
+        entry_tree nodes item es,
+        shown ∙ ap (display_tree nodes (plain_node nodes p)) is ∙ ap object (sym (all_entries nodes item es)),
+        (count_keys es ∙ sym count, λ i k got. inl (es, is, got, refl)),
+      )
+
+  pub opened_members : (vs : Values) (d : Data) (ms : List Member) → let fields = record_fields (plain_node nodes p) in plain_value p ≡ Value.record_of vs → length fields ≤ values_count vs
+      → d ≡ object (display_fields nodes fields vs no_members) → AreMembers fields ms
+      → (tree : ℕ → Data) × (compact_text d ≡ object_text tree ms) × AllByRecursion (λ m. plain_member nodes p m (tree m.field)) ms
+  opened_members vs d ms is enough shown are =
+      let fields = record_fields (plain_node nodes p) in
+      let tree = field_tree nodes fields vs in (
+        tree,
+        ap compact_text (shown ∙ ap object (sym (ordered_fields nodes fields vs (map (place_of fields) ms) enough are.order))) ∙ all_members fields tree ms are.heads,
+        all_map (IsMember fields) (λ m. plain_member nodes p m (tree m.field))
+            (λ m good. (vs, is, omega (arith, good.0, enough), ap (λ (k : ℕ). display_tree nodes (node_at nodes k) (value_at vs m.field)) (sym good.1))) ms are.each,
+      )
+
+  pub opened_first : (vs : Values) (n : ℕ) (d : Data) → let fields = record_fields (plain_node nodes p) in plain_value p ≡ Value.record_of vs → n ≡ values_count vs → n ≤ length fields
+      → d ≡ object (display_fields nodes fields vs no_members)
+      → (keys : List (List ℕ)) × (tree : ℕ → Data) × (d ≡ object (put_each tree 0 keys no_members)) × EntriesAre (plain_entry nodes) p n keys tree
+  opened_first vs n d is count few shown =
+      let fields = record_fields (plain_node nodes p) in
+      let names = map name_of fields in
+      let all : n ≤ length names = subst (λ (m : ℕ). n ≤ m) (sym (length-map fields name_of)) few in (
+        take n names,
+        field_tree nodes fields vs,
+        shown ∙ ap object (sym (ap (λ (m : ℕ). put_each (field_tree nodes fields vs) 0 (take m names) no_members) count ∙ first_fields nodes fields vs)),
+        (
+          length-take-le n names all,
+          λ i k got. let there = some_taken n names i k got in inr (vs, is, subst (λ (m : ℕ). i < m) count there.0, there.1, refl),
+        ),
+      )
+
+pub count_entries : (es : List (String Global × Datum)) → entries_count (entries_of es) ≡ length es
+count_entries [] = refl
+count_entries (e ∷ es) = ap suc (count_entries es)
+
+-- ---- what a part is, by its datum
+
+pub array_in : {vs ws : Values} → Value.array vs ≡ Value.array ws → vs ≡ ws
+array_in e = cc (e)
+
+pub record_in : {vs ws : Values} → Value.record_of vs ≡ Value.record_of ws → vs ≡ ws
+record_in e = cc (e)
+
+map_in : {es fs : Entries} → Value.map_of es ≡ Value.map_of fs → es ≡ fs
+map_in e = cc (e)
+
+no_record : {vs : Values} {es : Entries} → Value.record_of vs ≡ Value.map_of es → ⊥
+no_record e = cc (e)
+
+pub entry_in : (nodes : List Node) (p : PlainPart) (i : ℕ) (k : List ℕ) (d : Data) (es : Entries) → plain_value p ≡ Value.map_of es → plain_entry nodes p i k d
+    → (slice_get (keys_of es) i ≡ Some k) × (d ≡ entry_tree nodes (part_at nodes (values_node (plain_node nodes p))) es i)
+entry_in nodes p i k d es is (inl (fs, at, got, has)) =
+    let same : fs ≡ es = map_in (sym at ∙ is) in
+    subst (λ (es : Entries). (slice_get (keys_of es) i ≡ Some k) × (d ≡ entry_tree nodes (part_at nodes (values_node (plain_node nodes p))) es i)) same (got, has)
+entry_in nodes p i k d es is (inr (vs, at, within, got, has)) = absurd (no_record (sym at ∙ is))
+
+pub field_in : (nodes : List Node) (p : PlainPart) (i : ℕ) (k : List ℕ) (d : Data) (vs : Values) → plain_value p ≡ Value.record_of vs → plain_entry nodes p i k d
+    → (i < values_count vs) × (slice_get (map name_of (record_fields (plain_node nodes p))) i ≡ Some k) × (d ≡ field_tree nodes (record_fields (plain_node nodes p)) vs i)
+field_in nodes p i k d vs is (inl (es, at, got, has)) = absurd (no_record (sym is ∙ at))
+field_in nodes p i k d vs is (inr (ws, at, within, got, has)) =
+    let same : ws ≡ vs = record_in (sym at ∙ is) in
+    subst (λ (vs : Values). (i < values_count vs) × (slice_get (map name_of (record_fields (plain_node nodes p))) i ≡ Some k) × (d ≡ field_tree nodes (record_fields (plain_node nodes p)) vs i)) same
+    (within, got, has)
+
+-- ---- one of many
+
+pub key_at : (es : List (String Global × Datum)) (i : ℕ) (e : String Global × Datum) (k : List ℕ) → i < length es → e ≡ get_or es i e → slice_get (keys_of (entries_of es)) i ≡ Some k → string_bytes e.0 ≡ k
+key_at [] i e k within is got = absurd (omega (arith, within))
+key_at (x ∷ es) zero e k within is got = let same : string_bytes x.0 ≡ k = cc (got) in ap (λ (y : String Global × Datum). string_bytes y.0) is ∙ same
+key_at (x ∷ es) (suc i) e k within is got = key_at es i e k (omega (arith, within)) is got
+
+pub no_key : (es : List (String Global × Datum)) (i : ℕ) (k : List ℕ) → length es ≤ i → slice_get (keys_of (entries_of es)) i ≡ Some k → ⊥
+no_key [] i k past got = absurd (cc (got))
+no_key (x ∷ es) zero k past got = absurd (omega (arith, past))
+no_key (x ∷ es) (suc i) k past got = no_key es i k (omega (arith, past)) got
+
+pub named_at : (fs : List Field) (i : ℕ) (f : Field) (k : List ℕ) → i < length fs → f ≡ get_or fs i f → slice_get (map name_of (seen_fields fs)) i ≡ Some k → string_bytes f.name ≡ k
+named_at [] i f k within is got = absurd (omega (arith, within))
+named_at (x ∷ fs) zero f k within is got = let same : string_bytes x.name ≡ k = cc (got) in ap (λ (y : Field). string_bytes y.name) is ∙ same
+named_at (x ∷ fs) (suc i) f k within is got = named_at fs i f k (omega (arith, within)) is got
+
+pub not_named : (fs : List Field) (i : ℕ) (k : List ℕ) → length fs ≤ i → slice_get (map name_of (seen_fields fs)) i ≡ Some k → ⊥
+not_named [] i k past got = absurd (cc (got))
+not_named (x ∷ fs) zero k past got = absurd (omega (arith, past))
+not_named (x ∷ fs) (suc i) k past got = not_named fs i k (omega (arith, past)) got
+
+pub node_at_field : (fs : List Field) (i : ℕ) (f : Field) → i < length fs → f ≡ get_or fs i f → f.node.0 ≡ field_id (seen_fields fs) i
+node_at_field [] i f within is = absurd (omega (arith, within))
+node_at_field (x ∷ fs) zero f within is = ap (λ (y : Field). y.node.0) is
+node_at_field (x ∷ fs) (suc i) f within is = node_at_field fs i f (omega (arith, within)) is
+
+pub item_depth : (ds : List Datum) (i : ℕ) (d : Datum) → i < length ds → d ≡ get_or ds i d → depth (value_of d) ≤ values_depth (values_of ds)
+item_depth [] i d within is = absurd (omega (arith, within))
+item_depth (x ∷ ds) zero d within is = subst (λ (y : Datum). depth (value_of y) ≤ max (depth (value_of x)) (values_depth (values_of ds))) (sym is) (omega arith)
+item_depth (x ∷ ds) (suc i) d within is = omega (arith, item_depth ds i d (omega (arith, within)) is)
+
+pub entry_depth : (es : List (String Global × Datum)) (i : ℕ) (e : String Global × Datum) → i < length es → e ≡ get_or es i e → depth (value_of e.1) ≤ entries_depth (entries_of es)
+entry_depth [] i e within is = absurd (omega (arith, within))
+entry_depth (x ∷ es) zero e within is = subst (λ (y : String Global × Datum). depth (value_of y.1) ≤ max (depth (value_of x.1)) (entries_depth (entries_of es))) (sym is) (omega arith)
+entry_depth (x ∷ es) (suc i) e within is = omega (arith, entry_depth es i e (omega (arith, within)) is)
+
+-- parts have fewer levels
+pub fewer_levels : (o : Option PlainPart) (m n : ℕ) → n ≡ suc m → IfSome o (λ p. plain_levels p ≤ m) → IfSome o (λ p. plain_levels p < n)
+fewer_levels None m n is all = tt
+fewer_levels (Some p) m n is all = omega (arith, is, all)
