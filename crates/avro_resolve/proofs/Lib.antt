@@ -19,3 +19,4 @@ pub mod CopiedLeaves
 pub mod StraightRecords
 pub mod Flagging
 pub mod PiecesMade
+pub mod Places

@@ -35,6 +35,7 @@ pub use avro_compare::{
 };
 pub use error::{ReadResolveError, ResolveError};
 pub use plan::Plan;
+pub use plan::plan_pair::PlanPair;
 pub use plan::plan_ref::PlanRef;
 pub use plan::plan_table::PlanTable;
 pub use read::{decode_resolved, read_resolved};

@@ -4,6 +4,7 @@ pub(crate) mod keeping;
 pub(crate) mod ordering;
 pub(crate) mod pair_order;
 pub(crate) mod parts;
+pub(crate) mod plan_pair;
 pub(crate) mod plan_ref;
 pub(crate) mod plan_table;
 pub(crate) mod walking;

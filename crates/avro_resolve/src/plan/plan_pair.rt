@@ -1,0 +1,222 @@
+ghost use Rattle.std.specs.Prelude.{◌≡◌, ◌<◌, ℕ, true, IfSome, None, Some, slice_get, unwrap_or};
+ghost use Rattle.avro_schema.specs.Node.{field_ids, items_node, node_at, values_node};
+ghost use Rattle.avro_schema.specs.Seen.{field_of, seen_fields};
+ghost use Rattle.avro_schema.specs.SeenSchema.{schema_nodes};
+ghost use Rattle.avro_compare.specs.Entries.{AreAscending, entry_at};
+ghost use Rattle.avro_compare.specs.Pairs.{IsAim, IsSymbol, branch_id, item_id, value_id};
+ghost use Rattle.avro_compare.specs.Resolve.{enum_as, fields_at, symbol_at};
+ghost use Rattle.avro_compare.specs.Source.{source_of};
+
+use crate::plan::parts::{items_of, values_of};
+use crate::plan::plan_ref::PlanRef;
+use avro_compare::{Aim, fields_of, source_among};
+use avro_schema::{Field, NodeId};
+
+/// A writer's node and a reader's, and where a plan may keep the pair.
+#[derive(Clone, Copy, Debug, PartialEq, Eq)]
+pub struct PlanPair {
+    /// The writer's node.
+    pub w: NodeId,
+    /// The reader's node.
+    pub r: NodeId,
+    index: u32,
+}
+
+impl PlanPair {
+    /// The pair of the roots.
+    pub fn roots(plan: &PlanRef<'_>) -> PlanPair
+        ensures of_writer { result.w.0 ≡ 0 }
+        ensures of_reader { result.r.0 ≡ 0 }
+    {
+        PlanPair {
+            w: NodeId(0),
+            r: NodeId(0),
+            index: plan.root(),
+        }
+    }
+
+    /// The pair of a branch of the writer's union and the same reader's node.
+    pub fn branch(self, plan: &PlanRef<'_>, branch: u32) -> PlanPair
+        ensures of_writer { result.w.0 ≡ branch_id (node_at (schema_nodes plan.now.0) self.w.0) branch }
+        ensures of_reader { result.r ≡ self.r }
+    {
+        PlanPair {
+            w: plan.branch(self.w, branch),
+            r: self.r,
+            index: plan.index_below(self.index, branch as usize),
+        }
+    }
+
+    /// Where the pair leads, if the writer's node is not a union.
+    #[inline(always)]
+    pub fn aim(self, plan: &PlanRef<'_>) -> Aim
+        ensures { IsAim (schema_nodes plan.now.0) (schema_nodes plan.now.1)
+            (node_at (schema_nodes plan.now.0) self.w.0) (node_at (schema_nodes plan.now.1) self.r.0) result }
+    {
+        plan.aim(self.index, self.w, self.r)
+    }
+
+    /// The pair of the same writer's node and the reader's node that the pair leads to, by a branch where there is one.
+    pub fn aimed(self, plan: &PlanRef<'_>, branch: Option<u32>, q: NodeId) -> PlanPair
+        ensures of_writer { result.w ≡ self.w }
+        ensures of_reader { result.r ≡ q }
+    {
+        PlanPair {
+            w: self.w,
+            r: q,
+            index: plan.index_to(self.index, branch),
+        }
+    }
+
+    /// The pair of the items, where the reader's node is an array.
+    pub fn items(self, plan: &PlanRef<'_>) -> Option<PlanPair>
+        ensures of_writer { IfSome result (λ p. p.w.0 ≡ item_id (node_at (schema_nodes plan.now.0) self.w.0)) }
+        ensures of_reader { IfSome result (λ p. items_node (node_at (schema_nodes plan.now.1) self.r.0) ≡ Some p.r.0) }
+    {
+        let r = plan.reader().get(self.r).items()?;
+        Some(PlanPair {
+            w: items_of(plan.writer(), self.w),
+            r,
+            index: plan.index_below(self.index, 0),
+        })
+    }
+
+    /// The pair of the values, where the reader's node is a map.
+    pub fn values(self, plan: &PlanRef<'_>) -> Option<PlanPair>
+        ensures of_writer { IfSome result (λ p. p.w.0 ≡ value_id (node_at (schema_nodes plan.now.0) self.w.0)) }
+        ensures of_reader { IfSome result (λ p. values_node (node_at (schema_nodes plan.now.1) self.r.0) ≡ Some p.r.0) }
+    {
+        let r = plan.reader().get(self.r).values()?;
+        Some(PlanPair {
+            w: values_of(plan.writer(), self.w),
+            r,
+            index: plan.index_below(self.index, 0),
+        })
+    }
+
+    /// The index of the writer's field that the reader's field at an index takes its value from, of two records.
+    pub fn source(self, plan: &PlanRef<'_>, index: usize, field: &Field) -> Option<usize>
+        ensures { slice_get (fields_at (node_at (schema_nodes plan.now.1) self.r.0)) index ≡ Some (field_of field.now)
+            → result ≡ source_of (fields_at (node_at (schema_nodes plan.now.0) self.w.0)) (field_of field.now) }
+    {
+        match plan.sources(self.index, self.w, self.r) {
+            Some(sources) => source_at(sources, index),
+            None => source_among(fields_of(plan.writer(), self.w), field),
+        }
+    }
+
+    /// The pair of the writer's field at an index and a node of the reader's, of two records.
+    pub fn field(self, plan: &PlanRef<'_>, source: usize, r: NodeId) -> PlanPair
+        ensures of_writer { result.w.0 ≡ unwrap_or (slice_get (field_ids (fields_at (node_at (schema_nodes plan.now.0) self.w.0))) source) 0 }
+        ensures of_reader { result.r ≡ r }
+    {
+        let part = match plan.fields(self.index, self.w, self.r) {
+            Some(fields) => place_of(fields, source),
+            None => source,
+        };
+        PlanPair {
+            w: node_of_field(fields_of(plan.writer(), self.w), source),
+            r,
+            index: plan.index_below(self.index, part),
+        }
+    }
+
+    /// The reader's symbol for a writer's, of two enums.
+    pub fn symbol(self, plan: &PlanRef<'_>, symbol: u32) -> Option<u32>
+        ensures { IsSymbol (enum_as (symbol_at (node_at (schema_nodes plan.now.0) self.w.0) symbol) (node_at (schema_nodes plan.now.1) self.r.0)) result }
+    {
+        plan.symbol(self.index, self.w, symbol, self.r)
+    }
+}
+
+/// The node of the field at an index.
+fn node_of_field(fields: &[Field], index: usize) -> NodeId
+    ensures { result.0 ≡ unwrap_or (slice_get (field_ids (seen_fields fields.now)) index) 0 }
+{
+    if index < fields.len() {
+        fields[index].node
+    } else {
+        NodeId(0)
+    }
+}
+
+/// Where an index stands among entries that are in order, or would stand.
+fn place_of<T>(entries: &[(usize, T)], index: usize) -> usize {
+    match entries.binary_search_by_key(&index, |entry| entry.0) {
+        Ok(at) => at,
+        Err(at) => at,
+    }
+}
+
+/// What stands at a place.
+fn kept_at(entries: &[(usize, usize)], at: usize) -> Option<(usize, usize)>
+    ensures { result ≡ slice_get entries.now at }
+{
+    entries.get(at).copied()
+}
+
+/// What is kept of an index among sources.
+fn source_at(sources: &[(usize, usize)], index: usize) -> Option<usize>
+    ensures { AreAscending 0 sources.now → result ≡ entry_at sources.now index }
+{
+    let at = place_of(sources, index);
+    match kept_at(sources, at) {
+        Some(entry) => {
+            if entry.0 == index {
+                return Some(entry.1);
+            }
+        }
+        None => {}
+    }
+    if is_gap(sources, index, at) {
+        return None;
+    }
+    source_from(sources, index)
+}
+
+/// Whether what stands before a place is of lower indices, and what stands from there on of higher.
+fn is_gap(entries: &[(usize, usize)], index: usize, at: usize) -> bool
+    ensures { AreAscending 0 entries.now → result ≡ true → entry_at entries.now index ≡ None }
+{
+    if is_above(entries, index, at) {
+        is_behind(entries, index, at)
+    } else {
+        false
+    }
+}
+
+/// Whether what stands at a place, if anything does, is of a higher index.
+fn is_above(entries: &[(usize, usize)], index: usize, at: usize) -> bool
+    ensures { result ≡ true → (e : ℕ × ℕ) → slice_get entries.now at ≡ Some e → index < e.0 }
+{
+    match kept_at(entries, at) {
+        Some(next) => index < next.0,
+        None => true,
+    }
+}
+
+/// Whether what stands before a place, if anything does, is of a lower index.
+fn is_behind(entries: &[(usize, usize)], index: usize, at: usize) -> bool
+    ensures { AreAscending 0 entries.now → ((e : ℕ × ℕ) → slice_get entries.now at ≡ Some e → index < e.0) → result ≡ true
+        → entry_at entries.now index ≡ None }
+{
+    if at == 0 {
+        return true;
+    }
+    match kept_at(entries, at - 1) {
+        Some(last) => last.0 < index,
+        None => false,
+    }
+}
+
+/// What is kept of an index, found by one entry after another.
+fn source_from(entries: &[(usize, usize)], index: usize) -> Option<usize>
+    ensures { result ≡ entry_at entries.now index }
+{
+    for entry in entries {
+        if entry.0 == index {
+            return Some(entry.1);
+        }
+    }
+    None
+}
