@@ -1,16 +1,14 @@
 -- Items of an array that are resolved as they are read.
-use Rattle.std.proofs.Common.{◌≡◌, ℕ, zero, suc, ◌+◌, ◌-◌, ◌≤◌, ◌<◌, ◌^◌, List, [], ◌∷◌, ◌++◌, length, replicate, length-append, Option, Result, Ok, Err, refl, sym, ap, ◌∙◌, subst, arith}
-use Rattle.std.specs.Prelude.{min}
+use Rattle.std.proofs.Common.{◌≡◌, ℕ, zero, suc, ◌+◌, ◌<◌, List, [], ◌∷◌, ◌++◌, length, replicate, length-append, Option, Result, Ok, Err, refl, sym, ap, ◌∙◌, subst, arith}
 use Rattle.std.specs.Global.{Box}
 use Rattle.std.proofs.lemmas.List.{append-nil, append_assoc, length-replicate}
-use Rattle.avro_schema.specs.Value.{Value, Values, value, size, values_size}
+use Rattle.avro_schema.specs.Value.{Value, Values, value}
 use Rattle.avro_schema.specs.Node.{Node, node_at, items_node}
 use Rattle.avro_schema.specs.Seen.{values_from}
 use Rattle.avro_schema.specs.declared.schema.NodeId.{NodeId}
-use Rattle.avro_schema.proofs.public.Parts.{size-positive}
 use Rattle.avro_resolve.specs.Ends.{turned, values_before}
 use Rattle.avro_compare.specs.Fault.{ResolutionFault, fault_in}
-use Rattle.avro_resolve.specs.inside.Guided.{MadeAs, StandsAs, IsSmall, SoFar, ItemsGood, ItemsStandAs}
+use Rattle.avro_resolve.specs.inside.Guided.{MadeAs, StandsAs, SoFar, ItemsGood, ItemsStandAs}
 use Rattle.avro_binary.specs.IntoBranch.{in_branch}
 use Rattle.avro_compare.specs.Pairs.{wrapped, item_id}
 use Rattle.avro_compare.specs.Resolve.{Resolved, resolve, resolve_items, both, inside, result_map, part_at}
@@ -20,29 +18,15 @@ use Rattle.avro_compare.specs.declared.guided.At.TheVariants.{Ignored, Pair}
 use Rattle.avro_resolve.specs.declared.resolving.guided.Made.{Made}
 use Rattle.avro_resolve.specs.declared.resolving.guided.Run.{Run}
 use Rattle.avro_compare.proofs.public.Lists.{one_longer}
-use Rattle.avro_resolve.proofs.Guiding.{as_fault, good_made, made_in, smaller, wrapped_fault, so_far_more, so_far_fails, so_far_whole}
+use Rattle.avro_resolve.proofs.Guiding.{as_fault, good_made, made_in, wrapped_fault, so_far_more, so_far_fails, so_far_whole}
 use Rattle.avro_resolve.proofs.InOrder.{values_before-none, values_before-more}
 
--- ---- Sizes
+-- one more is counted, and so many more
+counted_up : (vs : List Value) (v : Value) (count next : ℕ) → count ≡ length vs → next ≡ count + 1 → next ≡ length (vs ++ v ∷ [])
+counted_up vs v count next counted up = omega (arith, counted, up, one_longer vs v)
 
-pub size_front : (vs more : List Value) → values_size (values_from vs) ≤ values_size (values_from (vs ++ more))
-size_front [] more = omega arith
-size_front (v ∷ vs) more = omega (arith, size_front vs more)
-
-pub size_item : (vs : List Value) (v : Value) (more : List Value) → size v ≤ values_size (values_from (vs ++ v ∷ more))
-size_item [] v more = omega arith
-size_item (x ∷ vs) v more = omega (arith, size_item vs v more)
-
-size_count : (vs : List Value) → length vs ≤ values_size (values_from vs)
-size_count [] = omega arith
-size_count (v ∷ vs) = omega (arith, size-positive v, size_count vs)
-
--- one more is counted
-counted_up : (vs : List Value) (v : Value) (count next : ℕ) → count ≡ length vs → next ≡ min (count + 1) (2 ^ 64 - 1) → IsSmall (values_size (values_from (vs ++ v ∷ []))) → next ≡ length (vs ++ v ∷ [])
-counted_up vs v count next counted up small = omega (arith, counted, up, small, one_longer vs v, size_count (vs ++ v ∷ []))
-
-counted_more : (vs more : List Value) (count next n : ℕ) → length more ≡ n → count ≡ length vs → next ≡ min (count + n) (2 ^ 64 - 1) → IsSmall (values_size (values_from (vs ++ more))) → next ≡ length (vs ++ more)
-counted_more vs more count next n long counted up small = omega (arith, long, counted, up, small, length-append vs more, size_count (vs ++ more))
+counted_more : (vs more : List Value) (count next n : ℕ) → length more ≡ n → count ≡ length vs → next ≡ count + n → next ≡ length (vs ++ more)
+counted_more vs more count next n long counted up = omega (arith, long, counted, up, length-append vs more)
 
 -- ---- Steps
 
@@ -105,22 +89,22 @@ module _ (writer reader : List Node) (w r : Node) (v u : Value) (is : resolve wr
 
 module _ {I O : Type 0} (S : I → List Value → Type 0) (SO : O → Value → Type 0) (writer reader nodes : List Node) (id : ℕ) (vs : List Value) (v : Value) where
   pub good_item : (SN : I → List Value → Type 0) (at : At) (old new : I) (count next : ℕ) (branch : Option ℕ) (a b : NodeId) (out : O) → ((us : List Value) (u : Value) → S old us → SO out u → SN new (us ++ u ∷ []))
-      → next ≡ min (count + 1) (2 ^ 64 - 1)
+      → next ≡ count + 1
       → ItemsStandAs S writer reader nodes id at (Run.Good old count branch a b) vs → StandsAs SO writer reader nodes (node_at nodes id) (Pair a b) (Made.Good out) v
       → ItemsStandAs SN writer reader nodes id at (Run.Good new next branch a b) (vs ++ v ∷ [])
   good_item SN Ignored old new count next branch a b out law up h stands = absurd h
-  good_item SN (Pair w r) old new count next branch a b out law up h stands = λ are is small.
+  good_item SN (Pair w r) old new count next branch a b out law up h stands = λ are is.
       let wn = node_at writer w.0 in
       let rn = node_at reader r.0 in
-      let good = h are is (smaller (values_size (values_from vs)) (values_size (values_from (vs ++ v ∷ []))) (size_front vs (v ∷ [])) small) in
+      let good = h are is in
       let made = good_made SO out (resolve writer reader (node_at writer a.0) (node_at reader b.0) v)
-      (stands are (node_there S writer reader wn rn old count branch a b vs good nodes id are is) (smaller (size v) (values_size (values_from (vs ++ v ∷ []))) (size_item vs v []) small)) in
+      (stands are (node_there S writer reader wn rn old count branch a b vs good nodes id are is)) in
       record {
         to = good.to;
         leads = good.leads;
         of_writer = good.of_writer;
         of_reader = good.of_reader;
-        counted = counted_up vs v count next good.counted up small;
+        counted = counted_up vs v count next good.counted up;
         made = good.made ++ made.0 ∷ [];
         so_far = so_far_more (λ k us. resolve_items writer reader (node_at writer a.0) (node_at reader b.0) k (values_from us)) values_before vs v good.made (good.made ++ made.0 ∷ []) good.so_far
             (λ more. item_good writer reader (node_at writer a.0) (node_at reader b.0) (length vs) v more good.made made.0 made.1);
@@ -129,23 +113,23 @@ module _ {I O : Type 0} (S : I → List Value → Type 0) (SO : O → Value → 
 
   -- so many more, that are the same
   pub good_items : (n : ℕ) (at : At) (old new : I) (count next : ℕ) (branch : Option ℕ) (a b : NodeId) (out : O) → ((us : List Value) (u : Value) → S old us → SO out u → S new (us ++ replicate n u))
-      → 0 < n → next ≡ min (count + n) (2 ^ 64 - 1)
+      → 0 < n → next ≡ count + n
       → ItemsStandAs S writer reader nodes id at (Run.Good old count branch a b) vs → StandsAs SO writer reader nodes (node_at nodes id) (Pair a b) (Made.Good out) v
       → ItemsStandAs S writer reader nodes id at (Run.Good new next branch a b) (vs ++ replicate n v)
   good_items n Ignored old new count next branch a b out law some up h stands = absurd h
   good_items zero (Pair w r) old new count next branch a b out law some up h stands = absurd (omega (arith, some))
-  good_items (suc n) (Pair w r) old new count next branch a b out law some up h stands = λ are is small.
+  good_items (suc n) (Pair w r) old new count next branch a b out law some up h stands = λ are is.
       let wn = node_at writer w.0 in
       let rn = node_at reader r.0 in
-      let good = h are is (smaller (values_size (values_from vs)) (values_size (values_from (vs ++ replicate (suc n) v))) (size_front vs (replicate (suc n) v)) small) in
+      let good = h are is in
       let made = good_made SO out (resolve writer reader (node_at writer a.0) (node_at reader b.0) v)
-      (stands are (node_there S writer reader wn rn old count branch a b vs good nodes id are is) (smaller (size v) (values_size (values_from (vs ++ v ∷ replicate n v))) (size_item vs v (replicate n v)) small)) in
+      (stands are (node_there S writer reader wn rn old count branch a b vs good nodes id are is)) in
       record {
         to = good.to;
         leads = good.leads;
         of_writer = good.of_writer;
         of_reader = good.of_reader;
-        counted = counted_more vs (replicate (suc n) v) count next (suc n) (length-replicate (suc n) v) good.counted up small;
+        counted = counted_more vs (replicate (suc n) v) count next (suc n) (length-replicate (suc n) v) good.counted up;
         made = good.made ++ replicate (suc n) made.0;
         so_far = so_far_again writer reader (node_at writer a.0) (node_at reader b.0) v made.0 made.1 (suc n) vs good.made good.so_far;
         stands = law good.made made.0 good.stands made.2;
@@ -155,27 +139,25 @@ module _ {I O : Type 0} (S : I → List Value → Type 0) (SO : O → Value → 
       → ItemsStandAs S writer reader nodes id at (Run.Good old count branch a b) vs → StandsAs SO writer reader nodes (node_at nodes id) (Pair a b) (Made.Faulty fault) v
       → ItemsStandAs S writer reader nodes id at (Run.Faulty outer) (vs ++ v ∷ [])
   faulty_item Ignored old count branch a b fault outer step h stands = absurd h
-  faulty_item (Pair w r) old count branch a b fault outer step h stands = λ are is more few.
+  faulty_item (Pair w r) old count branch a b fault outer step h stands = λ are is more.
       let wn = node_at writer w.0 in
       let rn = node_at reader r.0 in
-      let small = smaller (values_size (values_from (vs ++ v ∷ []))) (values_size (values_from ((vs ++ v ∷ []) ++ more))) (size_front (vs ++ v ∷ []) more) few in
-      let good = h are is (smaller (values_size (values_from vs)) (values_size (values_from (vs ++ v ∷ []))) (size_front vs (v ∷ [])) small) in
-      let bad = stands are (node_there S writer reader wn rn old count branch a b vs good nodes id are is) (smaller (size v) (values_size (values_from (vs ++ v ∷ []))) (size_item vs v []) small) in
+      let good = h are is in
+      let bad = stands are (node_there S writer reader wn rn old count branch a b vs good nodes id are is) in
       array_fails S writer reader wn rn old count branch a b vs good v (turned fault.value) bad more ∙ ap as_fault (sym step)
 
   pub no_item : (at : At) (old : I) (count : ℕ) (branch : Option ℕ) (a b : NodeId)
       → ItemsStandAs S writer reader nodes id at (Run.Good old count branch a b) vs → StandsAs SO writer reader nodes (node_at nodes id) (Pair a b) Made.Nothing v
       → ItemsStandAs S writer reader nodes id at (Run.Good old count branch a b) (vs ++ v ∷ [])
   no_item Ignored old count branch a b h stands = absurd h
-  no_item (Pair w r) old count branch a b h stands = λ are is small.
-      let good = h are is (smaller (values_size (values_from vs)) (values_size (values_from (vs ++ v ∷ []))) (size_front vs (v ∷ [])) small) in
-      absurd (stands are (node_there S writer reader (node_at writer w.0) (node_at reader r.0) old count branch a b vs good nodes id are is)
-      (smaller (size v) (values_size (values_from (vs ++ v ∷ []))) (size_item vs v []) small))
+  no_item (Pair w r) old count branch a b h stands = λ are is.
+      let good = h are is in
+      absurd (stands are (node_there S writer reader (node_at writer w.0) (node_at reader r.0) old count branch a b vs good nodes id are is))
 
   pub items_after_fault : (n : ℕ) (at : At) (fault : Box Fault) → ItemsStandAs S writer reader nodes id at (Run.Faulty fault) vs → ItemsStandAs S writer reader nodes id at (Run.Faulty fault) (vs ++ replicate n v)
   items_after_fault n Ignored fault h = absurd h
   items_after_fault n (Pair w r) fault h = λ are is more.
-      subst (λ (xs : List Value). IsSmall (values_size (values_from xs)) → resolve writer reader (node_at writer w.0) (node_at reader r.0) (Value.array (values_from xs)) ≡ Err (turned fault.value)) (sym (append_assoc vs (replicate n v) more))
+      subst (λ (xs : List Value). resolve writer reader (node_at writer w.0) (node_at reader r.0) (Value.array (values_from xs)) ≡ Err (turned fault.value)) (sym (append_assoc vs (replicate n v) more))
       (h are is (replicate n v ++ more))
 
 -- ---- Arrays
@@ -185,8 +167,12 @@ module _ {I O : Type 0} (S : I → List Value → Type 0) (SO : O → Value → 
       → ((us : List Value) → S kept us → SO out (in_branch branch (Value.array (values_from us))))
       → ItemsStandAs S writer reader nodes id at (Run.Good kept count branch a b) vs → StandsAs SO writer reader nodes (Node.array id) at (Made.Good out) (Value.array (values_from vs))
   good_array Ignored kept count branch a b out law h = absurd h
-  good_array (Pair w r) kept count branch a b out law h = λ are is small.
-      let less : values_size (values_from vs) ≤ suc (values_size (values_from vs)) = omega arith in
-      let good = h are is (smaller (values_size (values_from vs)) (suc (values_size (values_from vs))) less small) in
+  good_array (Pair w r) kept count branch a b out law h = λ are is.
+      let good = h are is in
       subst (MadeAs SO (Made.Good out)) (sym (array_whole S writer reader (node_at writer w.0) (node_at reader r.0) kept count branch a b vs good))
       (made_in SO branch out (Value.array (values_from good.made)) (law good.made good.stands))
+
+  pub faulty_array : (at : At) (fault : Box Fault) → ItemsStandAs S writer reader nodes id at (Run.Faulty fault) vs → StandsAs SO writer reader nodes (Node.array id) at (Made.Faulty fault) (Value.array (values_from vs))
+  faulty_array Ignored fault h = absurd h
+  faulty_array (Pair w r) fault h = λ are is.
+      subst (λ (xs : List Value). resolve writer reader (node_at writer w.0) (node_at reader r.0) (Value.array (values_from xs)) ≡ Err (turned fault.value)) (append-nil vs) (h are is [])

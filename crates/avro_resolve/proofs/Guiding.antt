@@ -4,12 +4,12 @@ use Rattle.std.specs.Prelude.{IfOk, slice_get, unwrap_or}
 use Rattle.std.specs.Global.{Box}
 use Rattle.std.specs.declared.alloc.AllocError.{AllocError}
 use Rattle.std.proofs.lemmas.List.{append-nil, append_assoc}
-use Rattle.avro_schema.specs.Value.{Value, size}
+use Rattle.avro_schema.specs.Value.{Value}
 use Rattle.avro_schema.specs.Node.{Node, node_at}
 use Rattle.avro_schema.specs.declared.schema.NodeId.{NodeId}
 use Rattle.avro_resolve.specs.Ends.{turned}
 use Rattle.avro_compare.specs.Fault.{ResolutionFault, fault_in}
-use Rattle.avro_resolve.specs.inside.Guided.{MadeAs, IsNothing, StandsAs, SoFar, IsSmall, branch_for}
+use Rattle.avro_resolve.specs.inside.Guided.{MadeAs, IsNothing, StandsAs, SoFar, branch_for}
 use Rattle.avro_binary.specs.IntoBranch.{in_branch}
 use Rattle.avro_compare.specs.Pairs.{IsAim, wrapped, branch_id}
 use Rattle.avro_compare.specs.Resolve.{Resolved, resolve, inside, result_map, through}
@@ -41,7 +41,7 @@ pub leaf_same : {O : Type 0} (S : O → Value → Type 0) (writer reader nodes :
     → StandsAs S writer reader nodes n at (Made.Good out) v
 leaf_same S writer reader nodes n at w r branch q v out pair goes leads h =
     subst (λ (x : At). StandsAs S writer reader nodes n x (Made.Good out) v) (sym pair)
-    (λ are same small. subst (MadeAs S (Made.Good out)) (sym (goes ∙ leads (λ m. Ok v))) (made_in S branch out v h))
+    (λ are same. subst (MadeAs S (Made.Good out)) (sym (goes ∙ leads (λ m. Ok v))) (made_in S branch out v h))
 
 -- of a leaf, by what a pair leads to
 pub leaf_made : {O : Type 0} (S : O → Value → Type 0) (writer reader nodes : List Node) (n : Node) (at : At) (w r : NodeId) (branch : Option ℕ) (q : NodeId) (v : Value) (f : Node → Resolved) (result : Result (Made O) AllocError)
@@ -51,7 +51,7 @@ pub leaf_made : {O : Type 0} (S : O → Value → Type 0) (writer reader nodes :
 leaf_made S writer reader nodes n at w r branch q v f (Err e) pair goes leads h = tt
 leaf_made S writer reader nodes n at w r branch q v f (Ok made) pair goes leads h =
     subst (λ (x : At). StandsAs S writer reader nodes n x made v) (sym pair)
-    (λ are same small. subst (MadeAs S made) (sym (goes ∙ leads f)) h)
+    (λ are same. subst (MadeAs S made) (sym (goes ∙ leads f)) h)
 
 -- ---- Unions of the writer
 
@@ -59,18 +59,14 @@ pub branch_good : {O : Type 0} (S : O → Value → Type 0) (out : O) (q : Resol
 branch_good S out (Ok v) h = h
 branch_good S out (Err f) h = absurd h
 
-pub smaller : (n m : ℕ) → n ≤ m → IsSmall m → IsSmall n
-smaller n m le small = omega (arith, le, small)
-
 pub branch_made : {O : Type 0} (S : O → Value → Type 0) (writer reader nodes : List Node) (ids : List ℕ) (k p : ℕ) (v : Value) (at : At) (made outer : Made O) → slice_get ids k ≡ Some p
     → (IsNothing made → IsNothing outer) → ((q : Resolved) → MadeAs S made q → MadeAs S outer (inside 0 q))
     → StandsAs S writer reader nodes (node_at nodes p) (branch_for writer at k) made v → StandsAs S writer reader nodes (Node.union ids) at outer (Value.union k v)
 branch_made S writer reader nodes ids k p v Ignored made outer e none step h = none h
-branch_made S writer reader nodes ids k p v (Pair w r) made outer e none step h = λ are is small.
+branch_made S writer reader nodes ids k p v (Pair w r) made outer e none step h = λ are is.
     let there : p ≡ branch_id (node_at writer w.0) k = sym (ap (λ (o : Option ℕ). unwrap_or o 0) e) ∙ ap (λ (n : Node). branch_id n k) is in
-    let less : size v ≤ suc (size v) = omega arith in
     step (resolve writer reader (node_at writer (branch_id (node_at writer w.0) k)) (node_at reader r.0) v)
-    (h are (ap (λ (ns : List Node). node_at ns p) are ∙ ap (node_at writer) there) (smaller (size v) (suc (size v)) less small))
+    (h are (ap (λ (ns : List Node). node_at ns p) are ∙ ap (node_at writer) there))
 
 pub branch_bad : (fault outer : Box Fault) (q : Resolved) → turned outer.value ≡ fault_in 0 (turned fault.value) → q ≡ Err (turned fault.value) → inside 0 q ≡ Err (turned outer.value)
 branch_bad fault outer q step e = ap (inside 0) e ∙ ap as_fault (sym step)

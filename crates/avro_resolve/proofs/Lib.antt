@@ -20,3 +20,4 @@ pub mod StraightRecords
 pub mod Flagging
 pub mod PiecesMade
 pub mod Places
+pub mod GivenParts

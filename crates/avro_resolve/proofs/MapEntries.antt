@@ -1,15 +1,14 @@
 -- Entries of a map that are resolved as they are read.
-use Rattle.std.proofs.Common.{◌≡◌, ℕ, suc, ◌+◌, ◌-◌, ◌≤◌, ◌^◌, List, [], ◌∷◌, ◌++◌, length, Option, Result, Ok, Err, refl, sym, ap, ◌∙◌, subst, arith}
-use Rattle.std.specs.Prelude.{min}
+use Rattle.std.proofs.Common.{◌≡◌, ℕ, suc, ◌+◌, List, [], ◌∷◌, ◌++◌, length, Option, Result, Ok, Err, refl, sym, ap, ◌∙◌, subst, arith}
 use Rattle.std.specs.Global.{Box}
-use Rattle.avro_schema.specs.Value.{Value, Entries, entry, size, entries_size}
+use Rattle.std.proofs.lemmas.List.{append-nil}
+use Rattle.avro_schema.specs.Value.{Value, Entries, entry}
 use Rattle.avro_schema.specs.Node.{Node, node_at, values_node}
 use Rattle.avro_schema.specs.Seen.{entries_from}
 use Rattle.avro_schema.specs.declared.schema.NodeId.{NodeId}
-use Rattle.avro_schema.proofs.public.Parts.{size-positive}
 use Rattle.avro_resolve.specs.Ends.{turned, entries_before}
 use Rattle.avro_compare.specs.Fault.{ResolutionFault, fault_in}
-use Rattle.avro_resolve.specs.inside.Guided.{MadeAs, StandsAs, IsSmall, EntriesGood, EntriesStandAs}
+use Rattle.avro_resolve.specs.inside.Guided.{MadeAs, StandsAs, EntriesGood, EntriesStandAs}
 use Rattle.avro_binary.specs.IntoBranch.{in_branch}
 use Rattle.avro_compare.specs.Pairs.{wrapped, value_id}
 use Rattle.avro_compare.specs.Resolve.{Resolved, resolve, resolve_entries, both, inside, result_map, part_at}
@@ -19,26 +18,12 @@ use Rattle.avro_compare.specs.declared.guided.At.TheVariants.{Ignored, Pair}
 use Rattle.avro_resolve.specs.declared.resolving.guided.Made.{Made}
 use Rattle.avro_resolve.specs.declared.resolving.guided.Run.{Run}
 use Rattle.avro_compare.proofs.public.Lists.{one_longer}
-use Rattle.avro_resolve.proofs.Guiding.{as_fault, good_made, made_in, smaller, wrapped_fault, so_far_more, so_far_fails, so_far_whole}
+use Rattle.avro_resolve.proofs.Guiding.{as_fault, good_made, made_in, wrapped_fault, so_far_more, so_far_fails, so_far_whole}
 use Rattle.avro_resolve.proofs.InOrder.{entries_before-none, entries_before-more}
 
--- ---- Sizes
-
-pub size_front : (vs more : List (List ℕ × Value)) → entries_size (entries_from vs) ≤ entries_size (entries_from (vs ++ more))
-size_front [] more = omega arith
-size_front (e ∷ vs) more = omega (arith, size_front vs more)
-
-pub size_entry : (vs : List (List ℕ × Value)) (key : List ℕ) (v : Value) (more : List (List ℕ × Value)) → size v ≤ entries_size (entries_from (vs ++ (key, v) ∷ more))
-size_entry [] key v more = omega arith
-size_entry (x ∷ vs) key v more = omega (arith, size_entry vs key v more)
-
-size_count : (vs : List (List ℕ × Value)) → length vs ≤ entries_size (entries_from vs)
-size_count [] = omega arith
-size_count (e ∷ vs) = omega (arith, size-positive e.1, size_count vs)
-
 -- one more is counted
-counted_up : (vs : List (List ℕ × Value)) (key : List ℕ) (v : Value) (count next : ℕ) → count ≡ length vs → next ≡ min (count + 1) (2 ^ 64 - 1) → IsSmall (entries_size (entries_from (vs ++ (key, v) ∷ []))) → next ≡ length (vs ++ (key, v) ∷ [])
-counted_up vs key v count next counted up small = omega (arith, counted, up, small, one_longer vs (key, v), size_count (vs ++ (key, v) ∷ []))
+counted_up : (vs : List (List ℕ × Value)) (key : List ℕ) (v : Value) (count next : ℕ) → count ≡ length vs → next ≡ count + 1 → next ≡ length (vs ++ (key, v) ∷ [])
+counted_up vs key v count next counted up = omega (arith, counted, up, one_longer vs (key, v))
 
 -- ---- Steps
 
@@ -88,22 +73,22 @@ module _ {I : Type 0} (S : I → List (List ℕ × Value) → Type 0) (writer re
 
 module _ {I O : Type 0} (S : I → List (List ℕ × Value) → Type 0) (SO : O → Value → Type 0) (writer reader nodes : List Node) (id : ℕ) (vs : List (List ℕ × Value)) (key : List ℕ) (v : Value) where
   pub good_entry : (SN : I → List (List ℕ × Value) → Type 0) (at : At) (old new : I) (count next : ℕ) (branch : Option ℕ) (a b : NodeId) (out : O) → ((us : List (List ℕ × Value)) (u : Value) → S old us → SO out u → SN new (us ++ (key, u) ∷ []))
-      → next ≡ min (count + 1) (2 ^ 64 - 1)
+      → next ≡ count + 1
       → EntriesStandAs S writer reader nodes id at (Run.Good old count branch a b) vs → StandsAs SO writer reader nodes (node_at nodes id) (Pair a b) (Made.Good out) v
       → EntriesStandAs SN writer reader nodes id at (Run.Good new next branch a b) (vs ++ (key, v) ∷ [])
   good_entry SN Ignored old new count next branch a b out law up h stands = absurd h
-  good_entry SN (Pair w r) old new count next branch a b out law up h stands = λ are is small.
+  good_entry SN (Pair w r) old new count next branch a b out law up h stands = λ are is.
       let wn = node_at writer w.0 in
       let rn = node_at reader r.0 in
-      let good = h are is (smaller (entries_size (entries_from vs)) (entries_size (entries_from (vs ++ (key, v) ∷ []))) (size_front vs ((key, v) ∷ [])) small) in
+      let good = h are is in
       let made = good_made SO out (resolve writer reader (node_at writer a.0) (node_at reader b.0) v)
-      (stands are (node_there S writer reader wn rn old count branch a b vs good nodes id are is) (smaller (size v) (entries_size (entries_from (vs ++ (key, v) ∷ []))) (size_entry vs key v []) small)) in
+      (stands are (node_there S writer reader wn rn old count branch a b vs good nodes id are is)) in
       record {
         to = good.to;
         leads = good.leads;
         of_writer = good.of_writer;
         of_reader = good.of_reader;
-        counted = counted_up vs key v count next good.counted up small;
+        counted = counted_up vs key v count next good.counted up;
         made = good.made ++ (key, made.0) ∷ [];
         so_far = so_far_more (λ k us. resolve_entries writer reader (node_at writer a.0) (node_at reader b.0) k (entries_from us)) entries_before vs (key, v) good.made (good.made ++ (key, made.0) ∷ []) good.so_far
             (λ more. entry_good writer reader (node_at writer a.0) (node_at reader b.0) (length vs) key v more good.made made.0 made.1);
@@ -114,22 +99,20 @@ module _ {I O : Type 0} (S : I → List (List ℕ × Value) → Type 0) (SO : O 
       → EntriesStandAs S writer reader nodes id at (Run.Good old count branch a b) vs → StandsAs SO writer reader nodes (node_at nodes id) (Pair a b) (Made.Faulty fault) v
       → EntriesStandAs S writer reader nodes id at (Run.Faulty outer) (vs ++ (key, v) ∷ [])
   faulty_entry Ignored old count branch a b fault outer step h stands = absurd h
-  faulty_entry (Pair w r) old count branch a b fault outer step h stands = λ are is more few.
+  faulty_entry (Pair w r) old count branch a b fault outer step h stands = λ are is more.
       let wn = node_at writer w.0 in
       let rn = node_at reader r.0 in
-      let small = smaller (entries_size (entries_from (vs ++ (key, v) ∷ []))) (entries_size (entries_from ((vs ++ (key, v) ∷ []) ++ more))) (size_front (vs ++ (key, v) ∷ []) more) few in
-      let good = h are is (smaller (entries_size (entries_from vs)) (entries_size (entries_from (vs ++ (key, v) ∷ []))) (size_front vs ((key, v) ∷ [])) small) in
-      let bad = stands are (node_there S writer reader wn rn old count branch a b vs good nodes id are is) (smaller (size v) (entries_size (entries_from (vs ++ (key, v) ∷ []))) (size_entry vs key v []) small) in
+      let good = h are is in
+      let bad = stands are (node_there S writer reader wn rn old count branch a b vs good nodes id are is) in
       map_fails S writer reader wn rn old count branch a b vs good key v (turned fault.value) bad more ∙ ap as_fault (sym step)
 
   pub no_entry : (at : At) (old : I) (count : ℕ) (branch : Option ℕ) (a b : NodeId)
       → EntriesStandAs S writer reader nodes id at (Run.Good old count branch a b) vs → StandsAs SO writer reader nodes (node_at nodes id) (Pair a b) Made.Nothing v
       → EntriesStandAs S writer reader nodes id at (Run.Good old count branch a b) (vs ++ (key, v) ∷ [])
   no_entry Ignored old count branch a b h stands = absurd h
-  no_entry (Pair w r) old count branch a b h stands = λ are is small.
-      let good = h are is (smaller (entries_size (entries_from vs)) (entries_size (entries_from (vs ++ (key, v) ∷ []))) (size_front vs ((key, v) ∷ [])) small) in
-      absurd (stands are (node_there S writer reader (node_at writer w.0) (node_at reader r.0) old count branch a b vs good nodes id are is)
-      (smaller (size v) (entries_size (entries_from (vs ++ (key, v) ∷ []))) (size_entry vs key v []) small))
+  no_entry (Pair w r) old count branch a b h stands = λ are is.
+      let good = h are is in
+      absurd (stands are (node_there S writer reader (node_at writer w.0) (node_at reader r.0) old count branch a b vs good nodes id are is))
 
 -- ---- Arrays
 
@@ -138,8 +121,12 @@ module _ {I O : Type 0} (S : I → List (List ℕ × Value) → Type 0) (SO : O 
       → ((us : List (List ℕ × Value)) → S kept us → SO out (in_branch branch (Value.map_of (entries_from us))))
       → EntriesStandAs S writer reader nodes id at (Run.Good kept count branch a b) vs → StandsAs SO writer reader nodes (Node.map_of id) at (Made.Good out) (Value.map_of (entries_from vs))
   good_map Ignored kept count branch a b out law h = absurd h
-  good_map (Pair w r) kept count branch a b out law h = λ are is small.
-      let less : entries_size (entries_from vs) ≤ suc (entries_size (entries_from vs)) = omega arith in
-      let good = h are is (smaller (entries_size (entries_from vs)) (suc (entries_size (entries_from vs))) less small) in
+  good_map (Pair w r) kept count branch a b out law h = λ are is.
+      let good = h are is in
       subst (MadeAs SO (Made.Good out)) (sym (map_whole S writer reader (node_at writer w.0) (node_at reader r.0) kept count branch a b vs good))
       (made_in SO branch out (Value.map_of (entries_from good.made)) (law good.made good.stands))
+
+  pub faulty_map : (at : At) (fault : Box Fault) → EntriesStandAs S writer reader nodes id at (Run.Faulty fault) vs → StandsAs SO writer reader nodes (Node.map_of id) at (Made.Faulty fault) (Value.map_of (entries_from vs))
+  faulty_map Ignored fault h = absurd h
+  faulty_map (Pair w r) fault h = λ are is.
+      subst (λ (xs : List (List ℕ × Value)). resolve writer reader (node_at writer w.0) (node_at reader r.0) (Value.map_of (entries_from xs)) ≡ Err (turned fault.value)) (append-nil vs) (h are is [])

@@ -12,7 +12,7 @@ use Rattle.avro_binary.specs.Reading.{BuildsExactly}
 use Rattle.avro_cursor.specs.Seen.{read_fault, UnlessOutOfMemory as UnlessMemory}
 use Rattle.avro_cursor.specs.declared.error.ReadError.{ReadError}
 use Rattle.avro_resolve.specs.Ends.{turned, IsSeen}
-use Rattle.avro_resolve.specs.inside.Guided.{MadeAs, StandsAs, IsSmall}
+use Rattle.avro_resolve.specs.inside.Guided.{MadeAs, StandsAs}
 use Rattle.avro_resolve.specs.Reading.{ReadsAs, BuildsResolved, ReadsResolved}
 use Rattle.avro_compare.specs.Resolve.{Resolved, resolve, resolve_root}
 use Rattle.avro_compare.specs.Seen.{fault_of}
@@ -29,26 +29,17 @@ AreGuides a b c d = ◌≡◌ {A = List Node × List Node} (a, b) (c, d)
 
 -- what was made at the roots, by a maker that is kept
 pub at_roots : {O : Type 0} (S : O → Value → Type 0) (writer reader ws rs : List Node) (w r : NodeId) (made : Made O) (v : Value) → AreGuides writer reader ws rs → w.0 ≡ 0 → r.0 ≡ 0
-    → StandsAs S ws rs writer (node_at writer w.0) (Pair w r) made v → IsSmall (size v) → MadeAs S made (resolve_root writer reader v)
-at_roots S writer reader ws rs w r made v kept first_w first_r h small =
+    → StandsAs S ws rs writer (node_at writer w.0) (Pair w r) made v → MadeAs S made (resolve_root writer reader v)
+at_roots S writer reader ws rs w r made v kept first_w first_r h =
     let here = subst (λ (g : List Node × List Node). StandsAs S g.0 g.1 writer (node_at writer w.0) (Pair w r) made v) (sym kept) h in
     subst (λ (i : ℕ). MadeAs S made (resolve writer reader (root_of writer) (node_at reader i) v)) first_r
-    (subst (λ (i : ℕ). MadeAs S made (resolve writer reader (node_at writer i) (node_at reader r.0) v)) first_w (here refl refl small))
+    (subst (λ (i : ℕ). MadeAs S made (resolve writer reader (node_at writer i) (node_at reader r.0) v)) first_w (here refl refl))
 
 pub guide_is : (writer reader ws rs xs ys : List Node) → writer ≡ ws → reader ≡ rs → AreGuides ws rs xs ys → AreGuides writer reader xs ys
 guide_is writer reader ws rs xs ys e f kept = both_are ∙ kept
   where
     both_are : AreGuides writer reader ws rs
     both_are i = (e i, f i)
-
-pub small_within : (limits : LimitValues) (v : Value) → limits.nodes ≤ 16777216 → is_within limits v ≡ true → IsSmall (size v)
-small_within limits v few within =
-    let front = (and_parts (nat_le (depth v) limits.depth && nat_le (size v) limits.nodes) (nat_le (longest_blob v) limits.blob) within).0 in
-    let many = leb-true (size v) limits.nodes (and_parts (nat_le (depth v) limits.depth) (nat_le (size v) limits.nodes) front).1 in
-    below (size v) limits.nodes many few
-  where
-    below : (n m : ℕ) → n ≤ m → m ≤ 16777216 → n < 2 ^ 64
-    below n m le few = omega (arith, le, few)
 
 abbrev error_of : (A : Type 0) → ReadError → Result A ReadError
 error_of A e = Err e
@@ -60,11 +51,11 @@ only_memory : (A B : Type 0) (e : ReadError) (P : Type 0) → UnlessMemory (erro
 only_memory A B ReadError.OutOfMemory P h = tt
 only_memory A B _ P h = h
 
--- what a maker makes of a small datum is what resolution gives of it
+-- what a maker makes of a datum is what resolution gives of it
 abbrev pub MakesResolved : {O : Type 0} → (O → Value → Type 0) → List Node → List Node → (Made O → Value → Type 0) → Type 0
-MakesResolved {O = O} S writer reader stands = (made : Made O) (v : Value) → stands made v → IsSmall (size v) → MadeAs S made (resolve_root writer reader v)
+MakesResolved {O = O} S writer reader stands = (made : Made O) (v : Value) → stands made v → MadeAs S made (resolve_root writer reader v)
 
-module _ {O : Type 0} (S : O → Value → Type 0) (writer reader : List Node) (limits : LimitValues) (bytes : List ℕ) (few : limits.nodes ≤ 16777216) {stands : Made O → Value → Type 0} (n : Node) (root : n ≡ root_of writer) where
+module _ {O : Type 0} (S : O → Value → Type 0) (writer reader : List Node) (limits : LimitValues) (bytes : List ℕ) {stands : Made O → Value → Type 0} (n : Node) (root : n ≡ root_of writer) where
   at_root : (result : Result (Made O × ℕ) ReadError) → BuildsExactly stands writer n limits bytes result → BuildsExactly stands writer (root_of writer) limits bytes result
   at_root result b = subst (λ (m : Node). BuildsExactly stands writer m limits bytes result) root b
 
@@ -73,13 +64,13 @@ module _ {O : Type 0} (S : O → Value → Type 0) (writer reader : List Node) (
   resolved out len there law =
       let b = at_root (Ok (Made.Good out, len)) there in
       let v = b.found.0 in
-      let made = good_made S out (resolve_root writer reader v) (law (Made.Good out) v b.found.1 (small_within limits v few b.found.4)) in
+      let made = good_made S out (resolve_root writer reader v) (law (Made.Good out) v b.found.1) in
       record {
         found = (made.0, made.2, record { datum = v; in_bytes = b.found.2; encoded = b.found.3; within = b.found.4; resolves = made.1 });
         faulty = tt;
         begins = λ x front rest encoded within split.
             let h = b.begins x front rest encoded within split in
-            let got = good_made S out (resolve_root writer reader x) (law (Made.Good out) x h.0 (small_within limits x few within)) in
+            let got = good_made S out (resolve_root writer reader x) (law (Made.Good out) x h.0) in
             (got.0, got.2, got.1, h.1);
         refused = tt;
         breaks = λ fault broken. b.breaks fault broken;
@@ -91,14 +82,14 @@ module _ {O : Type 0} (S : O → Value → Type 0) (writer reader : List Node) (
       let b = at_root (Ok (Made.Faulty fault, len)) there in
       record {
         found = tt;
-        faulty = (len, record { datum = b.found.0; in_bytes = b.found.2; encoded = b.found.3; within = b.found.4; resolves = fails b.found.0 b.found.1 b.found.4 });
-        begins = λ x front rest encoded within split. fails x (b.begins x front rest encoded within split).0 within;
+        faulty = (len, record { datum = b.found.0; in_bytes = b.found.2; encoded = b.found.3; within = b.found.4; resolves = fails b.found.0 b.found.1 });
+        begins = λ x front rest encoded within split. fails x (b.begins x front rest encoded within split).0;
         refused = tt;
         breaks = λ broken_by broken. b.breaks broken_by broken;
       }
     where
-      fails : (v : Value) → stands (Made.Faulty fault) v → is_within limits v ≡ true → resolve_root writer reader v ≡ Err (fault_of from_root)
-      fails v h within = law (Made.Faulty fault) v h (small_within limits v few within) ∙ ap as_fault (sym same)
+      fails : (v : Value) → stands (Made.Faulty fault) v → resolve_root writer reader v ≡ Err (fault_of from_root)
+      fails v h = law (Made.Faulty fault) v h ∙ ap as_fault (sym same)
 
   pub unread : (e : ReadError) → BuildsExactly stands writer n limits bytes (Err e) → BuildsResolved S writer reader limits bytes (Err (ReadResolveError.Read e))
   unread e there =

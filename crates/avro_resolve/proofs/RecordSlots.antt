@@ -1,16 +1,16 @@
 -- Fields of a record that are resolved as they are read.
-use Rattle.std.proofs.Common.{◌≡◌, ℕ, suc, ◌+◌, ◌≤◌, List, [], ◌∷◌, ◌++◌, length, Option, Some, None, Result, Ok, Err, refl, sym, ap, ◌∙◌, subst, arith}
+use Rattle.std.proofs.Common.{◌≡◌, ℕ, suc, ◌+◌, List, [], ◌∷◌, ◌++◌, length, Option, Some, None, Result, Ok, Err, refl, sym, ap, ◌∙◌, subst, arith}
 use Rattle.std.specs.Prelude.{slice_get, unwrap_or}
 use Rattle.std.specs.Global.{Vec, Box}
 use Rattle.std.proofs.lemmas.List.{append-nil, append_assoc}
 use Rattle.avro_name.specs.Name.{Name}
-use Rattle.avro_schema.specs.Value.{Value, size, values_size}
+use Rattle.avro_schema.specs.Value.{Value}
 use Rattle.avro_schema.specs.Node.{Node, FieldNode, node_at, field_ids}
 use Rattle.avro_schema.specs.Seen.{values_from}
 use Rattle.avro_schema.specs.declared.schema.NodeId.{NodeId}
 use Rattle.avro_resolve.specs.Ends.{turned, before, AllBelow, SlotsAre}
 use Rattle.avro_compare.specs.Fault.{ResolutionFault, fault_in}
-use Rattle.avro_resolve.specs.inside.Guided.{MadeAs, StandsAs, IsSmall, Leads, FieldsGood, FieldsStandAs}
+use Rattle.avro_resolve.specs.inside.Guided.{MadeAs, StandsAs, Leads, FieldsGood, FieldsStandAs}
 use Rattle.avro_binary.specs.IntoBranch.{in_branch}
 use Rattle.avro_compare.specs.Pairs.{wrapped, part_to, field_for}
 use Rattle.avro_compare.specs.Resolve.{Resolved, Sourced, resolve, resolve_sources, with_sourced, both, inside, result_map, field_values, fields_at, record_or_missing}
@@ -20,9 +20,8 @@ use Rattle.avro_compare.specs.declared.guided.At.{At}
 use Rattle.avro_compare.specs.declared.guided.At.TheVariants.{Ignored, Pair}
 use Rattle.avro_resolve.specs.declared.resolving.guided.Made.{Made}
 use Rattle.avro_resolve.specs.declared.resolving.guided.Slots.{Slots}
-use Rattle.avro_resolve.proofs.ArrayItems.{size_front, size_item}
 use Rattle.avro_compare.proofs.public.Lists.{one_longer}
-use Rattle.avro_resolve.proofs.Guiding.{as_fault, good_made, made_in, smaller, wrapped_fault, so_far_none, so_far_more, so_far_fails, so_far_whole}
+use Rattle.avro_resolve.proofs.Guiding.{as_fault, good_made, made_in, wrapped_fault, so_far_none, so_far_more, so_far_fails, so_far_whole}
 use Rattle.avro_resolve.proofs.Slots.{below_more, below_last, slots_none, slots_some}
 
 -- ---- Steps over the writer's fields
@@ -60,7 +59,7 @@ pub no_slots : {O F : Type 0} (S : O → Value → Type 0) (T : Option ℕ → F
     → at ≡ Pair w r → slots.items ≡ [] → T branch start [] → Leads writer reader (node_at writer w.0) (node_at reader r.0) branch q.0
     → missing_field (fields_at (node_at writer w.0)) (fields_at (node_at reader q.0)) ≡ None → FieldsStandAs S T writer reader nodes fs at (Slots.Good slots start branch w q) []
 no_slots {O = O} S T writer reader nodes fs at w r slots start branch q pair none starts leads complete =
-    subst (λ (x : At). FieldsStandAs S T writer reader nodes fs x (Slots.Good slots start branch w q) []) (sym pair) (λ are same small. record {
+    subst (λ (x : At). FieldsStandAs S T writer reader nodes fs x (Slots.Good slots start branch w q) []) (sym pair) (λ are same. record {
       leads = leads;
       of_writer = refl;
       complete = complete;
@@ -118,34 +117,28 @@ module _ {O F : Type 0} (S : O → Value → Type 0) (T : Option ℕ → F → L
 
 -- ---- What is made of one field, by what it is for
 
-module _ {O : Type 0} (S : O → Value → Type 0) (writer reader nodes : List Node) (n : Node) (j : ℕ) (v : Value) (are : nodes ≡ writer) (there : n ≡ node_at writer j) (small : IsSmall (size v)) where
+module _ {O : Type 0} (S : O → Value → Type 0) (writer reader nodes : List Node) (n : Node) (j : ℕ) (v : Value) (are : nodes ≡ writer) (there : n ≡ node_at writer j) where
   sourced_good : (o : Option FieldNode) (out : O) → StandsAs S writer reader nodes n (part_to j o) (Made.Good out) v
       → (f : FieldNode) × (u : Value) × (o ≡ Some f) × (resolve writer reader (node_at writer j) (node_at reader f.node) v ≡ Ok u) × S out u
   sourced_good None out h = absurd h
   sourced_good (Some f) out h =
-      let made = good_made S out (resolve writer reader (node_at writer j) (node_at reader f.node) v) (h are there small) in
+      let made = good_made S out (resolve writer reader (node_at writer j) (node_at reader f.node) v) (h are there) in
       (f, made.0, refl, made.1, made.2)
 
   sourced_bad : (o : Option FieldNode) (fault : Box Fault) → StandsAs S writer reader nodes n (part_to j o) (Made.Faulty fault) v
       → (f : FieldNode) × (o ≡ Some f) × (resolve writer reader (node_at writer j) (node_at reader f.node) v ≡ Err (turned fault.value))
   sourced_bad None fault h = absurd h
-  sourced_bad (Some f) fault h = (f, refl, h are there small)
+  sourced_bad (Some f) fault h = (f, refl, h are there)
 
   sourced_none : (o : Option FieldNode) → StandsAs S writer reader nodes n (part_to j o) Made.Nothing v → o ≡ None
   sourced_none None h = refl
-  sourced_none (Some f) h = absurd (h are there small)
+  sourced_none (Some f) h = absurd (h are there)
 
 -- ---- Fields of a run
 
 module _ {O F : Type 0} (S : O → Value → Type 0) (T : Option ℕ → F → List Value → Type 0) (writer reader nodes : List Node) (fs : List FieldNode) (id : ℕ) (vs : List Value) (v : Value) (is_field : slice_get (field_ids fs) (length vs) ≡ Some id) where
   abbrev stands_at : NodeId → NodeId → ℕ → Made O → Type 0
   stands_at a b k made = StandsAs S writer reader nodes (node_at nodes id) (field_for (fields_at (node_at writer a.0)) (fields_at (node_at reader b.0)) k) made v
-
-  front_small : IsSmall (values_size (values_from (vs ++ v ∷ []))) → IsSmall (values_size (values_from vs))
-  front_small small = smaller (values_size (values_from vs)) (values_size (values_from (vs ++ v ∷ []))) (size_front vs (v ∷ [])) small
-
-  field_small : IsSmall (values_size (values_from (vs ++ v ∷ []))) → IsSmall (size v)
-  field_small small = smaller (size v) (values_size (values_from (vs ++ v ∷ []))) (size_item vs v []) small
 
   at_count : (a b : NodeId) (made : Made O) (k : ℕ) → k ≡ length vs → stands_at a b k made → stands_at a b (length vs) made
   at_count a b made k e h = subst (λ (i : ℕ). stands_at a b i made) e h
@@ -154,14 +147,14 @@ module _ {O F : Type 0} (S : O → Value → Type 0) (T : Option ℕ → F → L
       → FieldsStandAs S T writer reader nodes fs at (Slots.Good slots start branch a b) vs → stands_at a b (length slots.items) (Made.Good out)
       → FieldsStandAs S T writer reader nodes fs at (Slots.Good after start branch a b) (vs ++ v ∷ [])
   good_field Ignored slots after start branch a b out pushed h stands = absurd h
-  good_field (Pair w r) slots after start branch a b out pushed h stands = λ are of_record small.
+  good_field (Pair w r) slots after start branch a b out pushed h stands = λ are of_record.
       let wn = node_at writer w.0 in
       let rn = node_at reader r.0 in
       let ws = fields_at (node_at writer a.0) in
       let rs = fields_at (node_at reader b.0) in
-      let good = h are of_record (front_small small) in
+      let good = h are of_record in
       let got = sourced_good S writer reader nodes (node_at nodes id) (unwrap_or (slice_get (field_ids ws) (length vs)) 0) v are
-      (field_there S T writer reader wn rn slots.items start branch a b vs good nodes fs id are of_record is_field) (field_small small)
+      (field_there S T writer reader wn rn slots.items start branch a b vs good nodes fs id are of_record is_field)
       (reader_field ws rs (length vs)) out (at_count a b (Made.Good out) (length slots.items) good.counted stands) in
       let found = good.found ++ (length vs, got.1) ∷ [] in
       let one : length vs + 1 ≡ length (vs ++ v ∷ []) = omega (arith, one_longer vs v) in
@@ -183,14 +176,14 @@ module _ {O F : Type 0} (S : O → Value → Type 0) (T : Option ℕ → F → L
       → FieldsStandAs S T writer reader nodes fs at (Slots.Good slots start branch a b) vs → stands_at a b (length slots.items) Made.Nothing
       → FieldsStandAs S T writer reader nodes fs at (Slots.Good after start branch a b) (vs ++ v ∷ [])
   no_field Ignored slots after start branch a b pushed h stands = absurd h
-  no_field (Pair w r) slots after start branch a b pushed h stands = λ are of_record small.
+  no_field (Pair w r) slots after start branch a b pushed h stands = λ are of_record.
       let wn = node_at writer w.0 in
       let rn = node_at reader r.0 in
       let ws = fields_at (node_at writer a.0) in
       let rs = fields_at (node_at reader b.0) in
-      let good = h are of_record (front_small small) in
+      let good = h are of_record in
       let none = sourced_none S writer reader nodes (node_at nodes id) (unwrap_or (slice_get (field_ids ws) (length vs)) 0) v are
-      (field_there S T writer reader wn rn slots.items start branch a b vs good nodes fs id are of_record is_field) (field_small small)
+      (field_there S T writer reader wn rn slots.items start branch a b vs good nodes fs id are of_record is_field)
       (reader_field ws rs (length vs)) (at_count a b Made.Nothing (length slots.items) good.counted stands) in
       let one : length vs + 1 ≡ length (vs ++ v ∷ []) = omega (arith, one_longer vs v) in
       subst (λ (xs : List (Option O)). FieldsGood S T writer reader wn rn xs start branch a b (vs ++ v ∷ [])) (sym pushed)
@@ -211,15 +204,14 @@ module _ {O F : Type 0} (S : O → Value → Type 0) (T : Option ℕ → F → L
       → FieldsStandAs S T writer reader nodes fs at (Slots.Good slots start branch a b) vs → stands_at a b (length slots.items) (Made.Faulty fault)
       → FieldsStandAs S T writer reader nodes fs at (Slots.Faulty outer) (vs ++ v ∷ [])
   faulty_field Ignored slots start branch a b fault outer step h stands = absurd h
-  faulty_field (Pair w r) slots start branch a b fault outer step h stands = λ are of_record more few.
+  faulty_field (Pair w r) slots start branch a b fault outer step h stands = λ are of_record more.
       let wn = node_at writer w.0 in
       let rn = node_at reader r.0 in
       let ws = fields_at (node_at writer a.0) in
       let rs = fields_at (node_at reader b.0) in
-      let small = smaller (values_size (values_from (vs ++ v ∷ []))) (values_size (values_from ((vs ++ v ∷ []) ++ more))) (size_front (vs ++ v ∷ []) more) few in
-      let good = h are of_record (front_small small) in
+      let good = h are of_record in
       let got = sourced_bad S writer reader nodes (node_at nodes id) (unwrap_or (slice_get (field_ids ws) (length vs)) 0) v are
-      (field_there S T writer reader wn rn slots.items start branch a b vs good nodes fs id are of_record is_field) (field_small small)
+      (field_there S T writer reader wn rn slots.items start branch a b vs good nodes fs id are of_record is_field)
       (reader_field ws rs (length vs)) fault (at_count a b (Made.Faulty fault) (length slots.items) good.counted stands) in
       record_fails S T writer reader wn rn slots.items start branch a b vs good v got.0 (turned fault.value) got.1 got.2 more ∙ ap as_fault (sym step)
 
@@ -228,7 +220,7 @@ pub fields_after_fault : {O F : Type 0} (S : O → Value → Type 0) (T : Option
     → FieldsStandAs S T writer reader nodes fs at (Slots.Faulty fault) vs → FieldsStandAs S T writer reader nodes fs at (Slots.Faulty fault) (vs ++ ws)
 fields_after_fault S T writer reader nodes fs vs ws Ignored fault h = absurd h
 fields_after_fault S T writer reader nodes fs vs ws (Pair w r) fault h = λ are of_record more.
-    subst (λ (xs : List Value). IsSmall (values_size (values_from xs)) → resolve writer reader (node_at writer w.0) (node_at reader r.0) (Value.record_of (values_from xs)) ≡ Err (turned fault.value)) (sym (append_assoc vs ws more))
+    subst (λ (xs : List Value). resolve writer reader (node_at writer w.0) (node_at reader r.0) (Value.record_of (values_from xs)) ≡ Err (turned fault.value)) (sym (append_assoc vs ws more))
     (h are of_record (ws ++ more))
 
 -- ---- Records
@@ -240,16 +232,14 @@ module _ {O F : Type 0} (S : O → Value → Type 0) (T : Option ℕ → F → L
       → FieldsStandAs S T writer reader nodes fs at (Slots.Good slots start branch a b) vs
       → StandsAs SN writer reader nodes (Node.record_of name aliases fs) at (Made.Good out) (Value.record_of (values_from vs))
   good_record Ignored slots start branch a b SN out law h = absurd h
-  good_record (Pair w r) slots start branch a b SN out law h = λ are is small.
-      let less : values_size (values_from vs) ≤ suc (values_size (values_from vs)) = omega arith in
-      let good = h are (sym (ap fields_at is)) (smaller (values_size (values_from vs)) (suc (values_size (values_from vs))) less small) in
+  good_record (Pair w r) slots start branch a b SN out law h = λ are is.
+      let good = h are (sym (ap fields_at is)) in
       subst (MadeAs SN (Made.Good out)) (sym (record_whole S T writer reader (node_at writer w.0) (node_at reader r.0) slots.items start branch a b vs good))
       (made_in SN branch out (Value.record_of (field_values (fields_at (node_at writer a.0)) good.found (fields_at (node_at reader b.0)))) (law good.found good.stands good.starts))
 
   pub faulty_record : (at : At) (fault : Box Fault) → FieldsStandAs S T writer reader nodes fs at (Slots.Faulty fault) vs
       → StandsAs S writer reader nodes (Node.record_of name aliases fs) at (Made.Faulty fault) (Value.record_of (values_from vs))
   faulty_record Ignored fault h = absurd h
-  faulty_record (Pair w r) fault h = λ are is small.
-      let less : values_size (values_from vs) ≤ suc (values_size (values_from vs)) = omega arith in
-      subst (λ (xs : List Value). IsSmall (values_size (values_from xs)) → resolve writer reader (node_at writer w.0) (node_at reader r.0) (Value.record_of (values_from xs)) ≡ Err (turned fault.value)) (append-nil vs)
-      (h are (sym (ap fields_at is)) []) (smaller (values_size (values_from vs)) (suc (values_size (values_from vs))) less small)
+  faulty_record (Pair w r) fault h = λ are is.
+      subst (λ (xs : List Value). resolve writer reader (node_at writer w.0) (node_at reader r.0) (Value.record_of (values_from xs)) ≡ Err (turned fault.value)) (append-nil vs)
+      (h are (sym (ap fields_at is)) [])

@@ -170,7 +170,7 @@ pub straight_record : {O : Type 0} (S : O → Value → Type 0) (writer reader n
     → S out (Value.record_of (field_values (fields_at (node_at writer w.0)) found (fields_at (node_at reader r.0)))))
     → StandsAs S writer reader nodes (Node.record_of name aliases fs) at (Made.Good out) (Value.record_of (values_from vs))
 straight_record S writer reader nodes name aliases fs vs bytes ends at w r out pair straight spelled fit law =
-    subst (λ (x : At). StandsAs S writer reader nodes (Node.record_of name aliases fs) x (Made.Good out) (Value.record_of (values_from vs))) (sym pair) (λ are is small.
+    subst (λ (x : At). StandsAs S writer reader nodes (Node.record_of name aliases fs) x (Made.Good out) (Value.record_of (values_from vs))) (sym pair) (λ are is.
     let wn = node_at writer w.0 in
     let rn = node_at reader r.0 in
     let ws = fields_at wn in

@@ -17,6 +17,12 @@ Answers (Ok d) resolved = resolved ≡ Ok (value_of d)
 Answers (Err (ResolveError.Fault f)) resolved = resolved ≡ Err (fault_of f)
 Answers (Err ResolveError.Memory) resolved = Unit {0}
 
+-- the result stands for what resolution gives, unless memory ran out
+abbrev pub StandsForResult : {O : Type 0} → (O → Value → Type 0) → Result O ResolveError → Resolved → Type 0
+StandsForResult S (Ok out) resolved = (u : Value) × S out u × (resolved ≡ Ok u)
+StandsForResult S (Err (ResolveError.Fault f)) resolved = resolved ≡ Err (fault_of f)
+StandsForResult S (Err ResolveError.Memory) resolved = Unit {0}
+
 -- memory ran out, or else P holds
 abbrev pub UnlessOutOfMemory : {A : Type 0} → Result A ReadResolveError → Type 0 → Type 0
 UnlessOutOfMemory (Err (ReadResolveError.Read OutOfMemory)) P = Unit {0}

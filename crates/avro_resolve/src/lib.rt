@@ -23,6 +23,7 @@
 #![tactic(auto)]
 
 mod error;
+mod giving;
 pub mod laws;
 mod plan;
 mod read;

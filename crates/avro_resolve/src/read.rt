@@ -79,8 +79,6 @@ pub(crate) fn put_planned<P: Put>(
 ) -> Result<(P::Out, usize), ReadResolveError>
     ensures { BuildsResolved (P.stands_for builder.new) (schema_nodes plan.now.0) (schema_nodes plan.now.1) limits.now bytes.now result }
 {
-    // That the limit on nodes is in its range is a fact of this call, and the proof needs it.
-    let _nodes = limits.nodes();
     let writer = plan.writer();
     let w = writer.root();
     let part = Part {

@@ -2,7 +2,6 @@ pub(crate) mod copying;
 pub(crate) mod failing;
 pub(crate) mod filling;
 pub(crate) mod guided;
-pub(crate) mod leaves;
 pub(crate) mod making;
 pub(crate) mod recording;
 pub(crate) mod running;

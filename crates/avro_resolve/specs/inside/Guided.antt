@@ -1,6 +1,6 @@
 -- What reading with resolution makes of a writer's datum, part by part.
-use Rattle.std.specs.Prelude.{◌≡◌, ◌<◌, ◌^◌, ℕ, ◌+◌, ◌++◌, List, [], IfSome, Option, Some, None, length, slice_get, Result, Ok, Err}
-use Rattle.avro_schema.specs.Value.{Value, size, values_size, entries_size}
+use Rattle.std.specs.Prelude.{◌≡◌, ℕ, ◌+◌, ◌++◌, List, [], IfSome, Option, Some, None, length, slice_get, Result, Ok, Err}
+use Rattle.avro_schema.specs.Value.{Value}
 use Rattle.avro_schema.specs.Node.{Node, FieldNode, node_at}
 use Rattle.avro_schema.specs.Seen.{values_from, entries_from}
 use Rattle.avro_schema.specs.declared.schema.NodeId.{NodeId}
@@ -33,15 +33,11 @@ abbrev pub IsNothing : {O : Type 0} → Made O → Type 0
 IsNothing Made.Nothing = Unit {0}
 IsNothing made = ⊥
 
--- a datum of a run of items whose indices are numbers of the machine
-abbrev pub IsSmall : ℕ → Type 0
-IsSmall n = n < 2 ^ 64
-
 -- What a part at a pair of nodes is made of is what resolution gives of it; of an ignored part nothing is made.
 abbrev pub StandsAs : {O : Type 0} → (O → Value → Type 0) → List Node → List Node → List Node → Node → At → Made O → Value → Type 0
 StandsAs S writer reader nodes n Ignored out v = IsNothing out
 StandsAs S writer reader nodes n (Pair w r) out v =
-    nodes ≡ writer → n ≡ node_at writer w.0 → IsSmall (size v) → MadeAs S out (resolve writer reader (node_at writer w.0) (node_at reader r.0) v)
+    nodes ≡ writer → n ≡ node_at writer w.0 → MadeAs S out (resolve writer reader (node_at writer w.0) (node_at reader r.0) v)
 
 abbrev pub branch_for : List Node → At → ℕ → At
 branch_for writer Ignored k = Ignored
@@ -70,9 +66,9 @@ pub record ItemsGood {I : Type 0} (S : I → List Value → Type 0) (writer read
 
 -- a run is good so far, or one of its items has a fault, whatever follows
 abbrev pub RunAs : {I : Type 0} → (I → List Value → Type 0) → List Node → List Node → Node → Node → Run I → List Value → Type 0
-RunAs S writer reader w r (Run.Good items count branch a b) vs = IsSmall (values_size (values_from vs)) → ItemsGood S writer reader w r items count branch a b vs
+RunAs S writer reader w r (Run.Good items count branch a b) vs = ItemsGood S writer reader w r items count branch a b vs
 RunAs S writer reader w r (Run.Faulty fault) vs =
-    (more : List Value) → IsSmall (values_size (values_from (vs ++ more))) → resolve writer reader w r (Value.array (values_from (vs ++ more))) ≡ Err (turned fault.value)
+    (more : List Value) → resolve writer reader w r (Value.array (values_from (vs ++ more))) ≡ Err (turned fault.value)
 RunAs S writer reader w r Run.Nothing vs = ⊥
 
 abbrev pub IsNoRun : {I : Type 0} → Run I → Type 0
@@ -98,9 +94,9 @@ pub record EntriesGood {I : Type 0} (S : I → List (List ℕ × Value) → Type
   pub stands : S items made
 
 abbrev pub MapRunAs : {I : Type 0} → (I → List (List ℕ × Value) → Type 0) → List Node → List Node → Node → Node → Run I → List (List ℕ × Value) → Type 0
-MapRunAs S writer reader w r (Run.Good items count branch a b) vs = IsSmall (entries_size (entries_from vs)) → EntriesGood S writer reader w r items count branch a b vs
+MapRunAs S writer reader w r (Run.Good items count branch a b) vs = EntriesGood S writer reader w r items count branch a b vs
 MapRunAs S writer reader w r (Run.Faulty fault) vs =
-    (more : List (List ℕ × Value)) → IsSmall (entries_size (entries_from (vs ++ more))) → resolve writer reader w r (Value.map_of (entries_from (vs ++ more))) ≡ Err (turned fault.value)
+    (more : List (List ℕ × Value)) → resolve writer reader w r (Value.map_of (entries_from (vs ++ more))) ≡ Err (turned fault.value)
 MapRunAs S writer reader w r Run.Nothing vs = ⊥
 
 abbrev pub EntriesStandAs : {I : Type 0} → (I → List (List ℕ × Value) → Type 0) → List Node → List Node → List Node → ℕ → At → Run I → List (List ℕ × Value) → Type 0
@@ -129,9 +125,9 @@ pub record FieldsGood {O F : Type 0} (S : O → Value → Type 0) (T : Option �
   pub starts : T branch start []
 
 abbrev pub SlotsStand : {O F : Type 0} → (O → Value → Type 0) → (Option ℕ → F → List Value → Type 0) → List Node → List Node → Node → Node → Slots O F → List Value → Type 0
-SlotsStand S T writer reader w r (Slots.Good slots start branch a b) vs = IsSmall (values_size (values_from vs)) → FieldsGood S T writer reader w r slots.items start branch a b vs
+SlotsStand S T writer reader w r (Slots.Good slots start branch a b) vs = FieldsGood S T writer reader w r slots.items start branch a b vs
 SlotsStand S T writer reader w r (Slots.Faulty fault) vs =
-    (more : List Value) → IsSmall (values_size (values_from (vs ++ more))) → resolve writer reader w r (Value.record_of (values_from (vs ++ more))) ≡ Err (turned fault.value)
+    (more : List Value) → resolve writer reader w r (Value.record_of (values_from (vs ++ more))) ≡ Err (turned fault.value)
 SlotsStand S T writer reader w r Slots.Nothing vs = ⊥
 
 abbrev pub AreNoSlots : {O F : Type 0} → Slots O F → Type 0

@@ -21,8 +21,8 @@ Implies {O = O} {V = V} S T = (o : O) (v : V) → S o v → T o v
 pub items_later : {I : Type 0} (S T : I → List Value → Type 0) → Implies S T → (writer reader nodes : List Node) (id : ℕ) (at : At) (items : Run I) (vs : List Value)
     → ItemsStandAs S writer reader nodes id at items vs → ItemsStandAs T writer reader nodes id at items vs
 items_later S T law writer reader nodes id Ignored items vs h = h
-items_later S T law writer reader nodes id (Pair w r) (Run.Good items count branch a b) vs h = λ are is small.
-    let good = h are is small in
+items_later S T law writer reader nodes id (Pair w r) (Run.Good items count branch a b) vs h = λ are is.
+    let good = h are is in
     record {
       to = good.to;
       leads = good.leads;
@@ -39,8 +39,8 @@ items_later S T law writer reader nodes id (Pair w r) Run.Nothing vs h = h
 pub entries_later : {I : Type 0} (S T : I → List (List ℕ × Value) → Type 0) → Implies S T → (writer reader nodes : List Node) (id : ℕ) (at : At) (entries : Run I) (es : List (List ℕ × Value))
     → EntriesStandAs S writer reader nodes id at entries es → EntriesStandAs T writer reader nodes id at entries es
 entries_later S T law writer reader nodes id Ignored entries es h = h
-entries_later S T law writer reader nodes id (Pair w r) (Run.Good entries count branch a b) es h = λ are is small.
-    let good = h are is small in
+entries_later S T law writer reader nodes id (Pair w r) (Run.Good entries count branch a b) es h = λ are is.
+    let good = h are is in
     record {
       to = good.to;
       leads = good.leads;
@@ -68,8 +68,8 @@ slots_for_later S T law ws rest found slots h = λ g is k src. slotted_later S T
 module _ {O F : Type 0} (S T : O → Value → Type 0) (law : Implies S T) (U V : Option ℕ → F → List Value → Type 0) (begins : (into : Option ℕ) (start : F) (vs : List Value) → U into start vs → V into start vs) (writer reader nodes : List Node) (fs : List FieldNode) where
   pub fields_later : (at : At) (slots : Slots O F) (vs : List Value) → FieldsStandAs S U writer reader nodes fs at slots vs → FieldsStandAs T V writer reader nodes fs at slots vs
   fields_later Ignored slots vs h = h
-  fields_later (Pair w r) (Slots.Good slots start branch a b) vs h = λ are is small.
-      let good = h are is small in
+  fields_later (Pair w r) (Slots.Good slots start branch a b) vs h = λ are is.
+      let good = h are is in
       record {
         leads = good.leads;
         of_writer = good.of_writer;

@@ -1,7 +1,7 @@
 ghost use Rattle.std.specs.Prelude.{◌≡◌, slice_get};
 ghost use Rattle.avro_resolve.specs.inside.Guided.{kept_or};
 
-use crate::error::ReadResolveError;
+use crate::error::{ReadResolveError, ResolveError};
 use crate::plan::flagging::{is_set, straight_kept};
 use crate::plan::keeping::{
     Kept, aim_kept, field_kept, fields_kept, missing_kept, sources_kept, symbol_kept, whole_kept,
@@ -9,10 +9,11 @@ use crate::plan::keeping::{
 use crate::plan::pair_order::PairOrder;
 use crate::plan::parts::{branch_of, items_of, values_of};
 use crate::read::{put_planned, read_planned};
+use crate::resolution::put_datum;
 use crate::resolving::guided::Part;
 use avro_binary::{Build, Put};
 use avro_compare::{Aim, At, Comparison};
-use avro_schema::{Limits, NodeId, Schema};
+use avro_schema::{Datum, Limits, NodeId, Schema};
 use std::alloc::Global;
 use std::marker::Model;
 
@@ -46,15 +47,20 @@ impl<'a> Model for PlanRef<'a> {
 }
 
 impl<'a> PlanRef<'a> {
-    ghost use Rattle.std.specs.Prelude.{◌≡◌, IfOk, IfSome};
-    ghost use Rattle.avro_schema.specs.Node.{node_at};
+    ghost use Rattle.std.specs.Prelude.{◌≡◌, true, IfOk, IfSome};
+    ghost use Rattle.avro_schema.specs.Fits.{fits};
+    ghost use Rattle.avro_schema.specs.Node.{node_at, root_of};
+    ghost use Rattle.avro_schema.specs.Seen.{value_of};
     ghost use Rattle.avro_schema.specs.SeenSchema.{schema_nodes};
+    ghost use Rattle.avro_schema.specs.declared.schema.NodeId.{NodeId};
+    ghost use Rattle.avro_compare.specs.declared.guided.At.TheVariants.{Pair};
     ghost use Rattle.avro_resolve.specs.inside.Guided.{IsWhole, branch_part, known_part};
     ghost use Rattle.avro_compare.specs.Pairs.{IsAim, IsSymbol, field_for, item_id, value_id, branch_id};
     ghost use Rattle.avro_compare.specs.Planned.{AreComparisons, AreFor, AreSources};
     ghost use Rattle.avro_resolve.specs.Copied.{AreFlags, IsStraight};
     ghost use Rattle.avro_resolve.specs.Reading.{BuildsResolved};
-    ghost use Rattle.avro_compare.specs.Resolve.{enum_as, fields_at, symbol_at};
+    ghost use Rattle.avro_resolve.specs.Seen.{StandsForResult};
+    ghost use Rattle.avro_compare.specs.Resolve.{enum_as, fields_at, resolve_root, symbol_at};
     ghost use Rattle.avro_compare.specs.Source.{missing_field};
 
     /// The plan of two schemas that keeps these pairs. `parts` holds for each pair the indices of the pairs of its
@@ -119,6 +125,23 @@ impl<'a> PlanRef<'a> {
         ensures { BuildsResolved (P.stands_for builder.new) (schema_nodes self.now.0) (schema_nodes self.now.1) limits.now bytes.now result }
     {
         put_planned(alloc, self, bytes, limits, builder)
+    }
+
+    /// What a [`Put`](crate::Put) makes of what a writer's datum is for the reader. No datum is built in between.
+    ///
+    /// # Errors
+    ///
+    /// The first fault of resolution, with its path in the datum; or memory ran out.
+    pub fn of_datum<P: Put>(
+        &self,
+        alloc: Global,
+        datum: &Datum,
+        builder: &mut P,
+    ) -> Result<P::Out, ResolveError>
+        requires fitting { fits (schema_nodes self.now.0) (root_of (schema_nodes self.now.0)) (value_of datum.now) ≡ true }
+        ensures answers { StandsForResult (P.stands_for builder.new) result (resolve_root (schema_nodes self.now.0) (schema_nodes self.now.1) (value_of datum.now)) }
+    {
+        put_datum(alloc, self, datum, builder)
     }
 
     /// The writer's schema.
@@ -204,6 +227,17 @@ impl<'a> PlanRef<'a> {
         ensures { result.0 ≡ branch_id (node_at (schema_nodes self.now.0) w.0) branch }
     {
         branch_of(self.writer, w, branch)
+    }
+
+    /// What the whole of a writer's datum is for.
+    pub(crate) fn root_part(&self) -> Part
+        ensures { (w r : NodeId) × (result.at ≡ Pair w r) × (w.0 ≡ 0) × (r.0 ≡ 0) }
+    {
+        Part {
+            at: At::Pair(self.writer.root(), self.reader.root()),
+            index: self.root(),
+            branch: None,
+        }
     }
 
     /// What the value of a branch of a part is for.

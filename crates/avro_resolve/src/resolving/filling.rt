@@ -1,47 +1,18 @@
 ghost use Rattle.std.specs.Prelude.{◌≡◌, ◌+◌, ◌++◌, ◌∷◌, [], ℕ, true, IfOk, IfSome, List, OnOk, Option, Some, map, slice_get, bytes_eq};
-ghost use Rattle.std.specs.List.{AllZip, flat_map};
+ghost use Rattle.std.specs.List.{flat_map};
 ghost use Rattle.avro_schema.specs.Node.{FieldNode};
 ghost use Rattle.avro_schema.specs.Distinct.{are_distinct};
 ghost use Rattle.avro_schema.specs.WellFormed.{field_names};
-ghost use Rattle.avro_schema.specs.Seen.{values_of, field_of, seen_fields};
-ghost use Rattle.avro_compare.specs.Resolve.{Sourced, field_value, field_values};
+ghost use Rattle.avro_schema.specs.Seen.{field_of, seen_fields};
+ghost use Rattle.avro_compare.specs.Resolve.{Sourced, field_value};
 ghost use Rattle.avro_compare.specs.Planned.{AreSources, AreSourcesFrom};
 ghost use Rattle.avro_compare.specs.Source.{source_of};
-ghost use Rattle.avro_resolve.specs.Ends.{SlotsAre, SlotsFor, IsSeen, slot_out};
+ghost use Rattle.avro_resolve.specs.Ends.{SlotsAre, SlotsFor, slot_out};
 
-use avro_binary::{Put, Tree, Wrapping};
+use avro_binary::Put;
 use avro_compare::{first_entry, rest_entries, source_among};
-use avro_schema::{Datum, Field};
+use avro_schema::Field;
 use std::alloc::{AllocError, Global};
-
-/// The data of a reader's fields, in its order: each is what is in the slot of its source, or its
-/// default.
-pub(crate) fn fill_data(
-    alloc: Global,
-    writes: &[Field],
-    reads: &[Field],
-    sources: &[(usize, usize)],
-    slots: Vec<Option<Datum>>,
-) -> Result<Vec<Datum>, AllocError>
-    requires distinct { are_distinct bytes_eq (flat_map field_names (seen_fields reads.now)) ≡ true }
-    requires sources { AreSources (seen_fields writes.now) (seen_fields reads.now) sources.now }
-    ensures { (found : Sourced) → SlotsAre IsSeen found slots.items
-        → IfOk result (λ values. values_of values.items ≡ field_values (seen_fields writes.now) found (seen_fields reads.now)) }
-{
-    let mut tree = Tree;
-    let mut builder = Wrapping::new(&mut tree);
-    let start = (Vec::new(alloc), None);
-    let filled = fill(
-        alloc,
-        &mut builder,
-        writes,
-        reads,
-        Some(sources),
-        slots,
-        start,
-    )?;
-    Ok(filled.1.0)
-}
 
 /// What is made of the fields of a reader's record, in its order: each is what is in the slot of its
 /// source, or its default. Returns the slots, too.

@@ -1,16 +1,15 @@
 ghost use Rattle.std.specs.Prelude.{IfOk, OnOk};
-ghost use Rattle.avro_schema.specs.Node.{node_at};
+ghost use Rattle.avro_schema.specs.Node.{Node as SeenNode, node_at};
 ghost use Rattle.avro_schema.specs.SeenSchema.{schema_nodes};
 ghost use Rattle.avro_resolve.specs.inside.Guided.{MadeAs};
-ghost use Rattle.avro_compare.specs.Pairs.{IsSymbol, wrapped as in_branch};
+ghost use Rattle.avro_compare.specs.Pairs.{IsSymbol, Tells, wrapped as in_branch};
 ghost use Rattle.avro_compare.specs.Resolve.{Resolved, bytes_as as kept_bytes, int_as as kept_int, string_as as kept_string};
 
 use crate::resolving::failing::fault_apart;
 use crate::resolving::guided::Made;
-use crate::resolving::leaves::{is_bytes, is_long, is_text};
 use avro_binary::Put;
 use avro_compare::FaultKind;
-use avro_schema::{NodeId, Schema};
+use avro_schema::{Node, NodeId, Schema};
 use std::alloc::{AllocError, Global};
 use std::str::from_utf8;
 
@@ -102,4 +101,37 @@ pub(crate) fn make_symbol<P: Put>(
         }
         None => Ok(Made::Faulty(fault_apart(alloc, FaultKind::NoSymbol)?)),
     }
+}
+
+/// Whether a node is a long.
+#[inline(always)]
+fn is_long(schema: &Schema, id: NodeId) -> bool
+    ensures { Tells result (node_at (schema_nodes schema.now) id.0) SeenNode.long }
+{
+    if !schema.has(id) {
+        return false;
+    }
+    matches!(schema.node(id), Node::Long)
+}
+
+/// Whether a node is a string.
+#[inline(always)]
+fn is_text(schema: &Schema, id: NodeId) -> bool
+    ensures { Tells result (node_at (schema_nodes schema.now) id.0) SeenNode.string }
+{
+    if !schema.has(id) {
+        return false;
+    }
+    matches!(schema.node(id), Node::Str)
+}
+
+/// Whether a node is bytes.
+#[inline(always)]
+fn is_bytes(schema: &Schema, id: NodeId) -> bool
+    ensures { Tells result (node_at (schema_nodes schema.now) id.0) SeenNode.bytes }
+{
+    if !schema.has(id) {
+        return false;
+    }
+    matches!(schema.node(id), Node::Bytes)
 }

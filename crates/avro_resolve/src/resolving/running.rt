@@ -1,4 +1,4 @@
-ghost use Rattle.std.specs.Prelude.{◌≡◌, ◌++◌, ◌∷◌, [], ℕ, IfOk, List, OnOk, min, replicate, true, false, ◌+◌, ◌-◌, ◌<◌, ◌^◌};
+ghost use Rattle.std.specs.Prelude.{◌≡◌, ◌++◌, ◌∷◌, [], ℕ, IfOk, List, OnOk, replicate, true, false, ◌+◌, ◌<◌};
 ghost use Rattle.avro_schema.specs.Node.{Node, node_at};
 ghost use Rattle.avro_schema.specs.Seen.{entries_from, values_from};
 ghost use Rattle.avro_schema.specs.SeenSchema.{schema_nodes};
@@ -68,8 +68,9 @@ pub(crate) fn put_item<P: Put>(
     match items {
         Run::Good(kept, count, _, _, _) => match made {
             Made::Good(out) => {
+                let next = one_more(*count)?;
                 builder.item(alloc, kept, out)?;
-                *count = count.saturating_add(1);
+                *count = next;
                 Ok(())
             }
             Made::Faulty(fault) => {
@@ -119,17 +120,32 @@ fn repeat_good<P: Put>(
     ensures added { (vs : List Value) (v : Value) → result ≡ true → P.items_stand_for builder.now kept.old vs → P.stands_for builder.now out.now v
         → P.items_stand_for builder.now kept.new (vs ++ replicate count v) }
     ensures some { result ≡ true → 0 < count }
-    ensures counted { result ≡ true → known.new ≡ min (known.old + count) (2 ^ 64 - 1) }
+    ensures counted { result ≡ true → known.new ≡ known.old + count }
     ensures none { result ≡ false → (kept.new ≡ kept.old) × (known.new ≡ known.old) }
 {
     if count == 0 {
         return false;
     }
-    if builder.repeat(kept, out, count) {
-        *known = known.saturating_add(count as usize);
-        return true;
+    match known.checked_add(count as usize) {
+        Some(next) => {
+            if builder.repeat(kept, out, count) {
+                *known = next;
+                return true;
+            }
+            false
+        }
+        None => false,
     }
-    false
+}
+
+/// The number of parts with one more, as far as it is a number of the machine: no memory holds more.
+fn one_more(count: usize) -> Result<usize, AllocError>
+    ensures { IfOk result (λ next. next ≡ count + 1) }
+{
+    match count.checked_add(1) {
+        Some(next) => Ok(next),
+        None => Err(AllocError),
+    }
 }
 
 /// What was made of an array, from its items.
@@ -193,8 +209,9 @@ pub(crate) fn put_entry<P: Put>(
     match entries {
         Run::Good(kept, count, _, _, _) => match made {
             Made::Good(out) => {
+                let next = one_more(*count)?;
                 builder.entry(alloc, kept, key, out)?;
-                *count = count.saturating_add(1);
+                *count = next;
                 Ok(())
             }
             Made::Faulty(fault) => {

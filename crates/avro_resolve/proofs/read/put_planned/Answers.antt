@@ -11,28 +11,28 @@ returns-in-Good g c =
     let writer = schema_nodes c.args.plan.now.0 in
     let reader = schema_nodes c.args.plan.now.1 in
     let last = c.read_made.new.maker in
-    resolved _ writer reader c.args.limits.now c.args.bytes.now c.nodes-nodes.ensures.in_range.most_nodes
+    resolved _ writer reader c.args.limits.now c.args.bytes.now
     (node_at writer c.root-w.result.0) (ap (node_at writer) c.root-w.ensures.root)
     c.in-Good.out c.in-Ok.len (rw (c.in-Good.is, c.writer-writer.ensures) at c.in-Ok.ensures.reads)
-    (λ made v h small. subst (λ m. MadeAs (g.P.Put.stands_for m) made (resolve_root writer reader v)) (sym (c.builder-1.given.1 (sym (h.0.0.1 ∙ c.new-maker.ensures.lent))))
+    (λ made v h. subst (λ m. MadeAs (g.P.Put.stands_for m) made (resolve_root writer reader v)) (sym (c.builder-1.given.1 (sym (h.0.0.1 ∙ c.new-maker.ensures.lent))))
     (at_roots (g.P.Put.stands_for last.builder.now) writer reader (schema_nodes last.plan.now.0) (schema_nodes last.plan.now.1) c.root-w.result c.root.result made v
-    (guide_is writer reader _ _ _ _ (ap (λ p. schema_nodes p.0) (sym c.new-maker.ensures.plan)) (ap (λ p. schema_nodes p.1) (sym c.new-maker.ensures.plan)) h.0.1) c.root-w.ensures.root c.root.ensures.root h.1 small))
+    (guide_is writer reader _ _ _ _ (ap (λ p. schema_nodes p.0) (sym c.new-maker.ensures.plan)) (ap (λ p. schema_nodes p.1) (sym c.new-maker.ensures.plan)) h.0.1) c.root-w.ensures.root c.root.ensures.root h.1))
 
 pub returns-in-Faulty : goal.returns-in-Faulty
 returns-in-Faulty g c =
     let writer = schema_nodes c.args.plan.now.0 in
     let reader = schema_nodes c.args.plan.now.1 in
     let last = c.read_made.new.maker in
-    unresolved _ writer reader c.args.limits.now c.args.bytes.now c.nodes-nodes.ensures.in_range.most_nodes
+    unresolved _ writer reader c.args.limits.now c.args.bytes.now
     (node_at writer c.root-w.result.0) (ap (node_at writer) c.root-w.ensures.root)
     c.in-Faulty.fault c.turn_apart.result c.in-Ok.len (rw (c.in-Faulty.is, c.writer-writer.ensures) at c.in-Ok.ensures.reads)
-    (λ made v h small. subst (λ m. MadeAs (g.P.Put.stands_for m) made (resolve_root writer reader v)) (sym (c.builder-1.given.1 (sym (h.0.0.1 ∙ c.new-maker.ensures.lent))))
+    (λ made v h. subst (λ m. MadeAs (g.P.Put.stands_for m) made (resolve_root writer reader v)) (sym (c.builder-1.given.1 (sym (h.0.0.1 ∙ c.new-maker.ensures.lent))))
     (at_roots (g.P.Put.stands_for last.builder.now) writer reader (schema_nodes last.plan.now.0) (schema_nodes last.plan.now.1) c.root-w.result c.root.result made v
-    (guide_is writer reader _ _ _ _ (ap (λ p. schema_nodes p.0) (sym c.new-maker.ensures.plan)) (ap (λ p. schema_nodes p.1) (sym c.new-maker.ensures.plan)) h.0.1) c.root-w.ensures.root c.root.ensures.root h.1 small))
+    (guide_is writer reader _ _ _ _ (ap (λ p. schema_nodes p.0) (sym c.new-maker.ensures.plan)) (ap (λ p. schema_nodes p.1) (sym c.new-maker.ensures.plan)) h.0.1) c.root-w.ensures.root c.root.ensures.root h.1))
     c.turn_apart.ensures
 
 pub returns-in-Err : goal.returns-in-Err
 returns-in-Err g c =
-    unread _ (schema_nodes c.args.plan.now.0) (schema_nodes c.args.plan.now.1) c.args.limits.now c.args.bytes.now c.nodes-nodes.ensures.in_range.most_nodes
+    unread _ (schema_nodes c.args.plan.now.0) (schema_nodes c.args.plan.now.1) c.args.limits.now c.args.bytes.now
     (node_at (schema_nodes c.args.plan.now.0) c.root-w.result.0) (ap (node_at (schema_nodes c.args.plan.now.0)) c.root-w.ensures.root)
     c.in-Err.error (rw c.writer-writer.ensures at c.in-Err.ensures.reads)

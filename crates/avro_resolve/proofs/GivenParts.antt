@@ -1,0 +1,125 @@
+-- Parts of a datum that fits its node, one by one.
+use Rattle.std.proofs.Common.{◌≡◌, ℕ, zero, suc, ◌+◌, ◌<◌, ◌≤◌, true, List, [], ◌∷◌, ◌++◌, drop, length, map, Some, Result, Ok, Err, refl, sym, ap, ◌∙◌, subst, arith}
+use Rattle.std.specs.Prelude.{IfOk, slice_index_or, slice_get, unwrap_or, String, string_bytes}
+use Rattle.std.specs.Global.{Box}
+use Rattle.std.specs.declared.alloc.Global.{Global}
+use Rattle.std.specs.declared.alloc.AllocError.{AllocError}
+use Rattle.std.proofs.lemmas.Bool.{and_parts, false≢true}
+use Rattle.std.proofs.lemmas.List.{append-nil, append_assoc}
+use Rattle.std.proofs.Math.ListN.{drop_of_length-le}
+use Rattle.avro_name.specs.Name.{Name}
+use Rattle.avro_schema.specs.Value.{Value, Values, Entries, value}
+use Rattle.avro_schema.specs.Node.{Node, node_at, field_ids}
+use Rattle.avro_schema.specs.Fits.{fits, each_fits, entries_fit, fields_fit}
+use Rattle.avro_schema.specs.Seen.{value_of, values_of, entries_of, pair_of, view_step}
+use Rattle.avro_schema.specs.declared.datum.Datum.{Datum}
+use Rattle.avro_schema.specs.declared.datum.Datum.TheOpen.{Datum-F}
+use Rattle.avro_schema.specs.declared.datum.Datum.TheViews as view
+use Rattle.avro_schema.specs.declared.datum.Datum.TheVariants as variants
+use Rattle.avro_schema.specs.declared.datum.Datum.TheFolds.{fold-roll-Datum}
+use Rattle.avro_schema.proofs.public.FitsParts.{ArrayFits-from_fits, MapFits-from_fits, UnionFits-from_fits, RecordFits-from_fits}
+use Rattle.avro_compare.specs.Pairs.{item_id, value_id, branch_id}
+use Rattle.avro_compare.specs.Resolve.{fields_at}
+use Rattle.avro_compare.proofs.public.Lists.{next_in}
+
+-- what a result stands for, by the same node and datum
+pub stands_same : {O : Type 0} (S : Node → O → Value → Type 0) (n m : Node) (v u : Value) (result : Result O AllocError) → n ≡ m → v ≡ u
+    → IfOk result (λ out. S m out u) → IfOk result (λ out. S n out v)
+stands_same S n m v u (Err e) at_node same h = tt
+stands_same S n m v u (Ok out) at_node same h = subst (λ (x : Value). S n out x) (sym same) (subst (λ (k : Node). S k out u) (sym at_node) h)
+
+pub value_of-Union : (k : ℕ) (d : Box Datum) → value_of (view.Union k d) ≡ Value.union k (value_of d.value)
+value_of-Union k d = ap value_of (sym (variants.rolls-Union k d)) ∙ fold-roll-Datum Value view_step (Datum-F.Union k d)
+
+-- ---- The nodes below one
+
+pub array_below : (nodes : List Node) (n : Node) (vs : Values) (below : ℕ) → below ≡ item_id n → fits nodes n (Value.array vs) ≡ true
+    → (n ≡ Node.array below) × (each_fits nodes (node_at nodes below) vs ≡ true)
+array_below nodes n vs below e h =
+    let f = ArrayFits-from_fits nodes n vs h in
+    let same : f.id ≡ below = sym (e ∙ ap item_id f.is_array) in
+    (f.is_array ∙ ap Node.array same, subst (λ (id : ℕ). each_fits nodes (node_at nodes id) vs ≡ true) same f.fitting)
+
+pub map_below : (nodes : List Node) (n : Node) (es : Entries) (below : ℕ) → below ≡ value_id n → fits nodes n (Value.map_of es) ≡ true
+    → (n ≡ Node.map_of below) × (entries_fit nodes (node_at nodes below) es ≡ true)
+map_below nodes n es below e h =
+    let f = MapFits-from_fits nodes n es h in
+    let same : f.id ≡ below = sym (e ∙ ap value_id f.is_map) in
+    (f.is_map ∙ ap Node.map_of same, subst (λ (id : ℕ). entries_fit nodes (node_at nodes id) es ≡ true) same f.fitting)
+
+pub branch_below : (nodes : List Node) (n : Node) (k : ℕ) (v : Value) (below : ℕ) → below ≡ branch_id n k → fits nodes n (Value.union k v) ≡ true
+    → (ids : List ℕ) × (n ≡ Node.union ids) × (slice_get ids k ≡ Some below) × (fits nodes (node_at nodes below) v ≡ true)
+branch_below nodes n k v below e h =
+    let f = UnionFits-from_fits nodes n k v h in
+    let same : f.id ≡ below = sym (e ∙ ap (λ (m : Node). branch_id m k) f.is_union ∙ ap (λ o. unwrap_or o 0) f.is_branch) in
+    (f.ids, f.is_union, f.is_branch ∙ ap (λ (id : ℕ). Some id) same, subst (λ (id : ℕ). fits nodes (node_at nodes id) v ≡ true) same f.fitting)
+
+pub record_below : (nodes : List Node) (n : Node) (vs : Values) → fits nodes n (Value.record_of vs) ≡ true
+    → (name : Name) × (aliases : List Name) × (n ≡ Node.record_of name aliases (fields_at n)) × (fields_fit nodes (field_ids (fields_at n)) vs ≡ true)
+record_below nodes n vs h =
+    let f = RecordFits-from_fits nodes n vs h in
+    let same : f.fields ≡ fields_at n = sym (ap fields_at f.is_record) in
+    (f.name, f.aliases, f.is_record ∙ ap (Node.record_of f.name f.aliases) same, subst (λ fs. fields_fit nodes (field_ids fs) vs ≡ true) same f.fitting)
+
+-- ---- Data in order
+
+-- some data before those that are left
+abbrev pub Before : List Value → List Datum → ℕ → Type 0
+Before us items i = us ++ map value_of (drop i items) ≡ map value_of items
+
+pub all_before : (us : List Value) (items : List Datum) (i : ℕ) → length items ≤ i → Before us items i → us ≡ map value_of items
+all_before us items i high h = sym (append-nil us) ∙ ap (λ (ds : List Datum). us ++ map value_of ds) (sym (drop_of_length-le items high)) ∙ h
+
+module _ (items : List Datum) (i : ℕ) (d : Datum) (low : i < length items) (is : d ≡ slice_index_or items i d) where
+  datum_next : drop i items ≡ d ∷ drop (i + 1) items
+  datum_next = next_in items i d low ∙ ap (λ (x : Datum). x ∷ drop (i + 1) items) (sym is)
+
+  pub one_before : (us : List Value) → Before us items i → Before (us ++ value_of d ∷ []) items (i + 1)
+  one_before us h = append_assoc us (value_of d ∷ []) (map value_of (drop (i + 1) items)) ∙ ap (λ (ds : List Datum). us ++ map value_of ds) (sym datum_next) ∙ h
+
+  pub item_fits : (nodes : List Node) (n : Node) → each_fits nodes n (values_of (drop i items)) ≡ true
+      → (fits nodes n (value_of d) ≡ true) × (each_fits nodes n (values_of (drop (i + 1) items)) ≡ true)
+  item_fits nodes n h =
+      and_parts (fits nodes n (value_of d)) (each_fits nodes n (values_of (drop (i + 1) items))) (subst (λ (ds : List Datum). each_fits nodes n (values_of ds) ≡ true) datum_next h)
+
+  pub field_fits : (nodes : List Node) (ids : List ℕ) → fields_fit nodes (drop i ids) (values_of (drop i items)) ≡ true
+      → (slice_get ids i ≡ Some (unwrap_or (slice_get ids i) 0)) × (fits nodes (node_at nodes (unwrap_or (slice_get ids i) 0)) (value_of d) ≡ true)
+      × (fields_fit nodes (drop (i + 1) ids) (values_of (drop (i + 1) items)) ≡ true)
+  field_fits nodes ids h =
+      let rest = values_of (drop (i + 1) items) in
+      let here = first_fits ids i (subst (λ (ds : List Datum). fields_fit nodes (drop i ids) (values_of ds) ≡ true) datum_next h) in
+      (here.0, here.1, subst (λ (k : ℕ). fields_fit nodes (drop k ids) rest ≡ true) (one i) here.2)
+    where
+      one : (i : ℕ) → suc i ≡ i + 1
+      one i = omega arith
+
+      first_fits : (ids : List ℕ) (k : ℕ) → fields_fit nodes (drop k ids) (value (value_of d) (values_of (drop (i + 1) items))) ≡ true
+          → (slice_get ids k ≡ Some (unwrap_or (slice_get ids k) 0)) × (fits nodes (node_at nodes (unwrap_or (slice_get ids k) 0)) (value_of d) ≡ true)
+          × (fields_fit nodes (drop (suc k) ids) (values_of (drop (i + 1) items)) ≡ true)
+      first_fits [] zero h = absurd (false≢true h)
+      first_fits [] (suc k) h = absurd (false≢true h)
+      first_fits (id ∷ ids) zero h =
+          let both = and_parts (fits nodes (node_at nodes id) (value_of d)) (fields_fit nodes ids (values_of (drop (i + 1) items))) h in
+          (refl, both.0, both.1)
+      first_fits (id ∷ ids) (suc k) h = first_fits ids k h
+
+-- ---- Entries in order
+
+abbrev pub EntriesBefore : List (List ℕ × Value) → List (String Global × Datum) → ℕ → Type 0
+EntriesBefore us entries i = us ++ map pair_of (drop i entries) ≡ map pair_of entries
+
+pub all_entries_before : (us : List (List ℕ × Value)) (entries : List (String Global × Datum)) (i : ℕ) → length entries ≤ i → EntriesBefore us entries i → us ≡ map pair_of entries
+all_entries_before us entries i high h = sym (append-nil us) ∙ ap (λ (es : List (String Global × Datum)). us ++ map pair_of es) (sym (drop_of_length-le entries high)) ∙ h
+
+module _ (entries : List (String Global × Datum)) (i : ℕ) (e : String Global × Datum) (low : i < length entries) (is : e ≡ slice_index_or entries i e) where
+  entry_next : drop i entries ≡ e ∷ drop (i + 1) entries
+  entry_next = next_in entries i e low ∙ ap (λ (x : String Global × Datum). x ∷ drop (i + 1) entries) (sym is)
+
+  pub one_entry_before : (us : List (List ℕ × Value)) → EntriesBefore us entries i → EntriesBefore (us ++ pair_of e ∷ []) entries (i + 1)
+  one_entry_before us h = append_assoc us (pair_of e ∷ []) (map pair_of (drop (i + 1) entries)) ∙ ap (λ (es : List (String Global × Datum)). us ++ map pair_of es) (sym entry_next) ∙ h
+
+  pub entry_fits : (nodes : List Node) (n : Node) → entries_fit nodes n (entries_of (drop i entries)) ≡ true
+      → (fits nodes n (value_of e.1) ≡ true) × (entries_fit nodes n (entries_of (drop (i + 1) entries)) ≡ true)
+  entry_fits nodes n h =
+      and_parts (fits nodes n (value_of e.1)) (entries_fit nodes n (entries_of (drop (i + 1) entries)))
+      (subst (λ (es : List (String Global × Datum)). entries_fit nodes n (entries_of es) ≡ true) entry_next h)

@@ -1,0 +1,121 @@
+//! A datum that is given to a maker part by part, as reading gives what bytes begin with.
+
+ghost use Rattle.std.specs.Prelude.{◌≡◌, true, IfOk, OnOk};
+ghost use Rattle.avro_schema.specs.Fits.{fits};
+ghost use Rattle.avro_schema.specs.Node.{node_at};
+ghost use Rattle.avro_schema.specs.Seen.{value_of, values_of as values_seen, entries_of as entries_seen};
+ghost use Rattle.avro_schema.specs.SeenSchema.{schema_nodes};
+ghost use Rattle.avro_schema.specs.Value.{Value};
+
+use crate::plan::parts::{branch_of, field_of, items_of, values_of};
+use avro_binary::Make;
+use avro_schema::{Datum, NodeId, Schema};
+use std::alloc::{AllocError, Global};
+
+/// What a maker makes of a datum of a node. It fails only where memory runs out.
+#[cycle(giving)]
+pub(crate) fn give<M: Make>(
+    alloc: Global,
+    schema: &Schema,
+    id: NodeId,
+    datum: &Datum,
+    maker: &mut M,
+    at: M::At,
+) -> Result<M::Out, AllocError>
+    ensures kept { OnOk result (M.keeps maker.old maker.new) }
+    ensures stands { fits (schema_nodes schema.now) (node_at (schema_nodes schema.now) id.0) (value_of datum.now) ≡ true
+        → IfOk result (λ out. M.stands_for maker.new (schema_nodes schema.now) (node_at (schema_nodes schema.now) id.0) at out (value_of datum.now)) }
+{
+    match datum {
+        Datum::Null => maker.null(alloc, at),
+        Datum::Bool(value) => maker.boolean(alloc, at, *value),
+        Datum::Int(value) => maker.int(alloc, at, *value),
+        Datum::Long(value) => maker.long(alloc, at, *value),
+        Datum::Bytes(content) => maker.bytes(alloc, at, content),
+        Datum::Str(text) => maker.string(alloc, at, text),
+        Datum::Array(items) => give_items(alloc, schema, id, items, maker, at),
+        Datum::Map(entries) => give_entries(alloc, schema, id, entries, maker, at),
+        Datum::Union(branch, value) => {
+            let part = maker.branch_at(at, *branch);
+            let inner = branch_of(schema, id, *branch);
+            let made = give(alloc, schema, inner, value, maker, part)?;
+            maker.branch(alloc, at, *branch, made)
+        }
+        Datum::Record(values) => give_fields(alloc, schema, id, values, maker, at),
+        Datum::Enum(symbol) => maker.symbol(alloc, at, *symbol),
+        Datum::Fixed(content) => maker.fixed(alloc, at, content),
+    }
+}
+
+/// What a maker makes of an array, from its items.
+#[cycle(giving)]
+fn give_items<M: Make>(
+    alloc: Global,
+    schema: &Schema,
+    id: NodeId,
+    items: &[Datum],
+    maker: &mut M,
+    at: M::At,
+) -> Result<M::Out, AllocError>
+    ensures kept { OnOk result (M.keeps maker.old maker.new) }
+    ensures stands { fits (schema_nodes schema.now) (node_at (schema_nodes schema.now) id.0) (Value.array (values_seen items.now)) ≡ true
+        → IfOk result (λ out. M.stands_for maker.new (schema_nodes schema.now) (node_at (schema_nodes schema.now) id.0) at out (Value.array (values_seen items.now))) }
+{
+    let below = items_of(schema, id);
+    let mut made = maker.items(alloc, at)?;
+    for index in 0..items.len() {
+        let part = maker.item_at(&made);
+        let value = give(alloc, schema, below, &items[index], maker, part)?;
+        maker.item(alloc, &mut made, value)?;
+    }
+    maker.array(alloc, made)
+}
+
+/// What a maker makes of a map, from its entries.
+#[cycle(giving)]
+fn give_entries<M: Make>(
+    alloc: Global,
+    schema: &Schema,
+    id: NodeId,
+    entries: &[(String, Datum)],
+    maker: &mut M,
+    at: M::At,
+) -> Result<M::Out, AllocError>
+    ensures kept { OnOk result (M.keeps maker.old maker.new) }
+    ensures stands { fits (schema_nodes schema.now) (node_at (schema_nodes schema.now) id.0) (Value.map_of (entries_seen entries.now)) ≡ true
+        → IfOk result (λ out. M.stands_for maker.new (schema_nodes schema.now) (node_at (schema_nodes schema.now) id.0) at out (Value.map_of (entries_seen entries.now))) }
+{
+    let below = values_of(schema, id);
+    let mut made = maker.entries(alloc, at)?;
+    for index in 0..entries.len() {
+        let entry = &entries[index];
+        let part = maker.entry_at(&made);
+        let value = give(alloc, schema, below, &entry.1, maker, part)?;
+        maker.entry(alloc, &mut made, entry.0.as_str(), value)?;
+    }
+    maker.map(alloc, made)
+}
+
+/// What a maker makes of a record, from the values of its fields.
+#[cycle(giving)]
+fn give_fields<M: Make>(
+    alloc: Global,
+    schema: &Schema,
+    id: NodeId,
+    values: &[Datum],
+    maker: &mut M,
+    at: M::At,
+) -> Result<M::Out, AllocError>
+    ensures kept { OnOk result (M.keeps maker.old maker.new) }
+    ensures stands { fits (schema_nodes schema.now) (node_at (schema_nodes schema.now) id.0) (Value.record_of (values_seen values.now)) ≡ true
+        → IfOk result (λ out. M.stands_for maker.new (schema_nodes schema.now) (node_at (schema_nodes schema.now) id.0) at out (Value.record_of (values_seen values.now))) }
+{
+    let mut made = maker.fields(alloc, at)?;
+    for index in 0..values.len() {
+        let below = field_of(schema, id, index);
+        let part = maker.field_at(&made);
+        let value = give(alloc, schema, below, &values[index], maker, part)?;
+        maker.field(alloc, &mut made, value)?;
+    }
+    maker.record(alloc, made)
+}
