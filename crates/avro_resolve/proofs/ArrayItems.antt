@@ -2,7 +2,7 @@
 use Rattle.std.proofs.Common.{◌≡◌, ℕ, zero, suc, ◌+◌, ◌<◌, List, [], ◌∷◌, ◌++◌, length, replicate, length-append, Option, Result, Ok, Err, refl, sym, ap, ◌∙◌, subst, arith}
 use Rattle.std.specs.Global.{Box}
 use Rattle.std.proofs.lemmas.List.{append-nil, append_assoc, length-replicate}
-use Rattle.avro_schema.specs.Value.{Value, Values, value}
+use Rattle.avro_schema.specs.Value.{Value, Values, no_values, value}
 use Rattle.avro_schema.specs.Node.{Node, node_at, items_node}
 use Rattle.avro_schema.specs.Seen.{values_from}
 use Rattle.avro_schema.specs.declared.schema.NodeId.{NodeId}
@@ -19,7 +19,14 @@ use Rattle.avro_resolve.specs.declared.resolving.guided.Made.{Made}
 use Rattle.avro_resolve.specs.declared.resolving.guided.Run.{Run}
 use Rattle.avro_compare.proofs.public.Lists.{one_longer}
 use Rattle.avro_resolve.proofs.Guiding.{as_fault, good_made, made_in, wrapped_fault, so_far_more, so_far_fails, so_far_whole}
-use Rattle.avro_resolve.proofs.InOrder.{values_before-none, values_before-more}
+
+values_before-none : (us : List Value) → values_before us no_values ≡ values_from us
+values_before-none [] = refl
+values_before-none (u ∷ us) = ap (value u) (values_before-none us)
+
+values_before-more : (us : List Value) (u : Value) (vs : Values) → values_before us (value u vs) ≡ values_before (us ++ u ∷ []) vs
+values_before-more [] u vs = refl
+values_before-more (x ∷ us) u vs = ap (value x) (values_before-more us u vs)
 
 -- one more is counted, and so many more
 counted_up : (vs : List Value) (v : Value) (count next : ℕ) → count ≡ length vs → next ≡ count + 1 → next ≡ length (vs ++ v ∷ [])

@@ -1,15 +1,13 @@
 -- Parts of a datum that fits its node, one by one.
-use Rattle.std.proofs.Common.{◌≡◌, ℕ, zero, suc, ◌+◌, ◌<◌, ◌≤◌, true, List, [], ◌∷◌, ◌++◌, drop, length, map, Some, Result, Ok, Err, refl, sym, ap, ◌∙◌, subst, arith}
-use Rattle.std.specs.Prelude.{IfOk, slice_index_or, slice_get, unwrap_or, String, string_bytes}
+use Rattle.std.proofs.Common.{◌≡◌, ℕ, zero, suc, ◌+◌, ◌<◌, true, List, [], ◌∷◌, ◌++◌, drop, length, map, Some, Result, Ok, Err, refl, sym, ap, ◌∙◌, subst, arith}
+use Rattle.std.specs.Prelude.{IfOk, slice_index_or, slice_get, unwrap_or, String}
 use Rattle.std.specs.Global.{Box}
 use Rattle.std.specs.declared.alloc.Global.{Global}
 use Rattle.std.specs.declared.alloc.AllocError.{AllocError}
 use Rattle.std.proofs.lemmas.Bool.{and_parts, false≢true}
-use Rattle.std.proofs.lemmas.List.{append-nil, append_assoc}
-use Rattle.std.proofs.Math.ListN.{drop_of_length-le}
-use Rattle.avro_name.specs.Name.{Name}
-use Rattle.avro_schema.specs.Value.{Value, Values, Entries, value}
-use Rattle.avro_schema.specs.Node.{Node, node_at, field_ids}
+use Rattle.std.proofs.lemmas.List.{append_assoc}
+use Rattle.avro_schema.specs.Value.{Value, Entries, value}
+use Rattle.avro_schema.specs.Node.{Node, node_at}
 use Rattle.avro_schema.specs.Fits.{fits, each_fits, entries_fit, fields_fit}
 use Rattle.avro_schema.specs.Seen.{value_of, values_of, entries_of, pair_of, view_step}
 use Rattle.avro_schema.specs.declared.datum.Datum.{Datum}
@@ -17,9 +15,8 @@ use Rattle.avro_schema.specs.declared.datum.Datum.TheOpen.{Datum-F}
 use Rattle.avro_schema.specs.declared.datum.Datum.TheViews as view
 use Rattle.avro_schema.specs.declared.datum.Datum.TheVariants as variants
 use Rattle.avro_schema.specs.declared.datum.Datum.TheFolds.{fold-roll-Datum}
-use Rattle.avro_schema.proofs.public.FitsParts.{ArrayFits-from_fits, MapFits-from_fits, UnionFits-from_fits, RecordFits-from_fits}
-use Rattle.avro_compare.specs.Pairs.{item_id, value_id, branch_id}
-use Rattle.avro_compare.specs.Resolve.{fields_at}
+use Rattle.avro_schema.proofs.public.FitsParts.{MapFits-from_fits, UnionFits-from_fits}
+use Rattle.avro_compare.specs.Pairs.{value_id, branch_id}
 use Rattle.avro_compare.proofs.public.Lists.{next_in}
 
 -- what a result stands for, by the same node and datum
@@ -32,13 +29,6 @@ pub value_of-Union : (k : ℕ) (d : Box Datum) → value_of (view.Union k d) ≡
 value_of-Union k d = ap value_of (sym (variants.rolls-Union k d)) ∙ fold-roll-Datum Value view_step (Datum-F.Union k d)
 
 -- ---- The nodes below one
-
-pub array_below : (nodes : List Node) (n : Node) (vs : Values) (below : ℕ) → below ≡ item_id n → fits nodes n (Value.array vs) ≡ true
-    → (n ≡ Node.array below) × (each_fits nodes (node_at nodes below) vs ≡ true)
-array_below nodes n vs below e h =
-    let f = ArrayFits-from_fits nodes n vs h in
-    let same : f.id ≡ below = sym (e ∙ ap item_id f.is_array) in
-    (f.is_array ∙ ap Node.array same, subst (λ (id : ℕ). each_fits nodes (node_at nodes id) vs ≡ true) same f.fitting)
 
 pub map_below : (nodes : List Node) (n : Node) (es : Entries) (below : ℕ) → below ≡ value_id n → fits nodes n (Value.map_of es) ≡ true
     → (n ≡ Node.map_of below) × (entries_fit nodes (node_at nodes below) es ≡ true)
@@ -54,21 +44,11 @@ branch_below nodes n k v below e h =
     let same : f.id ≡ below = sym (e ∙ ap (λ (m : Node). branch_id m k) f.is_union ∙ ap (λ o. unwrap_or o 0) f.is_branch) in
     (f.ids, f.is_union, f.is_branch ∙ ap (λ (id : ℕ). Some id) same, subst (λ (id : ℕ). fits nodes (node_at nodes id) v ≡ true) same f.fitting)
 
-pub record_below : (nodes : List Node) (n : Node) (vs : Values) → fits nodes n (Value.record_of vs) ≡ true
-    → (name : Name) × (aliases : List Name) × (n ≡ Node.record_of name aliases (fields_at n)) × (fields_fit nodes (field_ids (fields_at n)) vs ≡ true)
-record_below nodes n vs h =
-    let f = RecordFits-from_fits nodes n vs h in
-    let same : f.fields ≡ fields_at n = sym (ap fields_at f.is_record) in
-    (f.name, f.aliases, f.is_record ∙ ap (Node.record_of f.name f.aliases) same, subst (λ fs. fields_fit nodes (field_ids fs) vs ≡ true) same f.fitting)
-
 -- ---- Data in order
 
 -- some data before those that are left
 abbrev pub Before : List Value → List Datum → ℕ → Type 0
 Before us items i = us ++ map value_of (drop i items) ≡ map value_of items
-
-pub all_before : (us : List Value) (items : List Datum) (i : ℕ) → length items ≤ i → Before us items i → us ≡ map value_of items
-all_before us items i high h = sym (append-nil us) ∙ ap (λ (ds : List Datum). us ++ map value_of ds) (sym (drop_of_length-le items high)) ∙ h
 
 module _ (items : List Datum) (i : ℕ) (d : Datum) (low : i < length items) (is : d ≡ slice_index_or items i d) where
   datum_next : drop i items ≡ d ∷ drop (i + 1) items
@@ -107,9 +87,6 @@ module _ (items : List Datum) (i : ℕ) (d : Datum) (low : i < length items) (is
 
 abbrev pub EntriesBefore : List (List ℕ × Value) → List (String Global × Datum) → ℕ → Type 0
 EntriesBefore us entries i = us ++ map pair_of (drop i entries) ≡ map pair_of entries
-
-pub all_entries_before : (us : List (List ℕ × Value)) (entries : List (String Global × Datum)) (i : ℕ) → length entries ≤ i → EntriesBefore us entries i → us ≡ map pair_of entries
-all_entries_before us entries i high h = sym (append-nil us) ∙ ap (λ (es : List (String Global × Datum)). us ++ map pair_of es) (sym (drop_of_length-le entries high)) ∙ h
 
 module _ (entries : List (String Global × Datum)) (i : ℕ) (e : String Global × Datum) (low : i < length entries) (is : e ≡ slice_index_or entries i e) where
   entry_next : drop i entries ≡ e ∷ drop (i + 1) entries

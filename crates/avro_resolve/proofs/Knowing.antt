@@ -1,10 +1,10 @@
 -- What is known of the fields of a record, from one on.
 use denote.Ref.{Bor}
-use Rattle.std.proofs.Common.{◌≡◌, ◌∙◌, ◌+◌, ℕ, List, [], Option, Some, None, length, refl, sym, subst}
+use Rattle.std.proofs.Common.{◌≡◌, ◌+◌, ℕ, List, Option, Some, None, length, refl, sym, subst}
 use Rattle.std.specs.Prelude.{Result, Ok, Err, IfSome, OnOk}
 use Rattle.avro_schema.specs.Node.{Node, FieldNode, node_at}
 use Rattle.avro_compare.specs.Pairs.{field_for}
-use Rattle.avro_compare.specs.Planned.{AreFor, AreForFrom}
+use Rattle.avro_compare.specs.Planned.{AreForFrom}
 use Rattle.avro_compare.specs.Resolve.{fields_at}
 use Rattle.avro_compare.specs.declared.guided.At.{At}
 use Rattle.avro_compare.proofs.public.Entries.{first_for}

@@ -5,7 +5,6 @@ pub mod RecordFields
 pub mod Resolved
 mod RowsResolve
 pub mod TextBytes
-pub mod InOrder
 pub mod TextRead
 pub mod Slots
 pub mod Guiding

@@ -2,7 +2,7 @@
 use Rattle.std.proofs.Common.{◌≡◌, ℕ, suc, ◌+◌, List, [], ◌∷◌, ◌++◌, length, Option, Result, Ok, Err, refl, sym, ap, ◌∙◌, subst, arith}
 use Rattle.std.specs.Global.{Box}
 use Rattle.std.proofs.lemmas.List.{append-nil}
-use Rattle.avro_schema.specs.Value.{Value, Entries, entry}
+use Rattle.avro_schema.specs.Value.{Value, Entries, no_entries, entry}
 use Rattle.avro_schema.specs.Node.{Node, node_at, values_node}
 use Rattle.avro_schema.specs.Seen.{entries_from}
 use Rattle.avro_schema.specs.declared.schema.NodeId.{NodeId}
@@ -19,7 +19,14 @@ use Rattle.avro_resolve.specs.declared.resolving.guided.Made.{Made}
 use Rattle.avro_resolve.specs.declared.resolving.guided.Run.{Run}
 use Rattle.avro_compare.proofs.public.Lists.{one_longer}
 use Rattle.avro_resolve.proofs.Guiding.{as_fault, good_made, made_in, wrapped_fault, so_far_more, so_far_fails, so_far_whole}
-use Rattle.avro_resolve.proofs.InOrder.{entries_before-none, entries_before-more}
+
+entries_before-none : (us : List (List ℕ × Value)) → entries_before us no_entries ≡ entries_from us
+entries_before-none [] = refl
+entries_before-none (u ∷ us) = ap (entry u.0 u.1) (entries_before-none us)
+
+entries_before-more : (us : List (List ℕ × Value)) (k : List ℕ) (u : Value) (es : Entries) → entries_before us (entry k u es) ≡ entries_before (us ++ (k, u) ∷ []) es
+entries_before-more [] k u es = refl
+entries_before-more (x ∷ us) k u es = ap (entry x.0 x.1) (entries_before-more us k u es)
 
 -- one more is counted
 counted_up : (vs : List (List ℕ × Value)) (key : List ℕ) (v : Value) (count next : ℕ) → count ≡ length vs → next ≡ count + 1 → next ≡ length (vs ++ (key, v) ∷ [])

@@ -1,11 +1,9 @@
 -- Reading with resolution in one pass is exact.
-use Rattle.std.proofs.Common.{◌≡◌, ℕ, ◌<◌, ◌≤◌, ◌^◌, true, List, Some, Result, Ok, Err, refl, sym, ap, ◌∙◌, subst, arith}
-use Rattle.std.specs.Prelude.{nat_le, ◌&&◌}
+use Rattle.std.proofs.Common.{◌≡◌, ℕ, List, Some, Result, Ok, Err, refl, sym, ap, ◌∙◌, subst}
 use Rattle.std.specs.Global.{Box}
-use Rattle.std.proofs.lemmas.Bool.{and_parts, leb-true}
-use Rattle.avro_schema.specs.Value.{Value, size, depth, longest_blob}
+use Rattle.avro_schema.specs.Value.{Value}
 use Rattle.avro_schema.specs.Node.{Node, node_at, root_of}
-use Rattle.avro_schema.specs.Fits.{LimitValues, is_within}
+use Rattle.avro_schema.specs.Fits.{LimitValues}
 use Rattle.avro_schema.specs.declared.datum.Datum.{Datum}
 use Rattle.avro_schema.specs.declared.schema.NodeId.{NodeId}
 use Rattle.avro_binary.specs.Reading.{BuildsExactly}

@@ -9,11 +9,11 @@ use Rattle.avro_schema.specs.Value.{Value, Values, Entries, no_values, value, no
 use Rattle.avro_schema.specs.Node.{Node, FieldNode, node_at, root_of, items_node, values_node, branches_of, field_ids}
 use Rattle.avro_schema.specs.Distinct.{are_distinct}
 use Rattle.avro_schema.specs.Fits.{fits, each_fits, entries_fit, fields_fit, is_some_and, is_count, is_text}
-use Rattle.avro_schema.specs.WellFormed.{meets_its_rules, are_fields, is_schema}
+use Rattle.avro_schema.specs.WellFormed.{meets_its_rules, is_schema}
 use Rattle.avro_compare.specs.Match.{Matches}
 use Rattle.avro_compare.specs.Source.{reader_field, missing_field}
 use Rattle.avro_compare.specs.Fault.{ResolutionFault}
-use Rattle.avro_compare.specs.Resolve.{Resolved, Sourced, inside, result_map, branch_node, part_at, fields_at, symbol_at, int_as, bytes_as, string_as, enum_as, record_or_missing, field_values, resolve, resolve_items, resolve_entries, resolve_sources, resolve_root}
+use Rattle.avro_compare.specs.Resolve.{Sourced, inside, result_map, branch_node, part_at, fields_at, symbol_at, int_as, bytes_as, string_as, enum_as, record_or_missing, field_values, resolve, resolve_items, resolve_entries, resolve_sources, resolve_root}
 use Rattle.avro_resolve.proofs.Outcomes.{IfOk-inside, IfOk-result_map, IfOk-both}
 use Rattle.avro_resolve.proofs.AtMatch.{FitsAt, IsPlain, null-at, boolean-at, int-at, long-at, bytes-at, string-at, fixed-at, enum-at, part-from, items-kept, values-kept, fields-kept, fields-from}
 use Rattle.avro_compare.proofs.public.Rules.{MeetRules, MeetRules-from_is_schema, good-fields}
@@ -190,7 +190,3 @@ pub resolve_root-fits : (writer reader : List Node) (v u : Value) → is_schema 
 resolve_root-fits writer reader v u formed h e =
     IfOk-at_ok (FitsAt reader (root_of reader)) e
     (resolve-fits writer reader (MeetRules-from_is_schema reader formed) (root_of writer) (root_of reader) v (MeetRules-from_is_schema reader formed 0) h)
-
-pub rooted : (writer reader : List Node) (v : Value) (w r : ℕ) (q : Resolved) → w ≡ 0 → r ≡ 0 → resolve writer reader (node_at writer w) (node_at reader r) v ≡ q → resolve_root writer reader v ≡ q
-rooted writer reader v w r q at_w at_r e =
-    subst (λ (j : ℕ). resolve writer reader (root_of writer) (node_at reader j) v ≡ q) at_r (subst (λ (i : ℕ). resolve writer reader (node_at writer i) (node_at reader r) v ≡ q) at_w e)

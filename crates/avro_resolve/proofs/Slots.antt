@@ -1,26 +1,21 @@
 -- What stands in the slots of a record.
-use Rattle.std.proofs.Common.{◌≡◌, ℕ, zero, suc, ◌+◌, ◌<◌, ◌≤◌, true, List, [], ◌∷◌, ◌++◌, drop, length, Option, Some, None, Result, Ok, Err, refl, sym, ap, ◌∙◌, subst, arith, ⊎_elim}
+use Rattle.std.proofs.Common.{◌≡◌, ℕ, ◌+◌, ◌<◌, ◌≤◌, true, List, [], ◌∷◌, ◌++◌, drop, length, Option, Some, None, refl, sym, ap, ◌∙◌, subst, arith, ⊎_elim}
 use Rattle.std.specs.Prelude.{slice_index_or, slice_get, unwrap_or, map, bytes_eq, cond, ◌==◌}
-use Rattle.std.specs.List.{AllZip, flat_map}
+use Rattle.std.specs.List.{flat_map}
 use Rattle.std.proofs.lemmas.Bool.{cases_lt, cases_eq, cond-true, cond-false, eq-eqb, ne_eqb}
-use Rattle.std.proofs.lemmas.List.{append-nil, append_assoc, length_push}
+use Rattle.std.proofs.lemmas.List.{append-nil, append_assoc}
 use Rattle.std.proofs.Math.ListN.{drop_of_length-le}
 use Rattle.avro_schema.specs.Distinct.{are_distinct}
-use Rattle.avro_schema.specs.WellFormed.{is_schema, field_names, are_fields}
+use Rattle.avro_schema.specs.WellFormed.{field_names}
 use Rattle.avro_schema.specs.Value.{Value, value}
-use Rattle.avro_schema.specs.Node.{Node, FieldNode, node_at}
-use Rattle.avro_schema.specs.Seen.{value_of, values_of, values_from, seen_fields, field_of}
-use Rattle.avro_schema.specs.declared.datum.Datum.{Datum}
+use Rattle.avro_schema.specs.Node.{FieldNode}
+use Rattle.avro_schema.specs.Seen.{values_from, seen_fields, field_of}
 use Rattle.avro_schema.specs.declared.schema.Field.{Field}
-use Rattle.avro_binary.proofs.public.Zipped.{zipped-map}
-use Rattle.avro_compare.specs.Fault.{ResolutionFault}
 use Rattle.avro_compare.specs.Source.{source_of}
-use Rattle.avro_compare.specs.Resolve.{Sourced, sourced_at, resolve_sources, result_map, field_value, field_values, fields_at}
+use Rattle.avro_compare.specs.Resolve.{Sourced, sourced_at, field_value, field_values}
 use Rattle.avro_compare.specs.Fields.{IsField, here, later}
-use Rattle.avro_resolve.specs.Ends.{Slotted, SlotsAre, SlotsFor, IsSeen, slot_out, EndsSlot, field_step, Fails, AllBelow, before}
-use Rattle.avro_resolve.specs.declared.error.ResolveError.{ResolveError}
-use Rattle.avro_compare.proofs.public.Lists.{next_in, seen_next, get_past, get_before, get_last}
-use Rattle.avro_resolve.proofs.InOrder.{fails_mapped}
+use Rattle.avro_resolve.specs.Ends.{Slotted, SlotsAre, SlotsFor, slot_out, AllBelow}
+use Rattle.avro_compare.proofs.public.Lists.{seen_next, get_past, get_before, get_last}
 use Rattle.avro_compare.proofs.public.Sources.{is_index-same, two_readers, are_distinct-back}
 
 -- ---- What a field takes
@@ -108,9 +103,6 @@ module _ {F : Type 0} (T : F → List Value → Type 0) (ws : List FieldNode) (f
       subst (T made)
       (sym (append-nil h.0) ∙ ap (λ (fs : List Field). h.0 ++ map (field_value ws found) (seen_fields fs)) (sym (drop_of_length-le reads high)) ∙ h.2) h.1
 
-pub data_filled : (ws : List FieldNode) (found : Sourced) (rs : List FieldNode) (made : List Datum) → AllZip IsSeen made (map (field_value ws found) rs) → values_of made ≡ field_values ws found rs
-data_filled ws found rs made h = ap values_from (zipped-map value_of made (map (field_value ws found) rs) h) ∙ sym (values_seen ws rs found)
-
 -- ---- Slots that are kept in the writer's order
 
 raised : (m k : ℕ) → k < m → k < m + 1
@@ -166,61 +158,3 @@ module _ {O : Type 0} (S : O → Value → Type 0) (found : Sourced) (slots : Li
 
   pub slots_some : (out : O) (u : Value) → S out u → SlotsAre S (found ++ (m, u) ∷ []) (slots ++ Some out ∷ [])
   slots_some out u h = by_index (found ++ (m, u) ∷ []) (Some out) (λ k apart. others_same found k m u apart) (subst (S out) (sym (last_is found m u below)) h)
-
--- ---- The writer's fields one by one
-
--- what was found so far, and all that is left
-pub record FieldsSoFar (writer reader : List Node) (ws rs : List FieldNode) (values : List Datum) (i : ℕ) (slots : List (Option Datum)) : Type 0 where
-  pub found : Sourced
-  pub count : length slots ≡ i
-  pub below : AllBelow i found
-  pub stand : SlotsAre IsSeen found slots
-  pub left : resolve_sources writer reader ws rs 0 (values_of values) ≡ result_map (before found) (resolve_sources writer reader ws rs i (values_of (drop i values)))
-
-module _ (writer reader : List Node) (ws rs : List FieldNode) (values : List Datum) where
-  at_field : (i : ℕ) (d : Datum) → i < length values → resolve_sources writer reader ws rs i (values_of (drop i values))
-      ≡ field_step writer reader ws rs i (value_of (slice_index_or values i d)) (resolve_sources writer reader ws rs (suc i) (values_of (drop (i + 1) values)))
-  at_field i d low = ap (λ (xs : List Datum). resolve_sources writer reader ws rs i (values_of xs)) (next_in values i d low)
-
-  one_on : (i : ℕ) (found : Sourced) → result_map (before found) (resolve_sources writer reader ws rs (suc i) (values_of (drop (i + 1) values)))
-      ≡ result_map (before found) (resolve_sources writer reader ws rs (i + 1) (values_of (drop (i + 1) values)))
-  one_on i found = ap (λ (j : ℕ). result_map (before found) (resolve_sources writer reader ws rs j (values_of (drop (i + 1) values)))) (one i)
-    where
-      one : (i : ℕ) → suc i ≡ i + 1
-      one i = omega arith
-
-  pub field_done : (i : ℕ) (d : Datum) (slots : List (Option Datum)) (slot : Option Datum) → i < length values
-      → EndsSlot i (Ok slot) (field_step writer reader ws rs i (value_of (slice_index_or values i d)))
-      → FieldsSoFar writer reader ws rs values i slots → FieldsSoFar writer reader ws rs values (i + 1) (slots ++ slot ∷ [])
-  field_done i d slots None low step h = record {
-    found = h.found;
-    count = counted;
-    below = below_more i h.found h.below;
-    stand = slots_none IsSeen h.found slots i h.count h.below h.stand;
-    left = h.left ∙ ap (result_map (before h.found)) (at_field i d low ∙ step (resolve_sources writer reader ws rs (suc i) (values_of (drop (i + 1) values)))) ∙ one_on i h.found;
-  }
-    where
-      counted : length (slots ++ None ∷ []) ≡ i + 1
-      counted = omega (arith, length_push slots None, h.count)
-  field_done i d slots (Some out) low step h = record {
-    found = h.found ++ (i, value_of out) ∷ [];
-    count = counted;
-    below = below_last i h.found (value_of out) h.below;
-    stand = slots_some IsSeen h.found slots i h.count h.below h.stand out (value_of out) refl;
-    left = h.left ∙ ap (result_map (before h.found)) (at_field i d low ∙ step (resolve_sources writer reader ws rs (suc i) (values_of (drop (i + 1) values))))
-        ∙ moved (resolve_sources writer reader ws rs (suc i) (values_of (drop (i + 1) values))) ∙ one_on i (h.found ++ (i, value_of out) ∷ []);
-  }
-    where
-      counted : length (slots ++ Some out ∷ []) ≡ i + 1
-      counted = omega (arith, length_push slots (Some out), h.count)
-
-      moved : (r : Result Sourced ResolutionFault) → result_map (before h.found) (result_map (λ found. (i, value_of out) ∷ found) r) ≡ result_map (before (h.found ++ (i, value_of out) ∷ [])) r
-      moved (Ok more) = ap (λ (zs : Sourced). Ok zs) (sym (append_assoc h.found ((i, value_of out) ∷ []) more))
-      moved (Err e) = refl
-
-  pub field_fails : (i : ℕ) (d : Datum) (slots : List (Option Datum)) (e : ResolveError) → i < length values
-      → EndsSlot i (Err e) (field_step writer reader ws rs i (value_of (slice_index_or values i d)))
-      → FieldsSoFar writer reader ws rs values i slots → Fails e (resolve_sources writer reader ws rs 0 (values_of values))
-  field_fails i d slots e low step h =
-      subst (Fails e) (sym (h.left ∙ ap (result_map (before h.found)) (at_field i d low))) (fails_mapped e (before h.found) (field_step writer reader ws rs i (value_of (slice_index_or values i d)) (resolve_sources writer reader ws rs (suc i) (values_of (drop (i + 1) values))))
-      (step (resolve_sources writer reader ws rs (suc i) (values_of (drop (i + 1) values)))))

@@ -3,7 +3,7 @@ use Rattle.std.proofs.Common.{◌≡◌, ℕ, zero, suc, ◌+◌, Bool, true, fa
 use Rattle.std.specs.Prelude.{slice_get, unwrap_or, ◌==◌}
 use Rattle.std.proofs.lemmas.Bool.{and_parts, false≢true, cond-true, cond-false, eq-eqb, eqb-true, ne_eqb}
 use Rattle.avro_name.specs.Name.{Name}
-use Rattle.avro_schema.specs.Value.{Value, value}
+use Rattle.avro_schema.specs.Value.{Value}
 use Rattle.avro_schema.specs.Node.{Node, FieldNode, node_at, field_ids}
 use Rattle.avro_schema.specs.Fits.{fits, fields_fit}
 use Rattle.avro_schema.specs.Seen.{values_from}

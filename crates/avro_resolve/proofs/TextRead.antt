@@ -1,24 +1,15 @@
 -- Bytes that become a text.
 use Rattle.std.proofs.Common.{◌≡◌, ℕ, List, true, Ok, Err, ap, sym, ◌∙◌}
-use Rattle.std.specs.Prelude.{String, string_bytes}
 use Rattle.std.specs.Str.{is_utf8}
-use Rattle.std.specs.declared.alloc.Global.{Global}
 use Rattle.std.proofs.lemmas.Bool.{cond-true, cond-false, false_from_ne_true}
 use Rattle.avro_schema.specs.Value.{Value}
 use Rattle.avro_schema.specs.Node.{Node}
-use Rattle.avro_schema.specs.Seen.{value_of}
-use Rattle.avro_schema.specs.declared.datum.Datum.{Datum}
-use Rattle.avro_schema.proofs.public.DatumViews.{value_of-Str}
 use Rattle.avro_compare.specs.Fault.{fault_here, not_utf8}
 use Rattle.avro_compare.specs.Resolve.{bytes_as}
 
 pub text_taken : (b t : List ℕ) (n : Node) → n ≡ Node.string → t ≡ b → is_utf8 b ≡ true → bytes_as b n ≡ Ok (Value.string t)
 text_taken b t n e same good =
     ap (bytes_as b) e ∙ cond-true (is_utf8 b) (Ok (Value.string b)) (Err (fault_here not_utf8)) good ∙ ap (λ (x : List ℕ). Ok (Value.string x)) (sym same)
-
-pub text_read : (b t : List ℕ) (copy : String Global) (n : Node) → n ≡ Node.string → string_bytes copy ≡ t → t ≡ b → is_utf8 b ≡ true → bytes_as b n ≡ Ok (value_of (Datum.Str copy))
-text_read b t copy n e copied same good =
-    text_taken b (string_bytes copy) n e (copied ∙ same) good ∙ ap (λ (v : Value). Ok v) (sym (value_of-Str copy))
 
 pub text_bad : (b : List ℕ) (n : Node) → n ≡ Node.string → (is_utf8 b ≡ true → ⊥) → bytes_as b n ≡ Err (fault_here not_utf8)
 text_bad b n e bad = ap (bytes_as b) e ∙ cond-false (is_utf8 b) (Ok (Value.string b)) (Err (fault_here not_utf8)) (false_from_ne_true (is_utf8 b) bad)

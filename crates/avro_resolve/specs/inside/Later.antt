@@ -1,15 +1,12 @@
 -- What stands for something stands for it later, where what it is made of does.
 use Rattle.std.specs.Prelude.{ℕ, List, [], Option, Some, None, slice_get}
-use Rattle.std.specs.Global.{Vec}
 use Rattle.avro_schema.specs.Value.{Value}
-use Rattle.avro_schema.specs.Node.{Node, FieldNode, node_at}
-use Rattle.avro_compare.specs.Fields.{IsField}
+use Rattle.avro_schema.specs.Node.{Node, FieldNode}
 use Rattle.avro_resolve.specs.Ends.{Slotted, SlotsAre, SlotsFor}
-use Rattle.avro_resolve.specs.inside.Guided.{MadeAs, StandsAs, ItemsGood, RunAs, ItemsStandAs, EntriesGood, MapRunAs, EntriesStandAs, FieldsGood, SlotsStand, FieldsStandAs, FillsAs}
-use Rattle.avro_compare.specs.Resolve.{Resolved, Sourced, sourced_at}
+use Rattle.avro_resolve.specs.inside.Guided.{ItemsStandAs, EntriesStandAs, FieldsStandAs, FillsAs}
+use Rattle.avro_compare.specs.Resolve.{Sourced, sourced_at}
 use Rattle.avro_compare.specs.declared.guided.At.{At}
 use Rattle.avro_compare.specs.declared.guided.At.TheVariants.{Ignored, Pair}
-use Rattle.avro_resolve.specs.declared.resolving.guided.Made.{Made}
 use Rattle.avro_resolve.specs.declared.resolving.guided.Run.{Run}
 use Rattle.avro_resolve.specs.declared.resolving.guided.Slots.{Slots}
 use Rattle.avro_resolve.specs.declared.resolving.guided.Filling.{Filling}

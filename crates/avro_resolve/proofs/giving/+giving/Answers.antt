@@ -1,10 +1,10 @@
-use Rattle.std.proofs.Common.{◌≡◌, ℕ, ◌+◌, ◌<◌, List, ◌∷◌, ◌++◌, [], length, true, Some, refl, sym, ap, ◌∙◌, subst, arith, rules, FitsSigned, w32, w64}
+use Rattle.std.proofs.Common.{◌≡◌, ◌∷◌, ◌++◌, [], length, true, Some, refl, sym, ap, ◌∙◌, subst, arith, rules, FitsSigned, w32, w64}
 use Rattle.std.specs.Prelude.{IfOk, slice_get}
 use Rattle.std.proofs.lemmas.Int.{to_z-of_z}
 use Rattle.avro_schema.specs.Value.{Value}
 use Rattle.avro_schema.specs.Fits.{fits}
 use Rattle.avro_schema.specs.Node.{Node, node_at, field_ids}
-use Rattle.avro_schema.specs.Seen.{value_of, values_of, entries_of, pair_of}
+use Rattle.avro_schema.specs.Seen.{value_of, entries_of, pair_of}
 use Rattle.avro_schema.specs.SeenSchema.{schema_nodes}
 use Rattle.avro_schema.proofs.public.DatumViews.{value_of-Int, value_of-Long, value_of-Map}
 use Rattle.avro_schema.proofs.public.FitsKind.{FitsKind-from_fits}

@@ -1,5 +1,5 @@
 use Rattle.std.proofs.Common.{ap, subst, sym, ◌∙◌}
-use Rattle.avro_schema.specs.Node.{node_at, root_of}
+use Rattle.avro_schema.specs.Node.{node_at}
 use Rattle.avro_schema.specs.SeenSchema.{schema_nodes}
 use Rattle.avro_compare.specs.Resolve.{resolve_root}
 use Rattle.avro_resolve.specs.inside.Guided.{MadeAs}

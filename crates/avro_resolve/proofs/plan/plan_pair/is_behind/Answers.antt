@@ -1,5 +1,5 @@
-use Rattle.std.proofs.Common.{◌≡◌, ◌∙◌, ◌-◌, ℕ, Some, subst, suc, sym, arith}
-use Rattle.std.specs.Prelude.{◌<◌, slice_get}
+use Rattle.std.proofs.Common.{◌≡◌, ◌∙◌, ℕ, Some, subst, sym, arith}
+use Rattle.std.specs.Prelude.{slice_get}
 use Rattle.std.proofs.lemmas.Bool.{ltb-true}
 use Rattle.avro_resolve.proofs.Places.{none_first, none_before_place}
 use Rattle.avro_resolve.proofs.plan.plan_pair.is_behind.Goals as goal

@@ -1,4 +1,4 @@
-use Rattle.std.proofs.Common.{◌≡◌, ◌+◌, [], drop}
+use Rattle.std.proofs.Common.{◌+◌, drop}
 use Rattle.avro_schema.specs.Seen.{seen_fields, field_of}
 use Rattle.avro_compare.specs.Resolve.{field_value}
 use Rattle.avro_resolve.specs.inside.Later.{slots_for_later}

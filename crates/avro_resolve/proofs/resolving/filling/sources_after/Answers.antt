@@ -1,5 +1,4 @@
-use Rattle.std.proofs.Common.{◌+◌, ℕ, List, Option, Some, None, subst, sym}
-use Rattle.avro_schema.specs.Node.{FieldNode}
+use Rattle.std.proofs.Common.{◌+◌, ℕ, List, subst, sym}
 use Rattle.avro_compare.specs.Planned.{AreSourcesFrom}
 use Rattle.avro_compare.proofs.public.Entries.{rest_sources}
 use Rattle.avro_resolve.proofs.resolving.filling.sources_after.Goals as goal

@@ -1,5 +1,4 @@
-use Rattle.std.proofs.Common.{◌+◌, ℕ, List, Option, Some, None, subst, sym}
-use Rattle.avro_schema.specs.Node.{FieldNode}
+use Rattle.std.proofs.Common.{◌+◌, ℕ, List, subst, sym}
 use Rattle.avro_compare.specs.Planned.{AreForFrom}
 use Rattle.avro_compare.specs.declared.guided.At.{At}
 use Rattle.avro_compare.proofs.public.Entries.{rest_for}
