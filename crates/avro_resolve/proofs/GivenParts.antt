@@ -1,12 +1,13 @@
 -- Parts of a datum that fits its node, one by one.
-use Rattle.std.proofs.Common.{◌≡◌, ℕ, zero, suc, ◌+◌, ◌<◌, true, List, [], ◌∷◌, ◌++◌, drop, length, map, Some, Result, Ok, Err, refl, sym, ap, ◌∙◌, subst, arith}
-use Rattle.std.specs.Prelude.{IfOk, slice_index_or, slice_get, unwrap_or, String}
-use Rattle.std.specs.Global.{Box}
+use Rattle.std.proofs.Common.{◌≡◌, ℕ, zero, suc, ◌+◌, ◌<◌, ◌≤◌, true, List, [], ◌∷◌, ◌++◌, drop, length, map, Some, Result, Ok, Err, refl, sym, ap, ◌∙◌, subst, arith}
+use Rattle.std.specs.Prelude.{IfOk, slice_index_or, slice_get, String}
+use Rattle.std.specs.Global.{Box, Vec}
 use Rattle.std.specs.declared.alloc.Global.{Global}
 use Rattle.std.specs.declared.alloc.AllocError.{AllocError}
 use Rattle.std.proofs.lemmas.Bool.{and_parts, false≢true}
-use Rattle.std.proofs.lemmas.List.{append_assoc}
-use Rattle.avro_schema.specs.Value.{Value, Entries, value}
+use Rattle.std.proofs.lemmas.List.{append-nil, append_assoc}
+use Rattle.std.proofs.Math.ListN.{drop_of_length-le}
+use Rattle.avro_schema.specs.Value.{Value, value}
 use Rattle.avro_schema.specs.Node.{Node, node_at}
 use Rattle.avro_schema.specs.Fits.{fits, each_fits, entries_fit, fields_fit}
 use Rattle.avro_schema.specs.Seen.{value_of, values_of, entries_of, pair_of, view_step}
@@ -15,8 +16,6 @@ use Rattle.avro_schema.specs.declared.datum.Datum.TheOpen.{Datum-F}
 use Rattle.avro_schema.specs.declared.datum.Datum.TheViews as view
 use Rattle.avro_schema.specs.declared.datum.Datum.TheVariants as variants
 use Rattle.avro_schema.specs.declared.datum.Datum.TheFolds.{fold-roll-Datum}
-use Rattle.avro_schema.proofs.public.FitsParts.{MapFits-from_fits, UnionFits-from_fits}
-use Rattle.avro_compare.specs.Pairs.{value_id, branch_id}
 use Rattle.avro_compare.proofs.public.Lists.{next_in}
 
 -- what a result stands for, by the same node and datum
@@ -25,30 +24,23 @@ pub stands_same : {O : Type 0} (S : Node → O → Value → Type 0) (n m : Node
 stands_same S n m v u (Err e) at_node same h = tt
 stands_same S n m v u (Ok out) at_node same h = subst (λ (x : Value). S n out x) (sym same) (subst (λ (k : Node). S k out u) (sym at_node) h)
 
+pub value_of-Array : (v : Vec Datum) → value_of (view.Array v) ≡ Value.array (values_of v.items)
+value_of-Array v = ap value_of (sym (variants.rolls-Array v)) ∙ fold-roll-Datum Value view_step (Datum-F.Array v)
+
+pub value_of-Record : (v : Vec Datum) → value_of (view.Record v) ≡ Value.record_of (values_of v.items)
+value_of-Record v = ap value_of (sym (variants.rolls-Record v)) ∙ fold-roll-Datum Value view_step (Datum-F.Record v)
+
 pub value_of-Union : (k : ℕ) (d : Box Datum) → value_of (view.Union k d) ≡ Value.union k (value_of d.value)
 value_of-Union k d = ap value_of (sym (variants.rolls-Union k d)) ∙ fold-roll-Datum Value view_step (Datum-F.Union k d)
-
--- ---- The nodes below one
-
-pub map_below : (nodes : List Node) (n : Node) (es : Entries) (below : ℕ) → below ≡ value_id n → fits nodes n (Value.map_of es) ≡ true
-    → (n ≡ Node.map_of below) × (entries_fit nodes (node_at nodes below) es ≡ true)
-map_below nodes n es below e h =
-    let f = MapFits-from_fits nodes n es h in
-    let same : f.id ≡ below = sym (e ∙ ap value_id f.is_map) in
-    (f.is_map ∙ ap Node.map_of same, subst (λ (id : ℕ). entries_fit nodes (node_at nodes id) es ≡ true) same f.fitting)
-
-pub branch_below : (nodes : List Node) (n : Node) (k : ℕ) (v : Value) (below : ℕ) → below ≡ branch_id n k → fits nodes n (Value.union k v) ≡ true
-    → (ids : List ℕ) × (n ≡ Node.union ids) × (slice_get ids k ≡ Some below) × (fits nodes (node_at nodes below) v ≡ true)
-branch_below nodes n k v below e h =
-    let f = UnionFits-from_fits nodes n k v h in
-    let same : f.id ≡ below = sym (e ∙ ap (λ (m : Node). branch_id m k) f.is_union ∙ ap (λ o. unwrap_or o 0) f.is_branch) in
-    (f.ids, f.is_union, f.is_branch ∙ ap (λ (id : ℕ). Some id) same, subst (λ (id : ℕ). fits nodes (node_at nodes id) v ≡ true) same f.fitting)
 
 -- ---- Data in order
 
 -- some data before those that are left
 abbrev pub Before : List Value → List Datum → ℕ → Type 0
 Before us items i = us ++ map value_of (drop i items) ≡ map value_of items
+
+pub all_before : (us : List Value) (items : List Datum) (i : ℕ) → length items ≤ i → Before us items i → us ≡ map value_of items
+all_before us items i high h = sym (append-nil us) ∙ ap (λ (ds : List Datum). us ++ map value_of ds) (sym (drop_of_length-le items high)) ∙ h
 
 module _ (items : List Datum) (i : ℕ) (d : Datum) (low : i < length items) (is : d ≡ slice_index_or items i d) where
   datum_next : drop i items ≡ d ∷ drop (i + 1) items
@@ -63,30 +55,31 @@ module _ (items : List Datum) (i : ℕ) (d : Datum) (low : i < length items) (is
       and_parts (fits nodes n (value_of d)) (each_fits nodes n (values_of (drop (i + 1) items))) (subst (λ (ds : List Datum). each_fits nodes n (values_of ds) ≡ true) datum_next h)
 
   pub field_fits : (nodes : List Node) (ids : List ℕ) → fields_fit nodes (drop i ids) (values_of (drop i items)) ≡ true
-      → (slice_get ids i ≡ Some (unwrap_or (slice_get ids i) 0)) × (fits nodes (node_at nodes (unwrap_or (slice_get ids i) 0)) (value_of d) ≡ true)
-      × (fields_fit nodes (drop (i + 1) ids) (values_of (drop (i + 1) items)) ≡ true)
+      → (id : ℕ) × (slice_get ids i ≡ Some id) × (fits nodes (node_at nodes id) (value_of d) ≡ true) × (fields_fit nodes (drop (i + 1) ids) (values_of (drop (i + 1) items)) ≡ true)
   field_fits nodes ids h =
       let rest = values_of (drop (i + 1) items) in
       let here = first_fits ids i (subst (λ (ds : List Datum). fields_fit nodes (drop i ids) (values_of ds) ≡ true) datum_next h) in
-      (here.0, here.1, subst (λ (k : ℕ). fields_fit nodes (drop k ids) rest ≡ true) (one i) here.2)
+      (here.0, here.1, here.2, subst (λ (k : ℕ). fields_fit nodes (drop k ids) rest ≡ true) (one i) here.3)
     where
       one : (i : ℕ) → suc i ≡ i + 1
       one i = omega arith
 
       first_fits : (ids : List ℕ) (k : ℕ) → fields_fit nodes (drop k ids) (value (value_of d) (values_of (drop (i + 1) items))) ≡ true
-          → (slice_get ids k ≡ Some (unwrap_or (slice_get ids k) 0)) × (fits nodes (node_at nodes (unwrap_or (slice_get ids k) 0)) (value_of d) ≡ true)
-          × (fields_fit nodes (drop (suc k) ids) (values_of (drop (i + 1) items)) ≡ true)
+          → (id : ℕ) × (slice_get ids k ≡ Some id) × (fits nodes (node_at nodes id) (value_of d) ≡ true) × (fields_fit nodes (drop (suc k) ids) (values_of (drop (i + 1) items)) ≡ true)
       first_fits [] zero h = absurd (false≢true h)
       first_fits [] (suc k) h = absurd (false≢true h)
       first_fits (id ∷ ids) zero h =
           let both = and_parts (fits nodes (node_at nodes id) (value_of d)) (fields_fit nodes ids (values_of (drop (i + 1) items))) h in
-          (refl, both.0, both.1)
+          (id, refl, both.0, both.1)
       first_fits (id ∷ ids) (suc k) h = first_fits ids k h
 
 -- ---- Entries in order
 
 abbrev pub EntriesBefore : List (List ℕ × Value) → List (String Global × Datum) → ℕ → Type 0
 EntriesBefore us entries i = us ++ map pair_of (drop i entries) ≡ map pair_of entries
+
+pub all_entries_before : (us : List (List ℕ × Value)) (entries : List (String Global × Datum)) (i : ℕ) → length entries ≤ i → EntriesBefore us entries i → us ≡ map pair_of entries
+all_entries_before us entries i high h = sym (append-nil us) ∙ ap (λ (es : List (String Global × Datum)). us ++ map pair_of es) (sym (drop_of_length-le entries high)) ∙ h
 
 module _ (entries : List (String Global × Datum)) (i : ℕ) (e : String Global × Datum) (low : i < length entries) (is : e ≡ slice_index_or entries i e) where
   entry_next : drop i entries ≡ e ∷ drop (i + 1) entries

@@ -1,30 +1,26 @@
 //! A datum that is given to a maker part by part, as reading gives what bytes begin with.
 
-ghost use Rattle.std.specs.Prelude.{◌≡◌, true, IfOk, OnOk};
+ghost use Rattle.std.specs.Prelude.{◌≡◌, List, true, IfOk, OnOk};
 ghost use Rattle.avro_schema.specs.Fits.{fits};
-ghost use Rattle.avro_schema.specs.Node.{node_at};
+ghost use Rattle.avro_schema.specs.Node.{Node};
 ghost use Rattle.avro_schema.specs.Seen.{value_of, values_of as values_seen, entries_of as entries_seen};
-ghost use Rattle.avro_schema.specs.SeenSchema.{schema_nodes};
 ghost use Rattle.avro_schema.specs.Value.{Value};
 
-use crate::plan::parts::{branch_of, field_of, items_of, values_of};
 use avro_binary::Make;
-use avro_schema::{Datum, NodeId, Schema};
+use avro_schema::Datum;
 use std::alloc::{AllocError, Global};
 
-/// What a maker makes of a datum of a node. It fails only where memory runs out.
+/// What a maker makes of a datum, whatever node it is of. It fails only where memory runs out.
 #[cycle(giving)]
 pub(crate) fn give<M: Make>(
     alloc: Global,
-    schema: &Schema,
-    id: NodeId,
     datum: &Datum,
     maker: &mut M,
     at: M::At,
 ) -> Result<M::Out, AllocError>
     ensures kept { OnOk result (M.keeps maker.old maker.new) }
-    ensures stands { fits (schema_nodes schema.now) (node_at (schema_nodes schema.now) id.0) (value_of datum.now) ≡ true
-        → IfOk result (λ out. M.stands_for maker.new (schema_nodes schema.now) (node_at (schema_nodes schema.now) id.0) at out (value_of datum.now)) }
+    ensures stands { (nodes : List Node) (n : Node) → fits nodes n (value_of datum.now) ≡ true
+        → IfOk result (λ out. M.stands_for maker.new nodes n at out (value_of datum.now)) }
 {
     match datum {
         Datum::Null => maker.null(alloc, at),
@@ -33,15 +29,14 @@ pub(crate) fn give<M: Make>(
         Datum::Long(value) => maker.long(alloc, at, *value),
         Datum::Bytes(content) => maker.bytes(alloc, at, content),
         Datum::Str(text) => maker.string(alloc, at, text),
-        Datum::Array(items) => give_items(alloc, schema, id, items, maker, at),
-        Datum::Map(entries) => give_entries(alloc, schema, id, entries, maker, at),
+        Datum::Array(items) => give_items(alloc, items, maker, at),
+        Datum::Map(entries) => give_entries(alloc, entries, maker, at),
         Datum::Union(branch, value) => {
             let part = maker.branch_at(at, *branch);
-            let inner = branch_of(schema, id, *branch);
-            let made = give(alloc, schema, inner, value, maker, part)?;
+            let made = give(alloc, value, maker, part)?;
             maker.branch(alloc, at, *branch, made)
         }
-        Datum::Record(values) => give_fields(alloc, schema, id, values, maker, at),
+        Datum::Record(values) => give_fields(alloc, values, maker, at),
         Datum::Enum(symbol) => maker.symbol(alloc, at, *symbol),
         Datum::Fixed(content) => maker.fixed(alloc, at, content),
     }
@@ -51,21 +46,18 @@ pub(crate) fn give<M: Make>(
 #[cycle(giving)]
 fn give_items<M: Make>(
     alloc: Global,
-    schema: &Schema,
-    id: NodeId,
     items: &[Datum],
     maker: &mut M,
     at: M::At,
 ) -> Result<M::Out, AllocError>
     ensures kept { OnOk result (M.keeps maker.old maker.new) }
-    ensures stands { fits (schema_nodes schema.now) (node_at (schema_nodes schema.now) id.0) (Value.array (values_seen items.now)) ≡ true
-        → IfOk result (λ out. M.stands_for maker.new (schema_nodes schema.now) (node_at (schema_nodes schema.now) id.0) at out (Value.array (values_seen items.now))) }
+    ensures stands { (nodes : List Node) (n : Node) → fits nodes n (Value.array (values_seen items.now)) ≡ true
+        → IfOk result (λ out. M.stands_for maker.new nodes n at out (Value.array (values_seen items.now))) }
 {
-    let below = items_of(schema, id);
     let mut made = maker.items(alloc, at)?;
     for index in 0..items.len() {
         let part = maker.item_at(&made);
-        let value = give(alloc, schema, below, &items[index], maker, part)?;
+        let value = give(alloc, &items[index], maker, part)?;
         maker.item(alloc, &mut made, value)?;
     }
     maker.array(alloc, made)
@@ -75,22 +67,19 @@ fn give_items<M: Make>(
 #[cycle(giving)]
 fn give_entries<M: Make>(
     alloc: Global,
-    schema: &Schema,
-    id: NodeId,
     entries: &[(String, Datum)],
     maker: &mut M,
     at: M::At,
 ) -> Result<M::Out, AllocError>
     ensures kept { OnOk result (M.keeps maker.old maker.new) }
-    ensures stands { fits (schema_nodes schema.now) (node_at (schema_nodes schema.now) id.0) (Value.map_of (entries_seen entries.now)) ≡ true
-        → IfOk result (λ out. M.stands_for maker.new (schema_nodes schema.now) (node_at (schema_nodes schema.now) id.0) at out (Value.map_of (entries_seen entries.now))) }
+    ensures stands { (nodes : List Node) (n : Node) → fits nodes n (Value.map_of (entries_seen entries.now)) ≡ true
+        → IfOk result (λ out. M.stands_for maker.new nodes n at out (Value.map_of (entries_seen entries.now))) }
 {
-    let below = values_of(schema, id);
     let mut made = maker.entries(alloc, at)?;
     for index in 0..entries.len() {
         let entry = &entries[index];
         let part = maker.entry_at(&made);
-        let value = give(alloc, schema, below, &entry.1, maker, part)?;
+        let value = give(alloc, &entry.1, maker, part)?;
         maker.entry(alloc, &mut made, entry.0.as_str(), value)?;
     }
     maker.map(alloc, made)
@@ -100,21 +89,18 @@ fn give_entries<M: Make>(
 #[cycle(giving)]
 fn give_fields<M: Make>(
     alloc: Global,
-    schema: &Schema,
-    id: NodeId,
     values: &[Datum],
     maker: &mut M,
     at: M::At,
 ) -> Result<M::Out, AllocError>
     ensures kept { OnOk result (M.keeps maker.old maker.new) }
-    ensures stands { fits (schema_nodes schema.now) (node_at (schema_nodes schema.now) id.0) (Value.record_of (values_seen values.now)) ≡ true
-        → IfOk result (λ out. M.stands_for maker.new (schema_nodes schema.now) (node_at (schema_nodes schema.now) id.0) at out (Value.record_of (values_seen values.now))) }
+    ensures stands { (nodes : List Node) (n : Node) → fits nodes n (Value.record_of (values_seen values.now)) ≡ true
+        → IfOk result (λ out. M.stands_for maker.new nodes n at out (Value.record_of (values_seen values.now))) }
 {
     let mut made = maker.fields(alloc, at)?;
     for index in 0..values.len() {
-        let below = field_of(schema, id, index);
         let part = maker.field_at(&made);
-        let value = give(alloc, schema, below, &values[index], maker, part)?;
+        let value = give(alloc, &values[index], maker, part)?;
         maker.field(alloc, &mut made, value)?;
     }
     maker.record(alloc, made)

@@ -51,10 +51,9 @@ pub(crate) fn put_datum<P: Put>(
     requires fitting { fits (schema_nodes plan.now.0) (root_of (schema_nodes plan.now.0)) (value_of datum.now) ≡ true }
     ensures { StandsForResult (P.stands_for builder.new) result (resolve_root (schema_nodes plan.now.0) (schema_nodes plan.now.1) (value_of datum.now)) }
 {
-    let writer = plan.writer();
     let part = plan.root_part();
     let mut maker = Resolving::new(plan, builder);
-    match give(alloc, writer, writer.root(), datum, &mut maker, part) {
+    match give(alloc, datum, &mut maker, part) {
         Ok(made) => match made {
             Made::Good(out) => Ok(out),
             Made::Faulty(fault) => Err(ResolveError::Fault(turn_apart(fault))),

@@ -1,13 +1,13 @@
 ghost use Rattle.std.specs.Prelude.{◌≡◌, ◌<◌, ℕ, true, IfSome, None, Some, slice_get, unwrap_or};
 ghost use Rattle.avro_schema.specs.Node.{field_ids, items_node, node_at, values_node};
-ghost use Rattle.avro_schema.specs.Seen.{field_of as seen_field};
+ghost use Rattle.avro_schema.specs.Seen.{field_of, seen_fields};
 ghost use Rattle.avro_schema.specs.SeenSchema.{schema_nodes};
 ghost use Rattle.avro_compare.specs.Entries.{AreAscending, entry_at};
 ghost use Rattle.avro_compare.specs.Pairs.{IsAim, IsSymbol, branch_id, item_id, value_id};
 ghost use Rattle.avro_compare.specs.Resolve.{enum_as, fields_at, symbol_at};
 ghost use Rattle.avro_compare.specs.Source.{source_of};
 
-use crate::plan::parts::{field_of, items_of, values_of};
+use crate::plan::parts::{items_of, values_of};
 use crate::plan::plan_ref::PlanRef;
 use avro_compare::{Aim, fields_of, source_among};
 use avro_schema::{Field, NodeId};
@@ -96,8 +96,8 @@ impl PlanPair {
 
     /// The index of the writer's field that the reader's field at an index takes its value from, of two records.
     pub fn source(self, plan: &PlanRef<'_>, index: usize, field: &Field) -> Option<usize>
-        ensures { slice_get (fields_at (node_at (schema_nodes plan.now.1) self.r.0)) index ≡ Some (seen_field field.now)
-            → result ≡ source_of (fields_at (node_at (schema_nodes plan.now.0) self.w.0)) (seen_field field.now) }
+        ensures { slice_get (fields_at (node_at (schema_nodes plan.now.1) self.r.0)) index ≡ Some (field_of field.now)
+            → result ≡ source_of (fields_at (node_at (schema_nodes plan.now.0) self.w.0)) (field_of field.now) }
     {
         match plan.sources(self.index, self.w, self.r) {
             Some(sources) => source_at(sources, index),
@@ -115,7 +115,7 @@ impl PlanPair {
             None => source,
         };
         PlanPair {
-            w: field_of(plan.writer(), self.w, source),
+            w: node_of_field(fields_of(plan.writer(), self.w), source),
             r,
             index: plan.index_below(self.index, part),
         }
@@ -126,6 +126,17 @@ impl PlanPair {
         ensures { IsSymbol (enum_as (symbol_at (node_at (schema_nodes plan.now.0) self.w.0) symbol) (node_at (schema_nodes plan.now.1) self.r.0)) result }
     {
         plan.symbol(self.index, self.w, symbol, self.r)
+    }
+}
+
+/// The node of the field at an index.
+fn node_of_field(fields: &[Field], index: usize) -> NodeId
+    ensures { result.0 ≡ unwrap_or (slice_get (field_ids (seen_fields fields.now)) index) 0 }
+{
+    if index < fields.len() {
+        fields[index].node
+    } else {
+        NodeId(0)
     }
 }
 
