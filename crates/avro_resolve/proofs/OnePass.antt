@@ -17,6 +17,7 @@ use Rattle.avro_compare.specs.Seen.{fault_of}
 use Rattle.avro_resolve.specs.Seen.{UnlessOutOfMemory}
 use Rattle.avro_compare.specs.declared.error.Fault.{Fault}
 use Rattle.avro_resolve.specs.declared.error.ReadResolveError.{ReadResolveError}
+use Rattle.avro_compare.specs.declared.guided.At.{At}
 use Rattle.avro_compare.specs.declared.guided.At.TheVariants.{Pair}
 use Rattle.avro_resolve.specs.declared.resolving.guided.Made.{Made}
 use Rattle.avro_resolve.proofs.Guiding.{as_fault, good_made}
@@ -25,13 +26,19 @@ use Rattle.avro_resolve.proofs.Guiding.{as_fault, good_made}
 abbrev pub AreGuides : List Node → List Node → List Node → List Node → Type 0
 AreGuides a b c d = ◌≡◌ {A = List Node × List Node} (a, b) (c, d)
 
--- what was made at the roots, by a maker that is kept
-pub at_roots : {O : Type 0} (S : O → Value → Type 0) (writer reader ws rs : List Node) (w r : NodeId) (made : Made O) (v : Value) → AreGuides writer reader ws rs → w.0 ≡ 0 → r.0 ≡ 0
-    → StandsAs S ws rs writer (node_at writer w.0) (Pair w r) made v → MadeAs S made (resolve_root writer reader v)
-at_roots S writer reader ws rs w r made v kept first_w first_r h =
-    let here = subst (λ (g : List Node × List Node). StandsAs S g.0 g.1 writer (node_at writer w.0) (Pair w r) made v) (sym kept) h in
-    subst (λ (i : ℕ). MadeAs S made (resolve writer reader (root_of writer) (node_at reader i) v)) first_r
-    (subst (λ (i : ℕ). MadeAs S made (resolve writer reader (node_at writer i) (node_at reader r.0) v)) first_w (here refl refl))
+-- the part of the roots
+abbrev pub IsAtRoots : At → Type 0
+IsAtRoots at = (w : NodeId) × (r : NodeId) × (at ≡ Pair w r) × (w.0 ≡ 0) × (r.0 ≡ 0)
+
+-- what was made there, by a maker that is kept
+pub at_roots : {O : Type 0} (S : O → Value → Type 0) (writer reader ws rs : List Node) (n : Node) (at : At) (made : Made O) (v : Value) → AreGuides writer reader ws rs → n ≡ root_of writer → IsAtRoots at
+    → StandsAs S ws rs writer n at made v → MadeAs S made (resolve_root writer reader v)
+at_roots S writer reader ws rs n at made v kept root roots h =
+    let w = roots.0 in
+    let r = roots.1 in
+    let here = subst (λ (g : List Node × List Node). StandsAs S g.0 g.1 writer n (Pair w r) made v) (sym kept) (subst (λ (x : At). StandsAs S ws rs writer n x made v) roots.2 h) in
+    subst (λ (i : ℕ). MadeAs S made (resolve writer reader (root_of writer) (node_at reader i) v)) roots.4
+    (subst (λ (i : ℕ). MadeAs S made (resolve writer reader (node_at writer i) (node_at reader r.0) v)) roots.3 (here refl (root ∙ ap (node_at writer) (sym roots.3))))
 
 pub guide_is : (writer reader ws rs xs ys : List Node) → writer ≡ ws → reader ≡ rs → AreGuides ws rs xs ys → AreGuides writer reader xs ys
 guide_is writer reader ws rs xs ys e f kept = both_are ∙ kept

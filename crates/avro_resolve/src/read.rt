@@ -6,9 +6,8 @@ use crate::plan::pair_order::PairOrder;
 use crate::plan::plan_ref::PlanRef;
 use crate::resolving::Resolving;
 use crate::resolving::failing::turn_apart;
-use crate::resolving::guided::{Made, Part};
+use crate::resolving::guided::Made;
 use avro_binary::{Build, Put, Tree, Wrapping, read_made};
-use avro_compare::At;
 use avro_schema::{Datum, Limits, Schema};
 use std::alloc::Global;
 
@@ -81,11 +80,7 @@ pub(crate) fn put_planned<P: Put>(
 {
     let writer = plan.writer();
     let w = writer.root();
-    let part = Part {
-        at: At::Pair(w, plan.reader().root()),
-        index: plan.root(),
-        branch: None,
-    };
+    let part = plan.root_part();
     let mut maker = Resolving::new(plan, builder);
     match read_made(alloc, writer, w, bytes, limits, &mut maker, part) {
         Ok((made, len)) => match made {

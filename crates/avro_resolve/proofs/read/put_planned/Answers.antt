@@ -15,8 +15,8 @@ returns-in-Good g c =
     (node_at writer c.root-w.result.0) (ap (node_at writer) c.root-w.ensures.root)
     c.in-Good.out c.in-Ok.len (rw (c.in-Good.is, c.writer-writer.ensures) at c.in-Ok.ensures.reads)
     (λ made v h. subst (λ m. MadeAs (g.P.Put.stands_for m) made (resolve_root writer reader v)) (sym (c.builder-1.given.1 (sym (h.0.0.1 ∙ c.new-maker.ensures.lent))))
-    (at_roots (g.P.Put.stands_for last.builder.now) writer reader (schema_nodes last.plan.now.0) (schema_nodes last.plan.now.1) c.root-w.result c.root.result made v
-    (guide_is writer reader _ _ _ _ (ap (λ p. schema_nodes p.0) (sym c.new-maker.ensures.plan)) (ap (λ p. schema_nodes p.1) (sym c.new-maker.ensures.plan)) h.0.1) c.root-w.ensures.root c.root.ensures.root h.1))
+    (at_roots (g.P.Put.stands_for last.builder.now) writer reader (schema_nodes last.plan.now.0) (schema_nodes last.plan.now.1) (node_at writer c.root-w.result.0) c.root_part-part.result.at made v
+    (guide_is writer reader _ _ _ _ (ap (λ p. schema_nodes p.0) (sym c.new-maker.ensures.plan)) (ap (λ p. schema_nodes p.1) (sym c.new-maker.ensures.plan)) h.0.1) (ap (node_at writer) c.root-w.ensures.root) c.root_part-part.ensures h.1))
 
 pub returns-in-Faulty : goal.returns-in-Faulty
 returns-in-Faulty g c =
@@ -27,8 +27,8 @@ returns-in-Faulty g c =
     (node_at writer c.root-w.result.0) (ap (node_at writer) c.root-w.ensures.root)
     c.in-Faulty.fault c.turn_apart.result c.in-Ok.len (rw (c.in-Faulty.is, c.writer-writer.ensures) at c.in-Ok.ensures.reads)
     (λ made v h. subst (λ m. MadeAs (g.P.Put.stands_for m) made (resolve_root writer reader v)) (sym (c.builder-1.given.1 (sym (h.0.0.1 ∙ c.new-maker.ensures.lent))))
-    (at_roots (g.P.Put.stands_for last.builder.now) writer reader (schema_nodes last.plan.now.0) (schema_nodes last.plan.now.1) c.root-w.result c.root.result made v
-    (guide_is writer reader _ _ _ _ (ap (λ p. schema_nodes p.0) (sym c.new-maker.ensures.plan)) (ap (λ p. schema_nodes p.1) (sym c.new-maker.ensures.plan)) h.0.1) c.root-w.ensures.root c.root.ensures.root h.1))
+    (at_roots (g.P.Put.stands_for last.builder.now) writer reader (schema_nodes last.plan.now.0) (schema_nodes last.plan.now.1) (node_at writer c.root-w.result.0) c.root_part-part.result.at made v
+    (guide_is writer reader _ _ _ _ (ap (λ p. schema_nodes p.0) (sym c.new-maker.ensures.plan)) (ap (λ p. schema_nodes p.1) (sym c.new-maker.ensures.plan)) h.0.1) (ap (node_at writer) c.root-w.ensures.root) c.root_part-part.ensures h.1))
     c.turn_apart.ensures
 
 pub returns-in-Err : goal.returns-in-Err
