@@ -3,7 +3,6 @@ pub mod DeadIds
 pub mod Evidence
 pub mod Exclusive
 pub mod PairNumbers
-pub mod PlainRead
 pub mod ReachedPairs
 pub mod RootJudged
 pub mod SortedKeys

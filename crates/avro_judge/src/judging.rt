@@ -73,7 +73,7 @@ pub fn judge<'a>(
         Judged::Size => Ok(Verdict::Undecided(Cause::Size)),
         Judged::Depth => Ok(Verdict::Undecided(Cause::Depth)),
         Judged::Erring(datum) => {
-            let fault = fault_of_datum(alloc, writer, reader, found, &limits.limits(), &datum)?;
+            let fault = fault_of_datum(alloc, writer, reader, found, &datum)?;
             Ok(Verdict::Refuted(Refutation { datum, fault }))
         }
     }

@@ -6,8 +6,8 @@
 //! # How a verdict is proved
 //!
 //! `judge` finds the size of a smallest datum that fails at the pair of the roots (`avro_least`). If there is none, no
-//! datum fails, and the schemas are approved. Otherwise such a datum is built, and its fault is found by reading its plain
-//! encoding for the reader: the reader's datum is not built, and by a law the datum that is read is the one that was built.
+//! datum fails, and the schemas are approved. Otherwise such a datum is built, and its fault is found by resolving it with
+//! nothing built of it.
 //! The contracts mention no table and no search: they speak of all data, of any size.
 //!
 //! An [`Approved`] can be made only from two compatible schemas: that is the invariant of its type. So

@@ -5,7 +5,7 @@ ghost use Rattle.avro_schema.specs.SeenSchema.{schema_nodes};
 ghost use Rattle.avro_compare.specs.Seen.{fault_of};
 ghost use Rattle.avro_certificate.specs.Compatible.{ErrsWith, Errs};
 
-use avro_resolve::{Fault, ResolveError, resolve};
+use avro_resolve::{Fault, Nothing, Plan, ResolveError};
 use avro_schema::{Datum, Memory, Schema, fits};
 use std::alloc::Global;
 
@@ -27,7 +27,8 @@ pub fn check_refutation(
     if !fits(alloc, writer, writer.root(), datum)? {
         return Ok(None);
     }
-    match resolve(alloc, writer, reader, datum) {
+    let plan = Plan::reached(alloc, writer, reader)?;
+    match plan.by_ref().of_datum(alloc, datum, &mut Nothing) {
         Err(ResolveError::Fault(fault)) => Ok(Some(fault)),
         Err(ResolveError::Memory) => Err(Memory),
         Ok(_) => Ok(None),
