@@ -11,9 +11,11 @@ use crate::plain::Plain;
 use crate::put_error::PutError;
 use crate::putting::put_displayed;
 use crate::table::DisplayTable;
+use crate::text::Text;
 use avro_device::{Output, WriteOutput, put_all};
 use avro_schema::{Datum, Memory, NodeId};
 use std::alloc::Global;
+use std::mem::replace;
 
 /// Displays a datum of a node as compact JSON.
 ///
@@ -88,40 +90,48 @@ pub fn put_display<O: Output>(
     ensures fails { IsErrOf result PutError.CannotWrite → (O.failures out.new ≢ O.failures out.old) ⊎ O.stuck out.new }
     ensures memory { IsErrOf result PutError.OutOfMemory → O.failures out.new ≡ O.failures out.old }
 {
-    put_displayed(
-        out,
-        text,
-        alloc,
-        &Plain::new(table),
-        Some((Some(node), datum)),
-    )
+    let mut held = Text::holding(replace(text, Vec::new(alloc)));
+    let put = put_datum(out, &mut held, table, node, datum);
+    *text = held.into_inner();
+    put
 }
 
-/// Does the same for the line of a datum of the schema: its display and a line feed.
+/// The same for a text that keeps its rooms.
+fn put_datum<O: Output>(
+    out: &mut O,
+    text: &mut Text,
+    table: &DisplayTable<'_>,
+    node: NodeId,
+    datum: &Datum,
+) -> Result<(), PutError>
+    ensures put { OnOk result (PutsText O.keeps out.old text.old
+        (display_text (schema_nodes table.now) (node_at (schema_nodes table.now) node.0) (value_of datum.now)) out.new text.new) }
+    ensures works { OnOk result (O.failures out.new ≡ O.failures out.old) }
+    ensures fails { IsErrOf result PutError.CannotWrite → (O.failures out.new ≢ O.failures out.old) ⊎ O.stuck out.new }
+    ensures memory { IsErrOf result PutError.OutOfMemory → O.failures out.new ≡ O.failures out.old }
+{
+    put_displayed(out, text, &Plain::new(table), Some((Some(node), datum)))
+}
+
+/// Appends the line of a datum of the schema, its display and a line feed, to a text that keeps its rooms, and puts the text in
+/// pieces if it is long.
 ///
 /// # Errors
 ///
 /// Those of [`put_display`].
 pub fn put_line<O: Output>(
     out: &mut O,
-    text: &mut Vec<u8>,
-    alloc: Global,
+    text: &mut Text,
     table: &DisplayTable<'_>,
     datum: &Datum,
 ) -> Result<(), PutError>
-    ensures put { OnOk result (PutsText O.keeps out.old text.old.items
-        (display_text (schema_nodes table.now) (root_of (schema_nodes table.now)) (value_of datum.now) ++ 10 ∷ []) out.new text.new.items) }
+    ensures put { OnOk result (PutsText O.keeps out.old text.old
+        (display_text (schema_nodes table.now) (root_of (schema_nodes table.now)) (value_of datum.now) ++ 10 ∷ []) out.new text.new) }
     ensures works { OnOk result (O.failures out.new ≡ O.failures out.old) }
     ensures fails { IsErrOf result PutError.CannotWrite → (O.failures out.new ≢ O.failures out.old) ⊎ O.stuck out.new }
     ensures memory { IsErrOf result PutError.OutOfMemory → O.failures out.new ≡ O.failures out.old }
 {
-    put_display(
-        &mut *out,
-        &mut *text,
-        alloc,
-        table,
-        table.schema().root(),
-        datum,
-    )?;
+    let root = table.schema().root();
+    put_datum(&mut *out, &mut *text, table, root, datum)?;
     put_plain(out, text, b"\n")
 }

@@ -1,23 +1,13 @@
-ghost use Rattle.std.specs.Prelude.{◌≡◌, ◌++◌, IfOk, OnOk, option_map, string_bytes, encode_utf8_all};
+ghost use Rattle.std.specs.Prelude.{◌≡◌, IfOk, option_map, string_bytes, encode_utf8_all};
 ghost use Rattle.avro_schema.specs.Fits.{is_null_node};
 ghost use Rattle.avro_schema.specs.Seen.{node_of};
 ghost use Rattle.avro_display.specs.DisplayTree.{name_text, branch_key as key_of_branch, symbol_at};
-ghost use Rattle.avro_display.specs.Table.{head_text, opening_of};
+ghost use Rattle.avro_display.specs.Table.{opening_of};
 
+use crate::text::Text;
 use avro_name::FullName;
 use avro_schema::{Memory, Node};
-use json::Writer;
-use std::alloc::{AllocError, Global};
-
-/// Appends a key and its colon.
-pub(crate) fn append_key(text: &mut Vec<u8>, alloc: Global, key: &str) -> Result<(), AllocError>
-    ensures { OnOk result (text.new.items ≡ text.old.items ++ head_text key.now) }
-{
-    let mut writer = Writer::new(Vec::new(alloc));
-    writer.key(key)?;
-    text.extend_from_slice(&writer.into_inner())?;
-    Ok(())
-}
+use std::alloc::Global;
 
 /// A copy of a text.
 fn copy_of_text(alloc: Global, text: &str) -> Result<String, Memory>
@@ -99,8 +89,8 @@ pub(crate) fn opening(alloc: Global, node: &Node) -> Result<Option<Vec<u8>>, Mem
         return Ok(None);
     }
     let key = branch_key(alloc, node)?;
-    let mut text = Vec::new(alloc);
-    text.push(b'{')?;
-    append_key(&mut text, alloc, key.as_str())?;
-    Ok(Some(text))
+    let mut text = Text::new(alloc);
+    text.append_byte(b'{')?;
+    text.append_key(key.as_str())?;
+    Ok(Some(text.into_inner()))
 }

@@ -18,11 +18,14 @@ mod plain;
 mod put_error;
 mod putting;
 mod table;
+mod text;
 
 pub use display::{put_display, put_line, show};
 pub use displayed::{Displayed, Opened};
 pub use member::Member;
+pub use pieces::put_plain;
 pub use plain::Plain;
 pub use put_error::PutError;
 pub use putting::put_displayed;
 pub use table::DisplayTable;
+pub use text::Text;

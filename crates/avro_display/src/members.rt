@@ -9,8 +9,8 @@ ghost use Rattle.avro_display.specs.Order.{IsOrder};
 ghost use Rattle.avro_display.specs.Table.{AreMembers, field_id, head_text};
 
 use crate::displayed::Displayed;
-use crate::labels::append_key;
 use crate::member::Member;
+use crate::text::Text;
 use avro_schema::{Field, Memory, NodeId};
 use std::alloc::Global;
 use std::collections::BTreeMap;
@@ -85,13 +85,13 @@ fn member(
     ensures field { IfOk result (λ m. m.field ≡ field) }
     ensures head { IfOk result (λ m. m.head.items ≡ opener ∷ head_text name.now) }
 {
-    let mut head = Vec::new(alloc);
-    head.push(opener)?;
-    append_key(&mut head, alloc, name)?;
+    let mut head = Text::new(alloc);
+    head.append_byte(opener)?;
+    head.append_key(name)?;
     Ok(Member {
         field,
         node: field_node(fields, field),
-        head,
+        head: head.into_inner(),
     })
 }
 

@@ -1,6 +1,6 @@
 //! Text that goes out in pieces.
 
-ghost use Rattle.std.specs.Prelude.{◌≡◌, ◌≢◌, ◌⊎◌, ◌++◌, [], OnOk, IsErrOf, encode_utf8_all};
+ghost use Rattle.std.specs.Prelude.{◌≡◌, ◌≢◌, ◌⊎◌, [], OnOk, IsErrOf, encode_utf8_all};
 ghost use Rattle.json.specs.Print.{quoted};
 ghost use Rattle.serde_json.specs.Find.{of_integer};
 ghost use Rattle.serde_json.specs.Written.{number_text};
@@ -9,11 +9,8 @@ ghost use Rattle.avro_display.specs.declared.put_error.PutError.{PutError};
 
 use crate::labels::bytes_text;
 use crate::put_error::PutError;
+use crate::text::Text;
 use avro_device::{Output, put_all};
-use itoa::Buffer;
-use json::Writer;
-use std::alloc::{AllocError, Global};
-use std::mem::replace;
 
 /// A longer text is put in several pieces.
 const PIECE: usize = 1_048_576;
@@ -23,8 +20,8 @@ const PIECE: usize = 1_048_576;
 /// # Errors
 ///
 /// The output failed, or took none of the bytes.
-pub(crate) fn put_piece<O: Output>(out: &mut O, text: &mut Vec<u8>) -> Result<(), PutError>
-    ensures put { OnOk result (PutsText O.keeps out.old text.old.items [] out.new text.new.items) }
+pub(crate) fn put_piece<O: Output>(out: &mut O, text: &mut Text) -> Result<(), PutError>
+    ensures put { OnOk result (PutsText O.keeps out.old text.old [] out.new text.new) }
     ensures works { OnOk result (O.failures out.new ≡ O.failures out.old) }
     ensures fails { IsErrOf result PutError.CannotWrite → (O.failures out.new ≢ O.failures out.old) ⊎ O.stuck out.new }
     ensures memory { IsErrOf result PutError.OutOfMemory → O.failures out.new ≡ O.failures out.old }
@@ -38,80 +35,61 @@ pub(crate) fn put_piece<O: Output>(out: &mut O, text: &mut Vec<u8>) -> Result<()
 }
 
 /// Appends bytes, and puts all if it is long.
-pub(crate) fn put_plain<O: Output>(
-    out: &mut O,
-    text: &mut Vec<u8>,
-    bytes: &[u8],
-) -> Result<(), PutError>
-    ensures put { OnOk result (PutsText O.keeps out.old text.old.items bytes.now out.new text.new.items) }
+///
+/// # Errors
+///
+/// The output failed, or took none of the bytes; memory ran out.
+pub fn put_plain<O: Output>(out: &mut O, text: &mut Text, bytes: &[u8]) -> Result<(), PutError>
+    ensures put { OnOk result (PutsText O.keeps out.old text.old bytes.now out.new text.new) }
     ensures works { OnOk result (O.failures out.new ≡ O.failures out.old) }
     ensures fails { IsErrOf result PutError.CannotWrite → (O.failures out.new ≢ O.failures out.old) ⊎ O.stuck out.new }
     ensures memory { IsErrOf result PutError.OutOfMemory → O.failures out.new ≡ O.failures out.old }
 {
-    text.extend_from_slice(bytes)?;
+    text.append(bytes)?;
     put_piece(out, text)
 }
 
 /// Appends the digits of a number, and puts all if it is long.
 pub(crate) fn put_number<O: Output>(
     out: &mut O,
-    text: &mut Vec<u8>,
+    text: &mut Text,
     number: i64,
 ) -> Result<(), PutError>
-    ensures put { OnOk result (PutsText O.keeps out.old text.old.items (number_text (of_integer number)) out.new text.new.items) }
+    ensures put { OnOk result (PutsText O.keeps out.old text.old (number_text (of_integer number)) out.new text.new) }
     ensures works { OnOk result (O.failures out.new ≡ O.failures out.old) }
     ensures fails { IsErrOf result PutError.CannotWrite → (O.failures out.new ≢ O.failures out.old) ⊎ O.stuck out.new }
     ensures memory { IsErrOf result PutError.OutOfMemory → O.failures out.new ≡ O.failures out.old }
 {
-    append_number(text, number)?;
+    text.append_number(number)?;
     put_piece(out, text)
 }
 
 /// Appends a quoted text, and puts all if it is long.
 pub(crate) fn put_quoted<O: Output>(
     out: &mut O,
-    text: &mut Vec<u8>,
-    alloc: Global,
+    text: &mut Text,
     string: &str,
 ) -> Result<(), PutError>
-    ensures put { OnOk result (PutsText O.keeps out.old text.old.items (quoted string.now) out.new text.new.items) }
+    ensures put { OnOk result (PutsText O.keeps out.old text.old (quoted string.now) out.new text.new) }
     ensures works { OnOk result (O.failures out.new ≡ O.failures out.old) }
     ensures fails { IsErrOf result PutError.CannotWrite → (O.failures out.new ≢ O.failures out.old) ⊎ O.stuck out.new }
     ensures memory { IsErrOf result PutError.OutOfMemory → O.failures out.new ≡ O.failures out.old }
 {
-    append_quoted(text, alloc, string)?;
+    text.append_quoted(string)?;
     put_piece(out, text)
 }
 
 /// Appends bytes as a quoted text of one character per byte, and puts all if it is long.
 pub(crate) fn put_characters<O: Output>(
     out: &mut O,
-    text: &mut Vec<u8>,
-    alloc: Global,
+    text: &mut Text,
     bytes: &[u8],
 ) -> Result<(), PutError>
-    ensures put { OnOk result (PutsText O.keeps out.old text.old.items (quoted (encode_utf8_all bytes.now)) out.new text.new.items) }
+    ensures put { OnOk result (PutsText O.keeps out.old text.old (quoted (encode_utf8_all bytes.now)) out.new text.new) }
     ensures works { OnOk result (O.failures out.new ≡ O.failures out.old) }
     ensures fails { IsErrOf result PutError.CannotWrite → (O.failures out.new ≢ O.failures out.old) ⊎ O.stuck out.new }
     ensures memory { IsErrOf result PutError.OutOfMemory → O.failures out.new ≡ O.failures out.old }
 {
-    let characters = bytes_text(alloc, bytes)?;
-    put_quoted(out, text, alloc, characters.as_str())
-}
-
-/// Appends the digits of a number.
-fn append_number(text: &mut Vec<u8>, number: i64) -> Result<(), AllocError>
-    ensures { OnOk result (text.new.items ≡ text.old.items ++ number_text (of_integer number)) }
-{
-    text.extend_from_slice(Buffer::new().format(number).as_bytes())
-}
-
-/// Appends a quoted text.
-fn append_quoted(text: &mut Vec<u8>, alloc: Global, string: &str) -> Result<(), AllocError>
-    ensures { OnOk result (text.new.items ≡ text.old.items ++ quoted string.now) }
-{
-    let mut writer = Writer::new(replace(text, Vec::new(alloc)));
-    let written = writer.string(string);
-    *text = writer.into_inner();
-    written
+    let characters = bytes_text(text.allocator(), bytes)?;
+    put_quoted(out, text, characters.as_str())
 }

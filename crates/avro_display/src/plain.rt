@@ -49,6 +49,7 @@ impl<'a> Displayed for Plain<'a> {
 
     ghost levels = { λ s part. plain_levels part };
 
+    #[inline(always)]
     fn open(&self, part: Self::Part) -> Opened<'_, Self::Part> {
         let (id, datum) = part;
         match datum {
@@ -69,6 +70,7 @@ impl<'a> Displayed for Plain<'a> {
         }
     }
 
+    #[inline(always)]
     fn item(&self, array: Self::Part, index: usize) -> Option<Self::Part> {
         match array.1 {
             Datum::Array(items) => item_of(self.table.node(array.0).items(), items, index),
@@ -93,6 +95,7 @@ impl<'a> Displayed for Plain<'a> {
         }
     }
 
+    #[inline(always)]
     fn member(&self, object: Self::Part, member: &Member) -> Option<Self::Part> {
         match object.1 {
             Datum::Record(values) => item_of(Some(member.node), values, member.field),
@@ -119,6 +122,7 @@ fn opened_branch<'a>(
 }
 
 /// Opens a record of so many values. If it has fewer than fields, it does not fit; those that it has are displayed.
+#[inline(always)]
 fn opened_record<'a>(
     table: &'a DisplayTable<'a>,
     part: (Option<NodeId>, &'a Datum),
@@ -137,6 +141,7 @@ fn opened_record<'a>(
 }
 
 /// The item at an index, as one of a node.
+#[inline(always)]
 fn item_of<'a>(
     id: Option<NodeId>,
     items: &'a [Datum],

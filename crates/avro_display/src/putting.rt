@@ -14,13 +14,13 @@ ghost use Rattle.avro_display.specs.inside.Tables.{seen_place};
 ghost use Rattle.avro_display.specs.declared.put_error.PutError.{PutError};
 
 use crate::displayed::{Displayed, Opened};
-use crate::labels::append_key;
 use crate::member::Member;
 use crate::members::entry_order;
 use crate::pieces::{put_characters, put_number, put_plain, put_quoted};
 use crate::put_error::PutError;
+use crate::text::Text;
 use avro_device::Output;
-use std::alloc::{AllocError, Global};
+use std::alloc::AllocError;
 use std::collections::BTreeMap;
 
 /// Appends the display of a part to a text, and puts the text in pieces if it is long: what the text held, and then the
@@ -32,12 +32,11 @@ use std::collections::BTreeMap;
 #[cycle(putting)]
 pub fn put_displayed<O: Output, D: Displayed>(
     out: &mut O,
-    text: &mut Vec<u8>,
-    alloc: Global,
+    text: &mut Text,
     displayed: &D,
     part: Option<D::Part>,
 ) -> Result<(), PutError>
-    ensures put { (d : Data) → IsShown (D.shows displayed.now) part d → OnOk result (PutsText O.keeps out.old text.old.items (compact_text d) out.new text.new.items) }
+    ensures put { (d : Data) → IsShown (D.shows displayed.now) part d → OnOk result (PutsText O.keeps out.old text.old (compact_text d) out.new text.new) }
     ensures works { OnOk result (O.failures out.new ≡ O.failures out.old) }
     ensures fails { IsErrOf result PutError.CannotWrite → (O.failures out.new ≢ O.failures out.old) ⊎ O.stuck out.new }
     ensures memory { IsErrOf result PutError.OutOfMemory → O.failures out.new ≡ O.failures out.old }
@@ -50,14 +49,12 @@ pub fn put_displayed<O: Output, D: Displayed>(
         Opened::Null => put_plain(out, text, b"null"),
         Opened::Bool(value) => put_plain(out, text, bool_text(value)),
         Opened::Number(value) => put_number(out, text, value),
-        Opened::Bytes(bytes) => put_characters(out, text, alloc, bytes),
-        Opened::Text(string) => put_quoted(out, text, alloc, string),
-        Opened::Branch(opening, value) => put_branch(out, text, alloc, displayed, opening, value),
-        Opened::Items(items, count) => put_items(out, text, alloc, displayed, items, count),
-        Opened::Entries(entries, count) => put_entries(out, text, alloc, displayed, entries, count),
-        Opened::Members(owner, members) => {
-            put_members(out, text, alloc, displayed, owner, members)
-        }
+        Opened::Bytes(bytes) => put_characters(out, text, bytes),
+        Opened::Text(string) => put_quoted(out, text, string),
+        Opened::Branch(opening, value) => put_branch(out, text, displayed, opening, value),
+        Opened::Items(items, count) => put_items(out, text, displayed, items, count),
+        Opened::Entries(entries, count) => put_entries(out, text, displayed, entries, count),
+        Opened::Members(owner, members) => { put_members(out, text, displayed, owner, members) }
     }
 }
 
@@ -65,20 +62,19 @@ pub fn put_displayed<O: Output, D: Displayed>(
 #[cycle(putting)]
 fn put_branch<O: Output, D: Displayed>(
     out: &mut O,
-    text: &mut Vec<u8>,
-    alloc: Global,
+    text: &mut Text,
     displayed: &D,
     opening: &[u8],
     value: D::Part,
 ) -> Result<(), PutError>
     ensures put { (d : Data) → D.shows displayed.now value d
-        → OnOk result (PutsText O.keeps out.old text.old.items (opening.now ++ (compact_text d ++ 125 ∷ [])) out.new text.new.items) }
+        → OnOk result (PutsText O.keeps out.old text.old (opening.now ++ (compact_text d ++ 125 ∷ [])) out.new text.new) }
     ensures works { OnOk result (O.failures out.new ≡ O.failures out.old) }
     ensures fails { IsErrOf result PutError.CannotWrite → (O.failures out.new ≢ O.failures out.old) ⊎ O.stuck out.new }
     ensures memory { IsErrOf result PutError.OutOfMemory → O.failures out.new ≡ O.failures out.old }
 {
-    text.extend_from_slice(opening)?;
-    put_displayed(&mut *out, &mut *text, alloc, displayed, Some(value))?;
+    text.append(opening)?;
+    put_displayed(&mut *out, &mut *text, displayed, Some(value))?;
     put_plain(out, text, b"}")
 }
 
@@ -86,24 +82,23 @@ fn put_branch<O: Output, D: Displayed>(
 #[cycle(putting)]
 fn put_items<O: Output, D: Displayed>(
     out: &mut O,
-    text: &mut Vec<u8>,
-    alloc: Global,
+    text: &mut Text,
     displayed: &D,
     items: D::Part,
     count: usize,
 ) -> Result<(), PutError>
     ensures put { (ds : Items) → ItemsAre (D.item_shows displayed.now) items count ds
-        → OnOk result (PutsText O.keeps out.old text.old.items (compact_text (array ds)) out.new text.new.items) }
+        → OnOk result (PutsText O.keeps out.old text.old (compact_text (array ds)) out.new text.new) }
     ensures works { OnOk result (O.failures out.new ≡ O.failures out.old) }
     ensures fails { IsErrOf result PutError.CannotWrite → (O.failures out.new ≢ O.failures out.old) ⊎ O.stuck out.new }
     ensures memory { IsErrOf result PutError.OutOfMemory → O.failures out.new ≡ O.failures out.old }
 {
-    text.extend_from_slice(b"[")?;
+    text.append_byte(b'[')?;
     let mut later = false;
     for index in 0..count {
         append_comma(text, later)?;
         let item = displayed.item(items, index);
-        put_displayed(&mut *out, &mut *text, alloc, displayed, item)?;
+        put_displayed(&mut *out, &mut *text, displayed, item)?;
         later = true;
     }
     put_plain(out, text, b"]")
@@ -113,44 +108,42 @@ fn put_items<O: Output, D: Displayed>(
 #[cycle(putting)]
 fn put_entries<O: Output, D: Displayed>(
     out: &mut O,
-    text: &mut Vec<u8>,
-    alloc: Global,
+    text: &mut Text,
     displayed: &D,
     entries: D::Part,
     count: usize,
 ) -> Result<(), PutError>
     ensures put { (keys : List (List ℕ)) (tree : ℕ → Data) → EntriesAre (D.entry_shows displayed.now) entries count keys tree
-        → OnOk result (PutsText O.keeps out.old text.old.items (compact_text (object (put_each tree 0 keys no_members))) out.new text.new.items) }
+        → OnOk result (PutsText O.keeps out.old text.old (compact_text (object (put_each tree 0 keys no_members))) out.new text.new) }
     ensures works { OnOk result (O.failures out.new ≡ O.failures out.old) }
     ensures fails { IsErrOf result PutError.CannotWrite → (O.failures out.new ≢ O.failures out.old) ⊎ O.stuck out.new }
     ensures memory { IsErrOf result PutError.OutOfMemory → O.failures out.new ≡ O.failures out.old }
 {
-    let order = entry_order(alloc, displayed, entries, count)?;
-    put_ordered(out, text, alloc, displayed, entries, &order)
+    let order = entry_order(text.allocator(), displayed, entries, count)?;
+    put_ordered(out, text, displayed, entries, &order)
 }
 
 /// Puts the display of entries in the order of their keys.
 #[cycle(putting)]
 fn put_ordered<O: Output, D: Displayed>(
     out: &mut O,
-    text: &mut Vec<u8>,
-    alloc: Global,
+    text: &mut Text,
     displayed: &D,
     entries: D::Part,
     order: &BTreeMap<&str, usize>,
 ) -> Result<(), PutError>
     ensures put { (tree : ℕ → Data) → AreOrdered (D.entry_shows displayed.now) entries (map seen_place order.now.entries) tree
-        → OnOk result (PutsText O.keeps out.old text.old.items (compact_text (object (in_order tree (map seen_place order.now.entries)))) out.new text.new.items) }
+        → OnOk result (PutsText O.keeps out.old text.old (compact_text (object (in_order tree (map seen_place order.now.entries)))) out.new text.new) }
     ensures works { OnOk result (O.failures out.new ≡ O.failures out.old) }
     ensures fails { IsErrOf result PutError.CannotWrite → (O.failures out.new ≢ O.failures out.old) ⊎ O.stuck out.new }
     ensures memory { IsErrOf result PutError.OutOfMemory → O.failures out.new ≡ O.failures out.old }
 {
-    text.extend_from_slice(b"{")?;
+    text.append_byte(b'{')?;
     let mut later = false;
     for (key, index) in order.iter() {
-        append_entry_key(text, alloc, later, key)?;
+        append_entry_key(text, later, key)?;
         let value = displayed.entry(entries, *index);
-        put_displayed(&mut *out, &mut *text, alloc, displayed, value)?;
+        put_displayed(&mut *out, &mut *text, displayed, value)?;
         later = true;
     }
     put_plain(out, text, b"}")
@@ -160,14 +153,13 @@ fn put_ordered<O: Output, D: Displayed>(
 #[cycle(putting)]
 fn put_members<O: Output, D: Displayed>(
     out: &mut O,
-    text: &mut Vec<u8>,
-    alloc: Global,
+    text: &mut Text,
     displayed: &D,
     owner: D::Part,
     members: &[Member],
 ) -> Result<(), PutError>
     ensures put { (tree : ℕ → Data) → AllByRecursion (λ m. D.member_shows displayed.now owner m (tree m.field)) members.now
-        → OnOk result (PutsText O.keeps out.old text.old.items (object_text tree members.now) out.new text.new.items) }
+        → OnOk result (PutsText O.keeps out.old text.old (object_text tree members.now) out.new text.new) }
     ensures works { OnOk result (O.failures out.new ≡ O.failures out.old) }
     ensures fails { IsErrOf result PutError.CannotWrite → (O.failures out.new ≢ O.failures out.old) ⊎ O.stuck out.new }
     ensures memory { IsErrOf result PutError.OutOfMemory → O.failures out.new ≡ O.failures out.old }
@@ -176,34 +168,30 @@ fn put_members<O: Output, D: Displayed>(
         return put_plain(out, text, b"{}");
     }
     for member in members {
-        text.extend_from_slice(member.head())?;
+        text.append(member.head())?;
         let value = displayed.member(owner, member);
-        put_displayed(&mut *out, &mut *text, alloc, displayed, value)?;
+        put_displayed(&mut *out, &mut *text, displayed, value)?;
     }
     put_plain(out, text, b"}")
 }
 
 /// Appends a comma, if something is before.
-fn append_comma(text: &mut Vec<u8>, later: bool) -> Result<(), AllocError>
-    ensures { OnOk result (text.new.items ≡ text.old.items ++ comma_if later) }
+fn append_comma(text: &mut Text, later: bool) -> Result<(), AllocError>
+    ensures { OnOk result (text.new ≡ text.old ++ comma_if later) }
 {
     if later {
-        text.push(b',')?;
+        text.append_byte(b',')
+    } else {
+        Ok(())
     }
-    Ok(())
 }
 
 /// Appends a comma, if something is before, and then a key with its colon.
-fn append_entry_key(
-    text: &mut Vec<u8>,
-    alloc: Global,
-    later: bool,
-    key: &str,
-) -> Result<(), AllocError>
-    ensures { OnOk result (text.new.items ≡ text.old.items ++ (comma_if later ++ head_text key.now)) }
+fn append_entry_key(text: &mut Text, later: bool, key: &str) -> Result<(), AllocError>
+    ensures { OnOk result (text.new ≡ text.old ++ (comma_if later ++ head_text key.now)) }
 {
     append_comma(text, later)?;
-    append_key(text, alloc, key)
+    text.append_key(key)
 }
 
 /// The text of a boolean.

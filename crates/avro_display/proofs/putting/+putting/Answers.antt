@@ -11,15 +11,15 @@ use Rattle.avro_display.proofs.public.Putting.{on_ok, puts_both, puts_none, puts
 use Rattle.avro_display.proofs.putting.+putting.Goals as goal
 
 pub put_items-loop-index-init : goal.put_items-loop-index-init
-put_items-loop-index-init g t c = (λ ds are. puts_none g.O.Output.keeps g.met.O.Output.none c.args.out.now c.extend_from_slice.new.self.items (items_text false ds), refl)
+put_items-loop-index-init g t c = (λ ds are. puts_none g.O.Output.keeps g.met.O.Output.none c.args.out.now c.append_byte.new.self (items_text false ds), refl)
 
 pub put_items-loop-index-preserved : goal.put_items-loop-index-preserved
 put_items-loop-index-preserved g t c =
     let l = c.loop-index in (
       λ ds are.
           let within : l.index < items_count ds = omega (arith, are.0, c.loop-index-test.true) in
-          items_more g.O.Output.keeps g.met.O.Output.chain c.args.out.now l.out c.put_displayed.new.out c.extend_from_slice.new.self.items (items_text false ds)
-          l.text.items c.put_displayed.new.text.items l.later ds l.index c.append_comma.new.text.items within c.in_ok-append_comma.ensures (l.invariant.0 ds are)
+          items_more g.O.Output.keeps g.met.O.Output.chain c.args.out.now l.out c.put_displayed.new.out c.append_byte.new.self (items_text false ds)
+          l.text c.put_displayed.new.text l.later ds l.index c.append_comma.new.text within c.in_ok-append_comma.ensures (l.invariant.0 ds are)
           (c.in_ok-put_displayed.ensures.put (item_at ds l.index) (c.item-item.ensures.shows (item_at ds l.index) (are.1 l.index c.loop-index-test.true))),
       c.in_ok-put_displayed.ensures.works ∙ l.invariant.1,
     )
@@ -28,17 +28,17 @@ pub put_items-returns-clause-put : goal.put_items-returns-clause-put
 put_items-returns-clause-put g t c = λ ds are.
     let l = c.loop-index in
     let all = items_text false ds in
-    on_ok (λ step. puts_opened g.O.Output.keeps c.args.out.now c.put_plain.new.out c.args.text.now.items (91 ∷ []) all c.extend_from_slice.new.self.items c.put_plain.new.text.items
-    c.in_ok-extend_from_slice.ensures.items
-    (items_last g.O.Output.keeps g.met.O.Output.chain c.args.out.now l.out c.put_plain.new.out c.extend_from_slice.new.self.items all
-    l.text.items c.put_plain.new.text.items l.later ds l.index (omega (arith, are.0, c.loop-index-test.false)) (l.invariant.0 ds are) step))
+    on_ok (λ step. puts_opened g.O.Output.keeps c.args.out.now c.put_plain.new.out c.args.text.now (91 ∷ []) all c.append_byte.new.self c.put_plain.new.text
+    c.in_ok-append_byte.ensures
+    (items_last g.O.Output.keeps g.met.O.Output.chain c.args.out.now l.out c.put_plain.new.out c.append_byte.new.self all
+    l.text c.put_plain.new.text l.later ds l.index (omega (arith, are.0, c.loop-index-test.false)) (l.invariant.0 ds are) step))
     c.put_plain.result c.put_plain.ensures.put
 
 pub put_ordered-loop-key-init : goal.put_ordered-loop-key-init
 put_ordered-loop-key-init g t c =
     let same : c.into_iter-key-iterator.result ≡ c.args.order.now.entries = search rules in (
       λ tree are. rw same (
-        puts_none g.O.Output.keeps g.met.O.Output.none c.args.out.now c.extend_from_slice.new.self.items (members_text false (in_order tree (map seen_place c.args.order.now.entries))),
+        puts_none g.O.Output.keeps g.met.O.Output.none c.args.out.now c.append_byte.new.self (members_text false (in_order tree (map seen_place c.args.order.now.entries))),
         are,
       ),
       refl,
@@ -52,10 +52,10 @@ put_ordered-loop-key-preserved g t c =
           let have = l.invariant.0 tree are in
           let left : map seen_place l.key-iterator ≡ place ∷ map seen_place c.next.new.self = search rules in
           let some = subst (λ (es : List (List ℕ × ℕ)). AreOrdered (g.D.Displayed.entry_shows c.args.displayed.now) c.args.entries es tree) left have.1 in (
-            entries_more g.O.Output.keeps g.met.O.Output.chain c.args.out.now l.out c.put_displayed.new.out c.extend_from_slice.new.self.items
+            entries_more g.O.Output.keeps g.met.O.Output.chain c.args.out.now l.out c.put_displayed.new.out c.append_byte.new.self
                 (members_text false (in_order tree (map seen_place c.args.order.now.entries)))
-                l.text.items c.put_displayed.new.text.items l.later tree (map seen_place l.key-iterator) (map seen_place c.next.new.self) place
-                c.append_entry_key.new.text.items left c.in_ok-append_entry_key.ensures have.0
+                l.text c.put_displayed.new.text l.later tree (map seen_place l.key-iterator) (map seen_place c.next.new.self) place
+                c.append_entry_key.new.text left c.in_ok-append_entry_key.ensures have.0
                 (c.in_ok-put_displayed.ensures.put (tree place.1) (c.entry-value.ensures.shows place.0 (tree place.1) some.0)),
             some.1,
           ),
@@ -67,20 +67,20 @@ put_ordered-returns-clause-put g t c = λ tree are.
     let l = c.loop-key in
     let all = members_text false (in_order tree (map seen_place c.args.order.now.entries)) in
     let none : map seen_place l.key-iterator ≡ [] = search rules in
-    on_ok (λ step. puts_opened g.O.Output.keeps c.args.out.now c.put_plain.new.out c.args.text.now.items (123 ∷ []) all c.extend_from_slice.new.self.items c.put_plain.new.text.items
-    c.in_ok-extend_from_slice.ensures.items
-    (entries_last g.O.Output.keeps g.met.O.Output.chain c.args.out.now l.out c.put_plain.new.out c.extend_from_slice.new.self.items all
-    l.text.items c.put_plain.new.text.items l.later tree (map seen_place l.key-iterator) none (l.invariant.0 tree are).0 step))
+    on_ok (λ step. puts_opened g.O.Output.keeps c.args.out.now c.put_plain.new.out c.args.text.now (123 ∷ []) all c.append_byte.new.self c.put_plain.new.text
+    c.in_ok-append_byte.ensures
+    (entries_last g.O.Output.keeps g.met.O.Output.chain c.args.out.now l.out c.put_plain.new.out c.append_byte.new.self all
+    l.text c.put_plain.new.text l.later tree (map seen_place l.key-iterator) none (l.invariant.0 tree are).0 step))
     c.put_plain.result c.put_plain.ensures.put
 
 pub put_entries-returns-clause-put : goal.put_entries-returns-clause-put
 put_entries-returns-clause-put g t c = λ keys tree are.
-    on_ok (λ step. subst (λ ms. PutsText g.O.Output.keeps c.args.out.now c.args.text.now.items (compact_text (object ms)) c.put_ordered.new.out c.put_ordered.new.text.items)
+    on_ok (λ step. subst (λ ms. PutsText g.O.Output.keeps c.args.out.now c.args.text.now (compact_text (object ms)) c.put_ordered.new.out c.put_ordered.new.text)
     (c.in_ok-order.ensures.order keys tree are tree) step)
     c.put_ordered.result (c.put_ordered.ensures.put tree (c.in_ok-order.ensures.have keys tree are))
 
 pub put_members-loop-member-init : goal.put_members-loop-member-init
-put_members-loop-member-init g t c = (λ tree are. puts_none g.O.Output.keeps g.met.O.Output.none c.args.out.now c.args.text.now.items (members_left tree c.args.members.now), refl)
+put_members-loop-member-init g t c = (λ tree are. puts_none g.O.Output.keeps g.met.O.Output.none c.args.out.now c.args.text.now (members_left tree c.args.members.now), refl)
 
 pub put_members-loop-member-preserved : goal.put_members-loop-member-preserved
 put_members-loop-member-preserved g t c =
@@ -89,9 +89,9 @@ put_members-loop-member-preserved g t c =
     let m = c.member-item.result in (
       λ tree are.
           let good = all_at (λ x. g.D.Displayed.member_shows c.args.displayed.now c.args.owner x (tree x.field)) ms l.member-index m c.loop-member-test.true are in
-          members_more g.O.Output.keeps g.met.O.Output.chain c.args.out.now l.out c.put_displayed.new.out c.args.text.now.items (members_left tree ms)
-          l.text.items c.put_displayed.new.text.items tree ms l.member-index m c.extend_from_slice.new.self.items c.loop-member-test.true c.member-item.is
-          (c.in_ok-extend_from_slice.ensures.items ∙ ap (λ b. l.text.items ++ b) c.head.ensures) (l.invariant.0 tree are)
+          members_more g.O.Output.keeps g.met.O.Output.chain c.args.out.now l.out c.put_displayed.new.out c.args.text.now (members_left tree ms)
+          l.text c.put_displayed.new.text tree ms l.member-index m c.append.new.self c.loop-member-test.true c.member-item.is
+          (c.in_ok-append.ensures ∙ ap (λ b. l.text ++ b) c.head.ensures) (l.invariant.0 tree are)
           (c.in_ok-put_displayed.ensures.put (tree m.field) (c.member-value.ensures.shows (tree m.field) (subst (λ x. g.D.Displayed.member_shows c.args.displayed.now c.args.owner x (tree x.field)) (sym c.member-item.is) good))),
       c.in_ok-put_displayed.ensures.works ∙ l.invariant.1,
     )
@@ -101,26 +101,26 @@ put_members-returns-clause-put g t c = λ tree are.
     let l = c.loop-member in
     let ms = c.args.members.now in
     let some : 0 < length ms = search rules in
-    on_ok (λ step. subst (λ b. PutsText g.O.Output.keeps c.args.out.now c.args.text.now.items b c.put_plain-2.new.out c.put_plain-2.new.text.items) (some_members tree ms some)
-    (members_last g.O.Output.keeps g.met.O.Output.chain c.args.out.now l.out c.put_plain-2.new.out c.args.text.now.items (members_left tree ms)
-    l.text.items c.put_plain-2.new.text.items tree ms l.member-index c.loop-member-test.false (l.invariant.0 tree are) step))
+    on_ok (λ step. subst (λ b. PutsText g.O.Output.keeps c.args.out.now c.args.text.now b c.put_plain-2.new.out c.put_plain-2.new.text) (some_members tree ms some)
+    (members_last g.O.Output.keeps g.met.O.Output.chain c.args.out.now l.out c.put_plain-2.new.out c.args.text.now (members_left tree ms)
+    l.text c.put_plain-2.new.text tree ms l.member-index c.loop-member-test.false (l.invariant.0 tree are) step))
     c.put_plain-2.result c.put_plain-2.ensures.put
 
 pub put_members-returns-then-is_empty-clause-put : goal.put_members-returns-then-is_empty-clause-put
 put_members-returns-then-is_empty-clause-put g t c = λ tree are.
     let none : length c.args.members.now ≡ 0 = search rules in
-    subst (λ b. OnOk c.put_plain.result (PutsText g.O.Output.keeps c.args.out.now c.args.text.now.items b c.put_plain.new.out c.put_plain.new.text.items)) (no_more tree c.args.members.now none) c.put_plain.ensures.put
+    subst (λ b. OnOk c.put_plain.result (PutsText g.O.Output.keeps c.args.out.now c.args.text.now b c.put_plain.new.out c.put_plain.new.text)) (no_more tree c.args.members.now none) c.put_plain.ensures.put
 
 pub put_branch-returns-clause-put : goal.put_branch-returns-clause-put
 put_branch-returns-clause-put g t c = λ d is.
-    on_ok (λ step. puts_opened g.O.Output.keeps c.args.out.now c.put_plain.new.out c.args.text.now.items c.args.opening.now (compact_text d ++ 125 ∷ [])
-    c.extend_from_slice.new.self.items c.put_plain.new.text.items c.in_ok-extend_from_slice.ensures.items
-    (puts_both g.O.Output.keeps g.met.O.Output.chain c.args.out.now c.put_displayed.new.out c.put_plain.new.out c.extend_from_slice.new.self.items (compact_text d)
-    c.put_displayed.new.text.items (125 ∷ []) c.put_plain.new.text.items (c.in_ok-put_displayed.ensures.put d is) step))
+    on_ok (λ step. puts_opened g.O.Output.keeps c.args.out.now c.put_plain.new.out c.args.text.now c.args.opening.now (compact_text d ++ 125 ∷ [])
+    c.append.new.self c.put_plain.new.text c.in_ok-append.ensures
+    (puts_both g.O.Output.keeps g.met.O.Output.chain c.args.out.now c.put_displayed.new.out c.put_plain.new.out c.append.new.self (compact_text d)
+    c.put_displayed.new.text (125 ∷ []) c.put_plain.new.text (c.in_ok-put_displayed.ensures.put d is) step))
     c.put_plain.result c.put_plain.ensures.put
 
 pub put_displayed-returns-in-Entries-clause-put : goal.put_displayed-returns-in-Entries-clause-put
 put_displayed-returns-in-Entries-clause-put g t c = λ d shown.
     let (keys, tree, is, are) = c.in-Entries.ensures.opens d (subst (λ p. IsShown (g.D.Displayed.shows c.args.displayed.now) p d) c.in-Some.is shown) in
-    subst (λ b. OnOk c.put_entries.result (PutsText g.O.Output.keeps c.args.out.now c.args.text.now.items (compact_text b) c.put_entries.new.out c.put_entries.new.text.items)) (sym is)
+    subst (λ b. OnOk c.put_entries.result (PutsText g.O.Output.keeps c.args.out.now c.args.text.now (compact_text b) c.put_entries.new.out c.put_entries.new.text)) (sym is)
     (c.put_entries.ensures.put keys tree are)

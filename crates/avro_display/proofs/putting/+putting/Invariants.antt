@@ -30,20 +30,20 @@ decreases-put_members g l = 4 * g.D.Displayed.levels l.displayed.now l.owner + 1
 abbrev pub invariant-put_items-loop-index : goal.invariant-put_items-loop-index
 invariant-put_items-loop-index g l =
     ((ds : Items) → ItemsAre (g.D.Displayed.item_shows l.displayed) l.items l.count ds →
-    PutsText g.O.Output.keeps l.initial.out l.initial.text.items (items_text false ds) l.out (l.text.items ++ items_text l.later (items_from l.index ds)))
+    PutsText g.O.Output.keeps l.initial.out l.initial.text (items_text false ds) l.out (l.text ++ items_text l.later (items_from l.index ds)))
     × (g.O.Output.failures l.out ≡ g.O.Output.failures l.initial.out)
 
 abbrev pub invariant-put_ordered-loop-key : goal.invariant-put_ordered-loop-key
 invariant-put_ordered-loop-key g l =
     ((tree : ℕ → Data) → AreOrdered (g.D.Displayed.entry_shows l.displayed) l.entries (map seen_place l.order.entries) tree →
-    PutsText g.O.Output.keeps l.initial.out l.initial.text.items (members_text false (in_order tree (map seen_place l.order.entries))) l.out
-    (l.text.items ++ members_text l.later (in_order tree (map seen_place l.key-iterator)))
+    PutsText g.O.Output.keeps l.initial.out l.initial.text (members_text false (in_order tree (map seen_place l.order.entries))) l.out
+    (l.text ++ members_text l.later (in_order tree (map seen_place l.key-iterator)))
     × AreOrdered (g.D.Displayed.entry_shows l.displayed) l.entries (map seen_place l.key-iterator) tree)
     × (g.O.Output.failures l.out ≡ g.O.Output.failures l.initial.out)
 
 abbrev pub invariant-put_members-loop-member : goal.invariant-put_members-loop-member
 invariant-put_members-loop-member g l =
     ((tree : ℕ → Data) → AllByRecursion (λ m. g.D.Displayed.member_shows l.displayed l.owner m (tree m.field)) l.members →
-    PutsText g.O.Output.keeps l.initial.out l.initial.text.items (members_left tree l.members) l.out
-    (l.text.items ++ members_left tree (drop l.member-index l.members)))
+    PutsText g.O.Output.keeps l.initial.out l.initial.text (members_left tree l.members) l.out
+    (l.text ++ members_left tree (drop l.member-index l.members)))
     × (g.O.Output.failures l.out ≡ g.O.Output.failures l.initial.out)

@@ -1,0 +1,135 @@
+ghost use Rattle.std.specs.Prelude.{◌≡◌, ◌++◌, ◌∷◌, [], OnOk, length, take};
+ghost use Rattle.json.specs.Print.{quoted};
+ghost use Rattle.serde_json.specs.Find.{of_integer};
+ghost use Rattle.serde_json.specs.Written.{number_text};
+ghost use Rattle.avro_display.specs.Table.{head_text};
+
+use itoa::Buffer;
+use json::Writer;
+use std::alloc::{AllocError, Global};
+use std::marker::Model;
+use std::mem::replace;
+
+/// A text to which the parts of a display are appended. Its rooms are kept from part to part.
+#[derive(Drop)]
+pub struct Text {
+    held: Vec<u8>,
+    // what the last quoted text was written to
+    quoted: Vec<u8>,
+}
+
+impl Model for Text {
+    ghost use Rattle.std.specs.Prelude.{ℕ, List};
+
+    ghost Value = { List ℕ };
+
+    ghost view = { λ t. t.held.items };
+}
+
+impl Text {
+    /// An empty text.
+    pub fn new(alloc: Global) -> Text
+        ensures { result ≡ [] }
+    {
+        Text::holding(Vec::new(alloc))
+    }
+
+    /// A text that holds some bytes.
+    pub fn holding(held: Vec<u8>) -> Text
+        ensures { result ≡ held.items }
+    {
+        let quoted = Vec::new(*held.allocator());
+        Text { held, quoted }
+    }
+
+    /// Its bytes.
+    pub fn into_inner(self) -> Vec<u8>
+        ensures { result.items ≡ self }
+    {
+        self.held
+    }
+
+    /// Its bytes.
+    pub fn as_slice(&self) -> &[u8]
+        ensures { result.now ≡ self.now }
+    {
+        &self.held
+    }
+
+    /// The number of its bytes.
+    pub fn len(&self) -> usize
+        ensures { result ≡ length self.now }
+    {
+        self.held.len()
+    }
+
+    /// Empties it.
+    pub fn clear(&mut self)
+        ensures { self.new ≡ [] }
+    {
+        self.held.clear();
+    }
+
+    /// Keeps its first bytes.
+    pub fn truncate(&mut self, len: usize)
+        ensures { self.new ≡ take len self.old }
+    {
+        self.held.truncate(len);
+    }
+
+    /// The allocator of its bytes.
+    pub(crate) fn allocator(&self) -> Global {
+        *self.held.allocator()
+    }
+
+    /// Appends a byte.
+    pub(crate) fn append_byte(&mut self, byte: u8) -> Result<(), AllocError>
+        ensures { OnOk result (self.new ≡ self.old ++ byte ∷ []) }
+    {
+        self.held.push(byte)?;
+        Ok(())
+    }
+
+    /// Appends bytes.
+    pub(crate) fn append(&mut self, bytes: &[u8]) -> Result<(), AllocError>
+        ensures { OnOk result (self.new ≡ self.old ++ bytes.now) }
+    {
+        self.held.extend_from_slice(bytes)
+    }
+
+    /// Appends the digits of a number.
+    pub(crate) fn append_number(&mut self, number: i64) -> Result<(), AllocError>
+        ensures { OnOk result (self.new ≡ self.old ++ number_text (of_integer number)) }
+    {
+        self.held
+            .extend_from_slice(Buffer::new().format(number).as_bytes())
+    }
+
+    /// Appends a quoted text.
+    pub(crate) fn append_quoted(&mut self, string: &str) -> Result<(), AllocError>
+        ensures { OnOk result (self.new ≡ self.old ++ quoted string.now) }
+    {
+        write_quoted(&mut self.quoted, string)?;
+        self.held.extend_from_slice(&self.quoted)
+    }
+
+    /// Appends a key and its colon.
+    pub(crate) fn append_key(&mut self, key: &str) -> Result<(), AllocError>
+        ensures { OnOk result (self.new ≡ self.old ++ head_text key.now) }
+    {
+        self.append_quoted(key)?;
+        self.append_byte(b':')
+    }
+}
+
+/// Writes a quoted text in the place of some bytes.
+fn write_quoted(room: &mut Vec<u8>, string: &str) -> Result<(), AllocError>
+    ensures { OnOk result (room.new.items ≡ quoted string.now) }
+{
+    room.clear();
+    let alloc = *room.allocator();
+    let mut writer = Writer::new(replace(room, Vec::new(alloc)));
+    let written = writer.string(string);
+    *room = writer.into_inner();
+    written
+}
