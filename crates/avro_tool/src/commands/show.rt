@@ -1,4 +1,4 @@
-ghost use Rattle.std.specs.Prelude.{◌≤◌, length, IfOk};
+ghost use Rattle.std.specs.Prelude.{◌≤◌, length, IfOk, IfSome};
 
 use crate::Finding;
 use crate::failure::Failure;
@@ -8,19 +8,19 @@ use crate::files::schema::read_reader;
 use avro_binary::{Nothing, Tree, decode};
 use avro_container::{Block, Blocks, CopyError, FileLimits, Header};
 use avro_device::{Input, Output, WriteOutput, put_all};
-use avro_display::{DisplayTable, PutError, put_line};
+use avro_display::{DisplayTable, PutError, Text, put_line};
 use avro_resolve::{Plan, ReadResolveError};
 use avro_schema::{Datum, Limits, Memory, Schema};
 use avro_schema_json::ReaderText;
 use std::alloc::Global;
-use std::io::Write;
+use std::io::{Cursor, Write};
 use std::rt::Files;
 
 /// Where lines go: the displays of a schema's data, the text that is held, and the output.
 #[derive(Drop)]
 struct Lines<'a, O> {
     table: DisplayTable<'a>,
-    text: Vec<u8>,
+    text: Text,
     out: WriteOutput<&'a mut O>,
 }
 
@@ -96,7 +96,7 @@ fn show_planned<'a, I: Input, O: Write>(
     let table = DisplayTable::new(alloc, shown_schema(header.schema(), plan))?;
     let mut lines = Lines {
         table,
-        text: Vec::new(alloc),
+        text: Text::new(alloc),
         out: WriteOutput::new(out),
     };
     let shown = show_blocks(alloc, input, word, header, plan, limit, &mut lines);
@@ -114,7 +114,7 @@ fn finished<'a, O: Write>(
 
 /// Puts the text that is held. No part of it is put again if the output fails.
 fn put_held<O: Write>(lines: &mut Lines<'_, O>) -> Result<(), PutError> {
-    let put = put_all(&mut lines.out, &lines.text);
+    let put = put_all(&mut lines.out, lines.text.as_slice());
     lines.text.clear();
     put?;
     lines.out.flush()?;
@@ -138,18 +138,10 @@ fn show_blocks<'a, I: Input, O: Write>(
         if left == 0 {
             break;
         }
-        match next_block(&mut blocks, input, plan) {
+        match blocks.next(input) {
             Ok(Some(block)) => {
                 let count = left.min(u64::from(block.count()));
-                show_block(
-                    alloc,
-                    &block,
-                    header,
-                    plan,
-                    &limits.datum(),
-                    count,
-                    &mut *lines,
-                )?;
+                show_block(alloc, &block, word, header, plan, count, &mut *lines)?;
                 left = left.saturating_sub(count);
             }
             Ok(None) => break,
@@ -171,41 +163,109 @@ fn plan_for<'a>(
     }
 }
 
-/// The next block, if there is one, after a walk over all of its data, so that a block with a fault is not shown in part.
-fn next_block<'a, I: Input>(
-    blocks: &mut Blocks<'a>,
-    input: &mut I,
-    plan: &Option<Plan<'_>>,
-) -> Result<Option<Block<'a>>, CopyError> {
-    let Some(block) = blocks.next(input)? else {
-        return Ok(None);
-    };
-    match plan {
-        Some(plan) => {
-            block.read_by(plan, &mut Nothing)?;
-        }
-        None => block.check()?,
-    }
-    Ok(Some(block))
-}
-
-/// Prints the first data of a block that was walked over, up to a number, each as soon as it was read.
+/// Prints the first data of a block, up to a number. Nothing is printed of a block with a fault.
 fn show_block<'a, O: Write>(
     alloc: Global,
     block: &Block<'_>,
+    word: &'a str,
     header: &Header,
     plan: &Option<Plan<'_>>,
-    limits: &Limits,
     count: u64,
     lines: &mut Lines<'_, O>,
 ) -> Result<(), Failure<'a>> {
+    let held = lines.text.len();
     let mut rest = block.body();
+    let mut left = count;
+    if plan.is_none() && count == u64::from(block.count()) {
+        (rest, left) = hold_data(alloc, header, rest, count, &mut *lines);
+        if left == 0 && rest.is_empty() {
+            return put_long(lines);
+        }
+    }
+    // The block was not read to its end, or is not to be: it is walked over before any of its lines go out.
+    match walk(block, plan) {
+        Ok(()) => show_data_of(alloc, header, plan, rest, left, lines),
+        Err(error) => {
+            lines.text.truncate(held);
+            Err(Failure::of_container(word, error))
+        }
+    }
+}
+
+/// Reads the data of a block one by one, resolved for the reader if there is one.
+fn walk(block: &Block<'_>, plan: &Option<Plan<'_>>) -> Result<(), CopyError> {
+    match plan {
+        Some(plan) => {
+            block.read_by(plan, &mut Nothing)?;
+            Ok(())
+        }
+        None => block.check(),
+    }
+}
+
+/// Holds the lines of so many data at the front of some bytes, and returns what follows them and the number of those that
+/// are left. The first that cannot be read, or whose line makes the text long, is left with all behind it.
+fn hold_data<'b, O: Write>(
+    alloc: Global,
+    header: &Header,
+    bytes: &'b [u8],
+    count: u64,
+    lines: &mut Lines<'_, O>,
+) -> (&'b [u8], u64) {
+    let limits = FileLimits::default().datum();
+    let mut rest = bytes;
+    let mut left = count;
+    while left > 0 {
+        let held = lines.text.len();
+        match hold_line(alloc, header.schema(), rest, &limits, &mut *lines) {
+            Some(len) => {
+                let (_, others) = rest.split_at(len);
+                rest = others;
+                left -= 1;
+            }
+            None => {
+                lines.text.truncate(held);
+                break;
+            }
+        }
+    }
+    (rest, left)
+}
+
+/// Holds the line of the datum at the front of some bytes, and returns the length of its encoding.
+fn hold_line<O: Write>(
+    alloc: Global,
+    schema: &Schema,
+    bytes: &[u8],
+    limits: &Limits,
+    lines: &mut Lines<'_, O>,
+) -> Option<usize>
+    ensures { IfSome result (λ len. len ≤ length bytes.now) }
+{
+    let (datum, len) = decode(alloc, schema, schema.root(), bytes, limits).ok()?;
+    // An output that takes nothing: a line that does not fit into the text fails.
+    let mut nowhere = WriteOutput::new(Cursor::new([0; 0]));
+    put_line(&mut nowhere, &mut lines.text, &lines.table, &datum).ok()?;
+    Some(len)
+}
+
+/// Prints so many data at the front of some bytes of a block that was walked over, each as soon as it was read.
+fn show_data_of<'a, O: Write>(
+    alloc: Global,
+    header: &Header,
+    plan: &Option<Plan<'_>>,
+    bytes: &[u8],
+    count: u64,
+    lines: &mut Lines<'_, O>,
+) -> Result<(), Failure<'a>> {
+    let limits = FileLimits::default().datum();
+    let mut rest = bytes;
     for _ in 0..count {
         // After the walk over the block only memory can run out.
-        let Ok((datum, len)) = read_datum(alloc, header.schema(), plan, rest, limits) else {
+        let Ok((datum, len)) = read_datum(alloc, header.schema(), plan, rest, &limits) else {
             return Err(Failure::OutOfMemory);
         };
-        show_line(alloc, &mut *lines, &datum)?;
+        show_line(&mut *lines, &datum)?;
         let (_, others) = rest.split_at(len);
         rest = others;
     }
@@ -213,13 +273,9 @@ fn show_block<'a, O: Write>(
 }
 
 /// Puts the line of a datum, or holds it. After an error what is held goes on where what was put ends.
-fn show_line<'a, O: Write>(
-    alloc: Global,
-    lines: &mut Lines<'_, O>,
-    datum: &Datum,
-) -> Result<(), Failure<'a>> {
+fn show_line<'a, O: Write>(lines: &mut Lines<'_, O>, datum: &Datum) -> Result<(), Failure<'a>> {
     let held = lines.text.len();
-    match put_line(&mut lines.out, &mut lines.text, alloc, &lines.table, datum) {
+    match put_line(&mut lines.out, &mut lines.text, &lines.table, datum) {
         Ok(()) => put_long(lines),
         Err(PutError::CannotWrite) => {
             lines.text.clear();
