@@ -6,7 +6,7 @@ ghost use Rattle.avro_display.specs.DisplayTree.{display_text};
 ghost use Rattle.avro_display.specs.Pieces.{PutsText};
 ghost use Rattle.avro_display.specs.declared.put_error.PutError.{PutError};
 
-use crate::pieces::put_plain;
+use crate::pieces::put_byte;
 use crate::plain::Plain;
 use crate::put_error::PutError;
 use crate::putting::put_displayed;
@@ -133,5 +133,5 @@ pub fn put_line<O: Output>(
 {
     let root = table.schema().root();
     put_datum(&mut *out, &mut *text, table, root, datum)?;
-    put_plain(out, text, b"\n")
+    put_byte(out, text, b'\n')
 }

@@ -23,7 +23,7 @@ mod text;
 pub use display::{put_display, put_line, show};
 pub use displayed::{Displayed, Opened};
 pub use member::Member;
-pub use pieces::put_plain;
+pub use pieces::put_byte;
 pub use plain::Plain;
 pub use put_error::PutError;
 pub use putting::put_displayed;

@@ -1,6 +1,6 @@
 //! Text that goes out in pieces.
 
-ghost use Rattle.std.specs.Prelude.{◌≡◌, ◌≢◌, ◌⊎◌, [], OnOk, IsErrOf, encode_utf8_all};
+ghost use Rattle.std.specs.Prelude.{◌≡◌, ◌≢◌, ◌⊎◌, ◌∷◌, [], OnOk, IsErrOf, encode_utf8_all};
 ghost use Rattle.json.specs.Print.{quoted};
 ghost use Rattle.serde_json.specs.Find.{of_integer};
 ghost use Rattle.serde_json.specs.Written.{number_text};
@@ -35,17 +35,32 @@ pub(crate) fn put_piece<O: Output>(out: &mut O, text: &mut Text) -> Result<(), P
 }
 
 /// Appends bytes, and puts all if it is long.
-///
-/// # Errors
-///
-/// The output failed, or took none of the bytes; memory ran out.
-pub fn put_plain<O: Output>(out: &mut O, text: &mut Text, bytes: &[u8]) -> Result<(), PutError>
+pub(crate) fn put_plain<O: Output>(
+    out: &mut O,
+    text: &mut Text,
+    bytes: &[u8],
+) -> Result<(), PutError>
     ensures put { OnOk result (PutsText O.keeps out.old text.old bytes.now out.new text.new) }
     ensures works { OnOk result (O.failures out.new ≡ O.failures out.old) }
     ensures fails { IsErrOf result PutError.CannotWrite → (O.failures out.new ≢ O.failures out.old) ⊎ O.stuck out.new }
     ensures memory { IsErrOf result PutError.OutOfMemory → O.failures out.new ≡ O.failures out.old }
 {
     text.append(bytes)?;
+    put_piece(out, text)
+}
+
+/// Appends a byte, and puts all if it is long.
+///
+/// # Errors
+///
+/// The output failed, or took none of the bytes; memory ran out.
+pub fn put_byte<O: Output>(out: &mut O, text: &mut Text, byte: u8) -> Result<(), PutError>
+    ensures put { OnOk result (PutsText O.keeps out.old text.old (byte ∷ []) out.new text.new) }
+    ensures works { OnOk result (O.failures out.new ≡ O.failures out.old) }
+    ensures fails { IsErrOf result PutError.CannotWrite → (O.failures out.new ≢ O.failures out.old) ⊎ O.stuck out.new }
+    ensures memory { IsErrOf result PutError.OutOfMemory → O.failures out.new ≡ O.failures out.old }
+{
+    text.append_byte(byte)?;
     put_piece(out, text)
 }
 

@@ -16,7 +16,7 @@ ghost use Rattle.avro_display.specs.declared.put_error.PutError.{PutError};
 use crate::displayed::{Displayed, Opened};
 use crate::member::Member;
 use crate::members::entry_order;
-use crate::pieces::{put_characters, put_number, put_plain, put_quoted};
+use crate::pieces::{put_byte, put_characters, put_number, put_plain, put_quoted};
 use crate::put_error::PutError;
 use crate::text::Text;
 use avro_device::Output;
@@ -75,7 +75,7 @@ fn put_branch<O: Output, D: Displayed>(
 {
     text.append(opening)?;
     put_displayed(&mut *out, &mut *text, displayed, Some(value))?;
-    put_plain(out, text, b"}")
+    put_byte(out, text, b'}')
 }
 
 /// Puts the display of an array of so many items.
@@ -101,7 +101,7 @@ fn put_items<O: Output, D: Displayed>(
         put_displayed(&mut *out, &mut *text, displayed, item)?;
         later = true;
     }
-    put_plain(out, text, b"]")
+    put_byte(out, text, b']')
 }
 
 /// Puts the display of an object of so many entries.
@@ -146,7 +146,7 @@ fn put_ordered<O: Output, D: Displayed>(
         put_displayed(&mut *out, &mut *text, displayed, value)?;
         later = true;
     }
-    put_plain(out, text, b"}")
+    put_byte(out, text, b'}')
 }
 
 /// Puts the display of an object of members.
@@ -172,7 +172,7 @@ fn put_members<O: Output, D: Displayed>(
         let value = displayed.member(owner, member);
         put_displayed(&mut *out, &mut *text, displayed, value)?;
     }
-    put_plain(out, text, b"}")
+    put_byte(out, text, b'}')
 }
 
 /// Appends a comma, if something is before.

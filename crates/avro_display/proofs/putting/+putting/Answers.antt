@@ -28,11 +28,11 @@ pub put_items-returns-clause-put : goal.put_items-returns-clause-put
 put_items-returns-clause-put g t c = λ ds are.
     let l = c.loop-index in
     let all = items_text false ds in
-    on_ok (λ step. puts_opened g.O.Output.keeps c.args.out.now c.put_plain.new.out c.args.text.now (91 ∷ []) all c.append_byte.new.self c.put_plain.new.text
+    on_ok (λ step. puts_opened g.O.Output.keeps c.args.out.now c.put_byte.new.out c.args.text.now (91 ∷ []) all c.append_byte.new.self c.put_byte.new.text
     c.in_ok-append_byte.ensures
-    (items_last g.O.Output.keeps g.met.O.Output.chain c.args.out.now l.out c.put_plain.new.out c.append_byte.new.self all
-    l.text c.put_plain.new.text l.later ds l.index (omega (arith, are.0, c.loop-index-test.false)) (l.invariant.0 ds are) step))
-    c.put_plain.result c.put_plain.ensures.put
+    (items_last g.O.Output.keeps g.met.O.Output.chain c.args.out.now l.out c.put_byte.new.out c.append_byte.new.self all
+    l.text c.put_byte.new.text l.later ds l.index (omega (arith, are.0, c.loop-index-test.false)) (l.invariant.0 ds are) step))
+    c.put_byte.result c.put_byte.ensures.put
 
 pub put_ordered-loop-key-init : goal.put_ordered-loop-key-init
 put_ordered-loop-key-init g t c =
@@ -67,11 +67,11 @@ put_ordered-returns-clause-put g t c = λ tree are.
     let l = c.loop-key in
     let all = members_text false (in_order tree (map seen_place c.args.order.now.entries)) in
     let none : map seen_place l.key-iterator ≡ [] = search rules in
-    on_ok (λ step. puts_opened g.O.Output.keeps c.args.out.now c.put_plain.new.out c.args.text.now (123 ∷ []) all c.append_byte.new.self c.put_plain.new.text
+    on_ok (λ step. puts_opened g.O.Output.keeps c.args.out.now c.put_byte.new.out c.args.text.now (123 ∷ []) all c.append_byte.new.self c.put_byte.new.text
     c.in_ok-append_byte.ensures
-    (entries_last g.O.Output.keeps g.met.O.Output.chain c.args.out.now l.out c.put_plain.new.out c.append_byte.new.self all
-    l.text c.put_plain.new.text l.later tree (map seen_place l.key-iterator) none (l.invariant.0 tree are).0 step))
-    c.put_plain.result c.put_plain.ensures.put
+    (entries_last g.O.Output.keeps g.met.O.Output.chain c.args.out.now l.out c.put_byte.new.out c.append_byte.new.self all
+    l.text c.put_byte.new.text l.later tree (map seen_place l.key-iterator) none (l.invariant.0 tree are).0 step))
+    c.put_byte.result c.put_byte.ensures.put
 
 pub put_entries-returns-clause-put : goal.put_entries-returns-clause-put
 put_entries-returns-clause-put g t c = λ keys tree are.
@@ -101,10 +101,10 @@ put_members-returns-clause-put g t c = λ tree are.
     let l = c.loop-member in
     let ms = c.args.members.now in
     let some : 0 < length ms = search rules in
-    on_ok (λ step. subst (λ b. PutsText g.O.Output.keeps c.args.out.now c.args.text.now b c.put_plain-2.new.out c.put_plain-2.new.text) (some_members tree ms some)
-    (members_last g.O.Output.keeps g.met.O.Output.chain c.args.out.now l.out c.put_plain-2.new.out c.args.text.now (members_left tree ms)
-    l.text c.put_plain-2.new.text tree ms l.member-index c.loop-member-test.false (l.invariant.0 tree are) step))
-    c.put_plain-2.result c.put_plain-2.ensures.put
+    on_ok (λ step. subst (λ b. PutsText g.O.Output.keeps c.args.out.now c.args.text.now b c.put_byte.new.out c.put_byte.new.text) (some_members tree ms some)
+    (members_last g.O.Output.keeps g.met.O.Output.chain c.args.out.now l.out c.put_byte.new.out c.args.text.now (members_left tree ms)
+    l.text c.put_byte.new.text tree ms l.member-index c.loop-member-test.false (l.invariant.0 tree are) step))
+    c.put_byte.result c.put_byte.ensures.put
 
 pub put_members-returns-then-is_empty-clause-put : goal.put_members-returns-then-is_empty-clause-put
 put_members-returns-then-is_empty-clause-put g t c = λ tree are.
@@ -113,11 +113,11 @@ put_members-returns-then-is_empty-clause-put g t c = λ tree are.
 
 pub put_branch-returns-clause-put : goal.put_branch-returns-clause-put
 put_branch-returns-clause-put g t c = λ d is.
-    on_ok (λ step. puts_opened g.O.Output.keeps c.args.out.now c.put_plain.new.out c.args.text.now c.args.opening.now (compact_text d ++ 125 ∷ [])
-    c.append.new.self c.put_plain.new.text c.in_ok-append.ensures
-    (puts_both g.O.Output.keeps g.met.O.Output.chain c.args.out.now c.put_displayed.new.out c.put_plain.new.out c.append.new.self (compact_text d)
-    c.put_displayed.new.text (125 ∷ []) c.put_plain.new.text (c.in_ok-put_displayed.ensures.put d is) step))
-    c.put_plain.result c.put_plain.ensures.put
+    on_ok (λ step. puts_opened g.O.Output.keeps c.args.out.now c.put_byte.new.out c.args.text.now c.args.opening.now (compact_text d ++ 125 ∷ [])
+    c.append.new.self c.put_byte.new.text c.in_ok-append.ensures
+    (puts_both g.O.Output.keeps g.met.O.Output.chain c.args.out.now c.put_displayed.new.out c.put_byte.new.out c.append.new.self (compact_text d)
+    c.put_displayed.new.text (125 ∷ []) c.put_byte.new.text (c.in_ok-put_displayed.ensures.put d is) step))
+    c.put_byte.result c.put_byte.ensures.put
 
 pub put_displayed-returns-in-Entries-clause-put : goal.put_displayed-returns-in-Entries-clause-put
 put_displayed-returns-in-Entries-clause-put g t c = λ d shown.
