@@ -7,7 +7,7 @@ ghost use Rattle.avro_cursor.specs.Encoding.{plain_bytes, plain_blocks};
 ghost use Rattle.avro_packed.specs.Appended.{AppendsWithin, Grows, Holds, branch_bytes};
 
 use crate::gathered::Gathered;
-use crate::moving::{append_written, closed, give_back, is_past, is_within};
+use crate::moving::{append_written, closed, give_back, is_past, keep_within, only_counted};
 use crate::numbers::{append_byte, append_number};
 use crate::written::{Apart, Written};
 use std::alloc::{AllocError, Global};
@@ -81,28 +81,12 @@ impl Appending {
         ensures unchanged { OnErr result (to.new.items ≡ to.old.items) }
     {
         let end = to.len();
-        match written {
-            Written::Range(_, _) => self.append_kept(written, most, to),
-            Written::Apart(_) => self.append_kept(written, most, to),
-            Written::Counted(count) => Ok(is_past(end, *count, most).then_some(false)),
+        match only_counted(written) {
+            Some(count) => return Ok(is_past(end, count, most).then_some(false)),
+            None => {}
         }
-    }
-
-    /// The same for what was kept.
-    #[inline(always)]
-    fn append_kept(
-        &self,
-        written: &Written,
-        most: usize,
-        to: &mut Vec<u8>,
-    ) -> Result<Option<bool>, AllocError>
-        ensures appended { (bytes : List ℕ) → Holds self.now written.now bytes → IfOk result (λ told. IfSome told (λ fits. AppendsWithin most to.old.items to.new.items bytes fits)) }
-        ensures none { IfOk result (λ told. IfNone told (to.new.items ≡ to.old.items)) }
-        ensures unchanged { OnErr result (to.new.items ≡ to.old.items) }
-    {
-        let end = to.len();
         match append_written(&self.out, written, to) {
-            Ok(()) => Ok(Some(is_within(to, end, most))),
+            Ok(()) => Ok(Some(keep_within(to, end, most))),
             Err(_) => {
                 to.truncate(end);
                 Err(AllocError)

@@ -88,9 +88,21 @@ fn size(written: &Written) -> Option<usize>
     }
 }
 
+/// How many bytes were only counted, or `None` where they are kept.
+#[inline(always)]
+pub(crate) fn only_counted(written: &Written) -> Option<usize>
+    ensures { (out bytes : List ℕ) → Holds out written.now bytes → IfSome result (λ count. count ≡ length bytes) }
+{
+    match written {
+        Written::Range(_, _) => None,
+        Written::Apart(_) => None,
+        Written::Counted(count) => Some(*count),
+    }
+}
+
 /// Takes back what was appended behind the end that an output had, where it is then longer than `most`. Returns whether it is not.
 #[inline(always)]
-pub(crate) fn is_within(out: &mut Vec<u8>, end: usize, most: usize) -> bool
+pub(crate) fn keep_within(out: &mut Vec<u8>, end: usize, most: usize) -> bool
     ensures { (old bytes : List ℕ) → out.old.items ≡ old ++ bytes → end ≡ length old → AppendsWithin most old out.new.items bytes result }
 {
     if out.len() <= most {
@@ -225,7 +237,7 @@ fn join_apart(
             Written::Counted(count) => join_counted(spares, first, Written::Counted(count)),
         },
         Written::Apart(apart) => {
-            if is_counted(&second) {
+            if only_counted(&second).is_some() {
                 return join_counted(spares, first, second);
             }
             append_written(out, &second, &mut apart.more)?;
@@ -233,16 +245,6 @@ fn join_apart(
             Ok(())
         }
         Written::Counted(_) => join_counted(spares, first, second),
-    }
-}
-
-/// Whether bytes were only counted.
-#[inline(always)]
-fn is_counted(written: &Written) -> bool {
-    match written {
-        Written::Range(_, _) => false,
-        Written::Apart(_) => false,
-        Written::Counted(_) => true,
     }
 }
 

@@ -4,7 +4,7 @@ ghost use Rattle.std.specs.Prelude.{◌≡◌, ◌++◌, ◌+◌, ◌<◌, ◌�
 ghost use Rattle.avro_packed.specs.Appended.{AppendsWithin, Grows, Holds, StandsAt};
 
 use crate::appending::Appending;
-use crate::moving::{is_past, is_within};
+use crate::moving::{is_past, keep_within};
 use crate::written::{Apart, Written};
 use std::alloc::AllocError;
 use std::mem::swap;
@@ -80,7 +80,7 @@ fn settle_moved(
         → OnErr result (out.new.items ≡ old) }
 {
     match leave(out, end, written) {
-        Ok(()) => Ok(is_within(out, end, most)),
+        Ok(()) => Ok(keep_within(out, end, most)),
         Err(_) => {
             out.truncate(end);
             Err(AllocError)

@@ -3,7 +3,7 @@ use Rattle.avro_packed.proofs.Left.{front_left}
 use Rattle.avro_packed.proofs.settling.settle_moved.Goals as goal
 
 pub returns-in-Ok-clause-settled : goal.returns-in-Ok-clause-settled
-returns-in-Ok-clause-settled c = λ old bytes kept ends holds. c.is_within.ensures old bytes (c.in-Ok.ensures.left old bytes kept ends holds) ends
+returns-in-Ok-clause-settled c = λ old bytes kept ends holds. c.keep_within.ensures old bytes (c.in-Ok.ensures.left old bytes kept ends holds) ends
 
 pub returns-in-Err-clause-unchanged : goal.returns-in-Err-clause-unchanged
 returns-in-Err-clause-unchanged c = λ old bytes kept ends holds.
