@@ -81,9 +81,8 @@ impl Appending {
         ensures unchanged { OnErr result (to.new.items ≡ to.old.items) }
     {
         let end = to.len();
-        match only_counted(written) {
-            Some(count) => return Ok(is_past(end, count, most).then_some(false)),
-            None => {}
+        if let Some(count) = only_counted(written) {
+            return Ok(is_past(end, count, most).then_some(false));
         }
         match append_written(&self.out, written, to) {
             Ok(()) => Ok(Some(keep_within(to, end, most))),

@@ -202,40 +202,10 @@ fn join_apart(
         return Ok(());
     }
     match first {
-        Written::Range(start, end) => match second {
-            Written::Range(from, to) => {
-                let mut all = room(alloc, spares)?;
-                append_range(out, from, to, &mut all.more)?;
-                all.start = *start;
-                all.end = *end;
-                *first = Written::Apart(all);
-                Ok(())
-            }
-            Written::Apart(apart) => {
-                let (start, end) = (*start, *end);
-                if apart.start == end {
-                    let mut apart = apart;
-                    apart.start = start;
-                    *first = Written::Apart(apart);
-                    return Ok(());
-                }
-                if apart.start == apart.end {
-                    let mut apart = apart;
-                    apart.start = start;
-                    apart.end = end;
-                    *first = Written::Apart(apart);
-                    return Ok(());
-                }
-                let mut all = room(alloc, spares)?;
-                append_apart(out, &apart, &mut all.more)?;
-                give(spares, apart);
-                all.start = start;
-                all.end = end;
-                *first = Written::Apart(all);
-                Ok(())
-            }
-            Written::Counted(count) => join_counted(spares, first, Written::Counted(count)),
-        },
+        Written::Range(start, end) => {
+            *first = behind_range(alloc, out, spares, *start, *end, second)?;
+            Ok(())
+        }
         Written::Apart(apart) => {
             if only_counted(&second).is_some() {
                 return join_counted(spares, first, second);
@@ -246,6 +216,69 @@ fn join_apart(
         }
         Written::Counted(_) => join_counted(spares, first, second),
     }
+}
+
+/// A range of an output, and what was written after it.
+#[inline(always)]
+fn behind_range(
+    alloc: Global,
+    out: &[u8],
+    spares: &mut Vec<Box<Apart>>,
+    start: usize,
+    end: usize,
+    second: Written,
+) -> Result<Written, AllocError>
+    ensures { (a b : List ℕ) → StandsAt out.now start end a → Holds out.now second b → IfOk result (λ all. Holds out.now all (a ++ b)) }
+{
+    match second {
+        Written::Range(from, to) => {
+            let mut all = room(alloc, spares)?;
+            append_range(out, from, to, &mut all.more)?;
+            Ok(with_room(start, end, all))
+        }
+        Written::Apart(apart) => apart_behind_range(alloc, out, spares, start, end, apart),
+        Written::Counted(count) => {
+            let all = sum(end.checked_sub(start), Some(count))?;
+            Ok(Written::Counted(all))
+        }
+    }
+}
+
+/// The same for what has a room, which is left there where its bytes of the output are none, or start where the range ends.
+#[inline(always)]
+fn apart_behind_range(
+    alloc: Global,
+    out: &[u8],
+    spares: &mut Vec<Box<Apart>>,
+    start: usize,
+    end: usize,
+    second: Box<Apart>,
+) -> Result<Written, AllocError>
+    ensures { (a front : List ℕ) → StandsAt out.now start end a → StandsAt out.now second.value.start second.value.end front
+        → IfOk result (λ all. Holds out.now all (a ++ front ++ second.value.more.items)) }
+{
+    if second.start == end {
+        let stop = second.end;
+        return Ok(with_room(start, stop, second));
+    }
+    if second.start == second.end {
+        return Ok(with_room(start, end, second));
+    }
+    let mut all = room(alloc, spares)?;
+    append_apart(out, &second, &mut all.more)?;
+    give(spares, second);
+    Ok(with_room(start, end, all))
+}
+
+/// A range of an output, and what is in a room after it.
+#[inline(always)]
+fn with_room(start: usize, end: usize, room: Box<Apart>) -> Written
+    ensures { (out bytes : List ℕ) → StandsAt out start end bytes → Holds out result (bytes ++ room.value.more.items) }
+{
+    let mut room = room;
+    room.start = start;
+    room.end = end;
+    Written::Apart(room)
 }
 
 /// How many bytes of a part are copied to the end of an output at most: no field makes an output longer by more than these.
@@ -341,9 +374,7 @@ pub(crate) fn join_key(
         Written::Range(start, end) => {
             let mut all = room(alloc, spares)?;
             append_measured(key, &mut all.more)?;
-            all.start = *start;
-            all.end = *end;
-            *first = Written::Apart(all);
+            *first = with_room(*start, *end, all);
             Ok(())
         }
         Written::Apart(apart) => append_measured(key, &mut apart.more),
@@ -383,9 +414,7 @@ fn close(alloc: Global, spares: &mut Vec<Box<Apart>>, block: &mut Written) -> Re
         Written::Range(start, end) => {
             let mut all = room(alloc, spares)?;
             append_byte(0, &mut all.more)?;
-            all.start = *start;
-            all.end = *end;
-            *block = Written::Apart(all);
+            *block = with_room(*start, *end, all);
             Ok(())
         }
         Written::Apart(apart) => append_byte(0, &mut apart.more),

@@ -53,12 +53,6 @@ stands_joined out start middle end a b first second =
       ends = omega (arith, first.ends, second.ends, length-append a b);
     }
 
--- what was written is joined with what starts where it ends
-pub holds_joined : (out : List ℕ) (start middle end : ℕ) (more : List ℕ) (a b front : List ℕ) → StandsAt out start middle a → StandsAt out middle end front → b ≡ front ++ more
-    → (whole : List ℕ) × StandsAt out start end whole × (a ++ b ≡ whole ++ more)
-holds_joined out start middle end more a b front first second is =
-    (a ++ front, stands_joined out start middle end a front first second, ap (λ (l : List ℕ). a ++ l) is ∙ sym (append_assoc a front more))
-
 -- what stands between two offsets that are one has no bytes
 pub none_between : (out : List ℕ) (start end : ℕ) (bytes : List ℕ) → StandsAt out start end bytes → start ≡ end → bytes ≡ []
 none_between out start end [] stand same = refl

@@ -1,4 +1,4 @@
-use Rattle.std.proofs.Common.{ℕ, subst}
+use Rattle.std.proofs.Common.{subst}
 use Rattle.avro_packed.specs.Appended.{Holds, StandsAt}
 use Rattle.avro_packed.specs.inside.Outputs.{stands_joined}
 use Rattle.avro_packed.proofs.moving.extend.Goals as goal
