@@ -1,6 +1,6 @@
 //! The maker that appends the plain encoding of what is read.
 
-ghost use Rattle.std.specs.Prelude.{◌≡◌, ◌++◌, [], ◌∷◌, ◌<◌, List, ℕ, IfNone, IfOk, OnOk, OnErr, length, pos};
+ghost use Rattle.std.specs.Prelude.{◌≡◌, ◌++◌, [], ◌<◌, List, ℕ, IfNone, IfOk, OnOk, OnErr, length};
 ghost use Rattle.std.specs.Option.{IfSome};
 ghost use Rattle.avro_zigzag.specs.Number.{number_bytes};
 ghost use Rattle.avro_cursor.specs.Encoding.{plain_bytes, plain_blocks};

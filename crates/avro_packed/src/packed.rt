@@ -23,7 +23,7 @@ pub struct Parts {
 }
 
 impl Build for Packed {
-    ghost use Rattle.std.specs.Prelude.{◌≡◌, List, ℕ, length, IfOk};
+    ghost use Rattle.std.specs.Prelude.{◌≡◌, List, length, IfOk};
     ghost use Rattle.std.specs.List.{AllZip};
     ghost use Rattle.avro_schema.specs.Seen.{values_from, entries_from};
     ghost use Rattle.avro_schema.specs.Value.{Value};

@@ -58,9 +58,8 @@ impl Appending {
 }
 
 impl Put for Appending {
-    ghost use Rattle.std.specs.Prelude.{◌≡◌, ◌++◌, [], List, ℕ, None, Option};
+    ghost use Rattle.std.specs.Prelude.{◌≡◌, ◌++◌, []};
     ghost use Rattle.avro_schema.specs.Seen.{values_from, entries_from};
-    ghost use Rattle.avro_schema.specs.Value.{Value};
     ghost use Rattle.avro_cursor.specs.Encoding.{plain, plain_values, plain_entries};
     ghost use Rattle.avro_packed.specs.Appended.{Grows, Holds, branch_bytes, AreItems, AreEntries};
     ghost use Rattle.avro_packed.specs.inside.Outputs.{grows_none, grows_on, still_holds};
