@@ -28,7 +28,7 @@ pub(crate) fn bytes_text(alloc: Global, bytes: &[u8]) -> Result<String, Memory>
 }
 
 /// The symbol of an enum at an index; empty if there is none.
-pub(crate) fn symbol_text(node: &Node, index: u32) -> &str
+pub fn symbol_text(node: &Node, index: u32) -> &str
     ensures { result.now ≡ symbol_at (node_of node.now) index }
 {
     match node {

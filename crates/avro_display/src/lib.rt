@@ -22,6 +22,7 @@ mod text;
 
 pub use display::{put_display, put_line, show};
 pub use displayed::{Displayed, Opened};
+pub use labels::symbol_text;
 pub use member::Member;
 pub use pieces::put_byte;
 pub use plain::Plain;

@@ -116,7 +116,7 @@ impl<'a> DisplayTable<'a> {
     }
 
     /// The same for a node that may be missing.
-    pub(crate) fn part_opening(&self, id: Option<NodeId>) -> Option<&[u8]>
+    pub fn part_opening(&self, id: Option<NodeId>) -> Option<&[u8]>
         ensures { option_map (λ text. text.now) result ≡ opening_of (part_at (schema_nodes self.now) (option_map (λ id. id.0) id)) }
     {
         match id {
