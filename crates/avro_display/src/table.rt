@@ -96,7 +96,7 @@ impl<'a> DisplayTable<'a> {
     }
 
     /// The same for a node that may be missing.
-    pub(crate) fn part_members(&self, id: Option<NodeId>) -> &[Member]
+    pub fn part_members(&self, id: Option<NodeId>) -> &[Member]
         ensures { AreMembers (record_fields (part_at (schema_nodes self.now) (option_map (λ id. id.0) id))) result.now }
     {
         match id {
