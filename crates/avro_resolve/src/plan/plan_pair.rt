@@ -1,5 +1,5 @@
-ghost use Rattle.std.specs.Prelude.{◌≡◌, ◌<◌, ℕ, true, IfSome, None, Some, slice_get, unwrap_or};
-ghost use Rattle.avro_schema.specs.Node.{field_ids, items_node, node_at, values_node};
+ghost use Rattle.std.specs.Prelude.{◌≡◌, ◌<◌, ℕ, true, None, Some, slice_get, unwrap_or};
+ghost use Rattle.avro_schema.specs.Node.{field_ids, node_at};
 ghost use Rattle.avro_schema.specs.Seen.{field_of, seen_fields};
 ghost use Rattle.avro_schema.specs.SeenSchema.{schema_nodes};
 ghost use Rattle.avro_compare.specs.Entries.{AreAscending, entry_at};
@@ -7,7 +7,6 @@ ghost use Rattle.avro_compare.specs.Pairs.{IsAim, IsSymbol, branch_id, item_id, 
 ghost use Rattle.avro_compare.specs.Resolve.{enum_as, fields_at, symbol_at};
 ghost use Rattle.avro_compare.specs.Source.{source_of};
 
-use crate::plan::parts::{items_of, values_of};
 use crate::plan::plan_ref::PlanRef;
 use avro_compare::{Aim, fields_of, source_among};
 use avro_schema::{Field, NodeId};
@@ -68,30 +67,30 @@ impl PlanPair {
         }
     }
 
-    /// The pair of the items, where the reader's node is an array.
-    pub fn items(self, plan: &PlanRef<'_>) -> Option<PlanPair>
-        ensures of_writer { IfSome result (λ p. p.w.0 ≡ item_id (node_at (schema_nodes plan.now.0) self.w.0)) }
-        ensures of_reader { IfSome result (λ p. items_node (node_at (schema_nodes plan.now.1) self.r.0) ≡ Some p.r.0) }
+    /// The pair of the items of two nodes.
+    pub fn items(self, plan: &PlanRef<'_>) -> PlanPair
+        ensures of_writer { result.w.0 ≡ item_id (node_at (schema_nodes plan.now.0) self.w.0) }
+        ensures of_reader { result.r.0 ≡ item_id (node_at (schema_nodes plan.now.1) self.r.0) }
     {
-        let r = plan.reader().get(self.r).items()?;
-        Some(PlanPair {
-            w: items_of(plan.writer(), self.w),
+        let (w, r) = plan.items(self.w, self.r);
+        PlanPair {
+            w,
             r,
             index: plan.index_below(self.index, 0),
-        })
+        }
     }
 
-    /// The pair of the values, where the reader's node is a map.
-    pub fn values(self, plan: &PlanRef<'_>) -> Option<PlanPair>
-        ensures of_writer { IfSome result (λ p. p.w.0 ≡ value_id (node_at (schema_nodes plan.now.0) self.w.0)) }
-        ensures of_reader { IfSome result (λ p. values_node (node_at (schema_nodes plan.now.1) self.r.0) ≡ Some p.r.0) }
+    /// The pair of the values of two nodes.
+    pub fn values(self, plan: &PlanRef<'_>) -> PlanPair
+        ensures of_writer { result.w.0 ≡ value_id (node_at (schema_nodes plan.now.0) self.w.0) }
+        ensures of_reader { result.r.0 ≡ value_id (node_at (schema_nodes plan.now.1) self.r.0) }
     {
-        let r = plan.reader().get(self.r).values()?;
-        Some(PlanPair {
-            w: values_of(plan.writer(), self.w),
+        let (w, r) = plan.values(self.w, self.r);
+        PlanPair {
+            w,
             r,
             index: plan.index_below(self.index, 0),
-        })
+        }
     }
 
     /// The index of the writer's field that the reader's field at an index takes its value from, of two records.

@@ -1,15 +1,16 @@
-ghost use Rattle.std.specs.Prelude.{◌≤◌, length, IfOk, IfSome};
+ghost use Rattle.std.specs.Prelude.{◌≤◌, length, IfSome};
 
 use crate::Finding;
 use crate::failure::Failure;
 use crate::files::container::{ROOM, open_container};
 use crate::files::kept::is_output;
 use crate::files::schema::read_reader;
-use avro_binary::{Nothing, Tree, decode};
+use avro_binary::{Nothing, decode};
 use avro_container::{Block, Blocks, CopyError, FileLimits, Header};
 use avro_device::{Input, Output, WriteOutput, put_all};
 use avro_display::{DisplayTable, PutError, Text, put_line};
-use avro_resolve::{Plan, ReadResolveError};
+use avro_resolve::Plan;
+use avro_show::{Resolved, put_resolved_line};
 use avro_schema::{Datum, Limits, Memory, Schema};
 use avro_schema_json::ReaderText;
 use std::alloc::Global;
@@ -249,7 +250,8 @@ fn hold_line<O: Write>(
     Some(len)
 }
 
-/// Prints so many data at the front of some bytes of a block that was walked over, each as soon as it was read.
+/// Prints so many data at the front of some bytes of a block that was walked over, each as soon as it was read. What a datum is
+/// for a reader is printed from the datum itself.
 fn show_data_of<'a, O: Write>(
     alloc: Global,
     header: &Header,
@@ -259,13 +261,14 @@ fn show_data_of<'a, O: Write>(
     lines: &mut Lines<'_, O>,
 ) -> Result<(), Failure<'a>> {
     let limits = FileLimits::default().datum();
+    let schema = header.schema();
     let mut rest = bytes;
     for _ in 0..count {
         // After the walk over the block only memory can run out.
-        let Ok((datum, len)) = read_datum(alloc, header.schema(), plan, rest, &limits) else {
+        let Ok((datum, len)) = decode(alloc, schema, schema.root(), rest, &limits) else {
             return Err(Failure::OutOfMemory);
         };
-        show_line(&mut *lines, &datum)?;
+        show_line(&mut *lines, plan, &datum)?;
         let (_, others) = rest.split_at(len);
         rest = others;
     }
@@ -273,9 +276,13 @@ fn show_data_of<'a, O: Write>(
 }
 
 /// Puts the line of a datum, or holds it. After an error what is held goes on where what was put ends.
-fn show_line<'a, O: Write>(lines: &mut Lines<'_, O>, datum: &Datum) -> Result<(), Failure<'a>> {
+fn show_line<'a, O: Write>(
+    lines: &mut Lines<'_, O>,
+    plan: &Option<Plan<'_>>,
+    datum: &Datum,
+) -> Result<(), Failure<'a>> {
     let held = lines.text.len();
-    match put_line(&mut lines.out, &mut lines.text, &lines.table, datum) {
+    match put_line_by(&mut *lines, plan, datum) {
         Ok(()) => put_long(lines),
         Err(PutError::CannotWrite) => {
             lines.text.clear();
@@ -285,6 +292,22 @@ fn show_line<'a, O: Write>(lines: &mut Lines<'_, O>, datum: &Datum) -> Result<()
             lines.text.truncate(held);
             Err(Failure::OutOfMemory)
         }
+    }
+}
+
+/// Puts the line of a datum, or of what it is for the reader if there is one.
+fn put_line_by<O: Write>(
+    lines: &mut Lines<'_, O>,
+    plan: &Option<Plan<'_>>,
+    datum: &Datum,
+) -> Result<(), PutError> {
+    match plan {
+        Some(plan) => {
+            let plan = plan.by_ref();
+            let resolved = Resolved::new(&plan, &lines.table);
+            put_resolved_line(&mut lines.out, &mut lines.text, &resolved, datum)
+        }
+        None => put_line(&mut lines.out, &mut lines.text, &lines.table, datum),
     }
 }
 
@@ -301,25 +324,5 @@ fn shown_schema<'a>(schema: &'a Schema, plan: &'a Option<Plan<'_>>) -> &'a Schem
     match plan {
         Some(plan) => plan.by_ref().reader(),
         None => schema,
-    }
-}
-
-/// Reads a datum from the start of some bytes, resolved for the reader if there is one, and returns it
-/// with the length of its encoding.
-fn read_datum(
-    alloc: Global,
-    schema: &Schema,
-    plan: &Option<Plan<'_>>,
-    bytes: &[u8],
-    limits: &Limits,
-) -> Result<(Datum, usize), ReadResolveError>
-    ensures { IfOk result (λ r. r.1 ≤ length bytes.now) }
-{
-    match plan {
-        Some(plan) => plan.read(alloc, bytes, limits, &mut Tree),
-        None => match decode(alloc, schema, schema.root(), bytes, limits) {
-            Ok(answer) => Ok(answer),
-            Err(error) => Err(ReadResolveError::Read(error)),
-        },
     }
 }

@@ -1,0 +1,5 @@
+mod Values
+mod Made
+mod Taken
+mod Objects
+mod Texts

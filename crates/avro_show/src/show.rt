@@ -1,0 +1,44 @@
+ghost use Rattle.std.specs.Prelude.{◌≡◌, ◌≢◌, ◌⊎◌, ◌++◌, [], ◌∷◌, Ok, OnOk, IsErrOf};
+ghost use Rattle.avro_schema.specs.Node.{root_of};
+ghost use Rattle.avro_schema.specs.Seen.{value_of};
+ghost use Rattle.avro_schema.specs.SeenSchema.{schema_nodes};
+ghost use Rattle.avro_schema.specs.Value.{Value};
+ghost use Rattle.avro_compare.specs.Resolve.{resolve_root};
+ghost use Rattle.avro_display.specs.DisplayTree.{display_text};
+ghost use Rattle.avro_display.specs.Pieces.{PutsText};
+ghost use Rattle.avro_display.specs.declared.put_error.PutError.{PutError};
+
+use crate::part::Part;
+use crate::resolved::Resolved;
+use avro_device::Output;
+use avro_display::{PutError, Text, put_byte, put_displayed};
+use avro_resolve::PlanPair;
+use avro_schema::Datum;
+
+/// Appends the line of what a writer's datum is for the reader, its display and a line feed, to a text, and puts the text in
+/// pieces if it is long: what the text held, and then the line, is what was put, and then what the text holds.
+///
+/// # Errors
+///
+/// The output failed, or took none of the bytes; memory ran out. Some of the text was put, or none.
+pub fn put_resolved_line<O: Output>(
+    out: &mut O,
+    text: &mut Text,
+    resolved: &Resolved<'_>,
+    datum: &Datum,
+) -> Result<(), PutError>
+    ensures put { (u : Value) → resolve_root (schema_nodes resolved.now.plan.now.0) (schema_nodes resolved.now.plan.now.1) (value_of datum.now) ≡ Ok u
+        → OnOk result (PutsText O.keeps out.old text.old
+        (display_text (schema_nodes resolved.now.table.now) (root_of (schema_nodes resolved.now.table.now)) u ++ 10 ∷ []) out.new text.new) }
+    ensures works { OnOk result (O.failures out.new ≡ O.failures out.old) }
+    ensures fails { IsErrOf result PutError.CannotWrite → (O.failures out.new ≢ O.failures out.old) ⊎ O.stuck out.new }
+    ensures memory { IsErrOf result PutError.OutOfMemory → O.failures out.new ≡ O.failures out.old }
+{
+    let part = Part::Written(
+        PlanPair::roots(resolved.plan),
+        Some(resolved.table.schema().root()),
+        datum,
+    );
+    put_displayed(&mut *out, &mut *text, resolved, Some(part))?;
+    put_byte(out, text, b'\n')
+}
