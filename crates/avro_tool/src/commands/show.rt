@@ -1,5 +1,3 @@
-ghost use Rattle.std.specs.Prelude.{◌≤◌, length, IfSome};
-
 use crate::Finding;
 use crate::failure::Failure;
 use crate::files::container::{ROOM, open_container};
@@ -10,12 +8,22 @@ use avro_container::{Block, Blocks, CopyError, FileLimits, Header};
 use avro_device::{Input, Output, WriteOutput, put_all};
 use avro_display::{DisplayTable, PutError, Text, put_line};
 use avro_resolve::Plan;
-use avro_show::{Resolved, put_resolved_line};
-use avro_schema::{Datum, Limits, Memory, Schema};
+use avro_schema::{Datum, Memory, Schema};
 use avro_schema_json::ReaderText;
+use avro_show::{Resolved, put_resolved_line};
 use std::alloc::Global;
 use std::io::{Cursor, Write};
 use std::rt::Files;
+
+/// A block of which data are shown, the word for its file, and how much text was held before it.
+#[derive(Drop)]
+struct Shown<'a, 'w> {
+    block: &'a Block<'a>,
+    word: &'w str,
+    held: usize,
+    /// Whether it was walked over.
+    is_walked: bool,
+}
 
 /// Where lines go: the displays of a schema's data, the text that is held, and the output.
 #[derive(Drop)]
@@ -174,27 +182,57 @@ fn show_block<'a, O: Write>(
     count: u64,
     lines: &mut Lines<'_, O>,
 ) -> Result<(), Failure<'a>> {
-    let held = lines.text.len();
-    let mut rest = block.body();
-    let mut left = count;
-    if plan.is_none() && count == u64::from(block.count()) {
-        (rest, left) = hold_data(alloc, header, rest, count, &mut *lines);
-        if left == 0 && rest.is_empty() {
-            return put_long(lines);
-        }
+    let is_whole = count == u64::from(block.count());
+    let mut shown = Shown {
+        block,
+        word,
+        held: lines.text.len(),
+        is_walked: false,
+    };
+    if plan.is_some() || !is_whole {
+        walk(&mut shown, plan, lines)?;
     }
-    // The block was not read to its end, or is not to be: it is walked over before any of its lines go out.
-    match walk(block, plan) {
-        Ok(()) => show_data_of(alloc, header, plan, rest, left, lines),
+    let limits = FileLimits::default().datum();
+    let schema = header.schema();
+    let mut rest = block.body();
+    for _ in 0..count {
+        let Ok((datum, len)) = decode(alloc, schema, schema.root(), rest, &limits) else {
+            walk(&mut shown, plan, lines)?;
+            // After the walk over the block only memory can run out.
+            return Err(Failure::OutOfMemory);
+        };
+        show_datum(&mut shown, plan, &datum, lines)?;
+        let (_, others) = rest.split_at(len);
+        rest = others;
+    }
+    if is_whole && !rest.is_empty() {
+        walk(&mut shown, plan, lines)?;
+    }
+    put_long(lines)
+}
+
+/// Walks over a block, unless it was: reads its data one by one, resolved for the reader if there is one. No line of a block
+/// with a fault stays.
+fn walk<'a, O>(
+    shown: &mut Shown<'_, 'a>,
+    plan: &Option<Plan<'_>>,
+    lines: &mut Lines<'_, O>,
+) -> Result<(), Failure<'a>> {
+    if shown.is_walked {
+        return Ok(());
+    }
+    shown.is_walked = true;
+    match read_all(shown.block, plan) {
+        Ok(()) => Ok(()),
         Err(error) => {
-            lines.text.truncate(held);
-            Err(Failure::of_container(word, error))
+            lines.text.truncate(shown.held);
+            Err(Failure::of_container(shown.word, error))
         }
     }
 }
 
 /// Reads the data of a block one by one, resolved for the reader if there is one.
-fn walk(block: &Block<'_>, plan: &Option<Plan<'_>>) -> Result<(), CopyError> {
+fn read_all(block: &Block<'_>, plan: &Option<Plan<'_>>) -> Result<(), CopyError> {
     match plan {
         Some(plan) => {
             block.read_by(plan, &mut Nothing)?;
@@ -204,75 +242,32 @@ fn walk(block: &Block<'_>, plan: &Option<Plan<'_>>) -> Result<(), CopyError> {
     }
 }
 
-/// Holds the lines of so many data at the front of some bytes, and returns what follows them and the number of those that
-/// are left. The first that cannot be read, or whose line makes the text long, is left with all behind it.
-fn hold_data<'b, O: Write>(
-    alloc: Global,
-    header: &Header,
-    bytes: &'b [u8],
-    count: u64,
-    lines: &mut Lines<'_, O>,
-) -> (&'b [u8], u64) {
-    let limits = FileLimits::default().datum();
-    let mut rest = bytes;
-    let mut left = count;
-    while left > 0 {
-        let held = lines.text.len();
-        match hold_line(alloc, header.schema(), rest, &limits, &mut *lines) {
-            Some(len) => {
-                let (_, others) = rest.split_at(len);
-                rest = others;
-                left -= 1;
-            }
-            None => {
-                lines.text.truncate(held);
-                break;
-            }
-        }
-    }
-    (rest, left)
-}
-
-/// Holds the line of the datum at the front of some bytes, and returns the length of its encoding.
-fn hold_line<O: Write>(
-    alloc: Global,
-    schema: &Schema,
-    bytes: &[u8],
-    limits: &Limits,
-    lines: &mut Lines<'_, O>,
-) -> Option<usize>
-    ensures { IfSome result (λ len. len ≤ length bytes.now) }
-{
-    let (datum, len) = decode(alloc, schema, schema.root(), bytes, limits).ok()?;
-    // An output that takes nothing: a line that does not fit into the text fails.
-    let mut nowhere = WriteOutput::new(Cursor::new([0; 0]));
-    put_line(&mut nowhere, &mut lines.text, &lines.table, &datum).ok()?;
-    Some(len)
-}
-
-/// Prints so many data at the front of some bytes of a block that was walked over, each as soon as it was read. What a datum is
-/// for a reader is printed from the datum itself.
-fn show_data_of<'a, O: Write>(
-    alloc: Global,
-    header: &Header,
+/// Prints a datum of a block. Its line is held, as those before it are, until the block was read to its end, or walked over since
+/// they are long.
+fn show_datum<'a, O: Write>(
+    shown: &mut Shown<'_, 'a>,
     plan: &Option<Plan<'_>>,
-    bytes: &[u8],
-    count: u64,
+    datum: &Datum,
     lines: &mut Lines<'_, O>,
 ) -> Result<(), Failure<'a>> {
-    let limits = FileLimits::default().datum();
-    let schema = header.schema();
-    let mut rest = bytes;
-    for _ in 0..count {
-        // After the walk over the block only memory can run out.
-        let Ok((datum, len)) = decode(alloc, schema, schema.root(), rest, &limits) else {
-            return Err(Failure::OutOfMemory);
-        };
-        show_line(&mut *lines, plan, &datum)?;
-        let (_, others) = rest.split_at(len);
-        rest = others;
+    if !shown.is_walked {
+        if hold_line(lines, datum) {
+            return Ok(());
+        }
+        walk(shown, plan, lines)?;
     }
-    Ok(())
+    show_line(lines, plan, datum)
+}
+
+/// Holds the line of a datum. Returns false if the text would be too long, or memory ran out; nothing of it is held then.
+fn hold_line<O>(lines: &mut Lines<'_, O>, datum: &Datum) -> bool {
+    let held = lines.text.len();
+    let mut nowhere = WriteOutput::new(Cursor::new([0; 0]));
+    if put_line(&mut nowhere, &mut lines.text, &lines.table, datum).is_err() {
+        lines.text.truncate(held);
+        return false;
+    }
+    true
 }
 
 /// Puts the line of a datum, or holds it. After an error what is held goes on where what was put ends.
