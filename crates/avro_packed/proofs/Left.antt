@@ -31,7 +31,3 @@ kept_by (Err e) old out new bytes kept left same = subst (λ (l : List ℕ). Gro
 pub kept_behind : (b : Bool) (old mid new bytes more : List ℕ) → mid ≡ old ++ bytes → new ≡ (if b then mid ++ more else mid) → Grows old new
 kept_behind true old mid new bytes more left added = grows_by old new (bytes ++ more) (added ∙ ap (λ (l : List ℕ). l ++ more) left ∙ append_assoc old bytes more)
 kept_behind false old mid new bytes more left added = grows_by old new bytes (added ∙ left)
-
--- what an output began with, it begins with still where more was put behind it, or nothing
-pub begins_still : (b : Bool) (front mid new more : List ℕ) → Grows front mid → new ≡ (if b then mid ++ more else mid) → Grows front new
-begins_still b front mid new more kept added = kept_behind b front mid new kept.more more kept.grown added

@@ -1,5 +1,5 @@
 -- Outputs that grow, and what stands in them.
-use Rattle.std.proofs.Common.{◌≡◌, ℕ, List, [], ◌∷◌, ◌++◌, length, take, refl, sym, ap, ◌∙◌, append_assoc, length-append, arith}
+use Rattle.std.proofs.Common.{◌≡◌, ℕ, List, [], ◌++◌, length, take, refl, sym, ap, ◌∙◌, append_assoc, length-append, arith}
 use Rattle.std.proofs.lemmas.List.{append-nil, take_at}
 use Rattle.avro_packed.specs.Appended.{Grows, StandsAt, Holds}
 use Rattle.avro_packed.specs.declared.written.Written.{Written}
@@ -27,16 +27,6 @@ still_holds s t (Written.Range start end) bytes kept holds = stands_still s t st
 still_holds s t (Written.Apart apart) bytes kept holds = (holds.0, stands_still s t apart.value.start apart.value.end holds.0 kept holds.1, holds.2)
 still_holds s t (Written.Counted count) bytes kept holds = holds
 
--- the end of an output
-pub stands_last : (out before bytes : List ℕ) (start end : ℕ) → out ≡ before ++ bytes → start ≡ length before → end ≡ length out → StandsAt out start end bytes
-stands_last out before bytes start end split starts ends = record {
-  before = before;
-  rest = [];
-  split = split ∙ sym (append-nil (before ++ bytes));
-  starts = starts;
-  ends = omega (arith, ends, starts, ap length split, length-append before bytes);
-}
-
 -- two parts of which one ends where the other starts
 pub stands_joined : (out : List ℕ) (start middle end : ℕ) (a b : List ℕ) → StandsAt out start middle a → StandsAt out middle end b → StandsAt out start end (a ++ b)
 stands_joined out start middle end a b first second =
@@ -52,8 +42,3 @@ stands_joined out start middle end a b first second =
       starts = first.starts;
       ends = omega (arith, first.ends, second.ends, length-append a b);
     }
-
--- what stands between two offsets that are one has no bytes
-pub none_between : (out : List ℕ) (start end : ℕ) (bytes : List ℕ) → StandsAt out start end bytes → start ≡ end → bytes ≡ []
-none_between out start end [] stand same = refl
-none_between out start end (b ∷ bytes) stand same = absurd (omega (arith, stand.ends, same))
