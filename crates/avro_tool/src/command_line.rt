@@ -17,7 +17,7 @@ pub(crate) fn request_of<'a>(
     alloc: Global,
     words: &'a [String],
 ) -> Result<Request<'a>, Failure<'a>> {
-    let mut command = program(alloc)?;
+    let mut command = program(alloc, words)?;
     request_by(alloc, &mut command, words)
 }
 

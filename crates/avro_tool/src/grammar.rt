@@ -298,9 +298,9 @@ const COMMANDS: [Words; 11] = [
     ),
 ];
 
-/// The commands and their arguments.
-pub(crate) fn program<'a>(alloc: Global) -> Result<Command<'a>, AllocError> {
-    let commands = all_commands(alloc)?;
+/// The commands, and the arguments of those that the words name: only these can be asked for.
+pub(crate) fn program<'a>(alloc: Global, words: &[String]) -> Result<Command<'a>, AllocError> {
+    let commands = all_commands(alloc, words)?;
     Command::new(alloc, "avro")
         .about("Checks Avro schemas and container files")
         .version(VERSION)
@@ -312,21 +312,29 @@ pub(crate) fn program<'a>(alloc: Global) -> Result<Command<'a>, AllocError> {
 
 /// The command over a history of schemas.
 pub(crate) fn history_command<'a>(alloc: Global) -> Result<Command<'a>, AllocError> {
-    command_of(alloc, &OF_HISTORY)
+    command_of(alloc, &OF_HISTORY, true)
 }
 
 /// Each command.
-fn all_commands<'a>(alloc: Global) -> Result<Vec<Command<'a>>, AllocError> {
+fn all_commands<'a>(alloc: Global, words: &[String]) -> Result<Vec<Command<'a>>, AllocError> {
     let mut commands = Vec::new(alloc);
-    for words in &COMMANDS[..] {
-        commands.push(command_of(alloc, words)?)?;
+    for command in &COMMANDS[..] {
+        let is_named = words.iter().any(|word| word.as_str() == command.0);
+        commands.push(command_of(alloc, command, is_named)?)?;
     }
     Ok(commands)
 }
 
-/// The command of these words.
-fn command_of<'a>(alloc: Global, words: &Words) -> Result<Command<'a>, AllocError> {
+/// The command of these words, with its arguments or without.
+fn command_of<'a>(
+    alloc: Global,
+    words: &Words,
+    has_arguments: bool,
+) -> Result<Command<'a>, AllocError> {
     let (name, about, arguments) = *words;
+    if !has_arguments {
+        return Ok(Command::new(alloc, name).about(about));
+    }
     let mut args = Vec::new(alloc);
     for argument in arguments {
         args.push(argument_of(alloc, argument)?)?;
