@@ -111,8 +111,3 @@ module _ {O : Type 0} (keeps : O → List ℕ → O → Type 0) (chain : (s t u 
 pub some_members : (tree : ℕ → Data) (ms : List Member) → 0 < length ms → members_left tree ms ≡ object_text tree ms
 some_members tree [] some = absurd (omega (arith, some))
 some_members tree (m ∷ ms) some = refl
-
--- and one without
-pub no_more : (tree : ℕ → Data) (ms : List Member) → length ms ≡ 0 → 123 ∷ 125 ∷ [] ≡ object_text tree ms
-no_more tree [] none = refl
-no_more tree (m ∷ ms) none = absurd (omega (arith, none))

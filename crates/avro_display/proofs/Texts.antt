@@ -34,17 +34,7 @@ opened k d o is =
 
 pub branch_opened : (n : Node) (d : Data) (o : List ℕ) → Some o ≡ opening_of n → compact_text (branch_tree n d) ≡ o ++ (compact_text d ++ 125 ∷ [])
 branch_opened Node.null d o is = absurd (cc (is))
-branch_opened Node.boolean d o is = opened (branch_key Node.boolean) d o is
-branch_opened Node.int d o is = opened (branch_key Node.int) d o is
-branch_opened Node.long d o is = opened (branch_key Node.long) d o is
-branch_opened Node.bytes d o is = opened (branch_key Node.bytes) d o is
-branch_opened Node.string d o is = opened (branch_key Node.string) d o is
-branch_opened (Node.array id) d o is = opened (branch_key (Node.array id)) d o is
-branch_opened (Node.map_of id) d o is = opened (branch_key (Node.map_of id)) d o is
-branch_opened (Node.union ids) d o is = opened (branch_key (Node.union ids)) d o is
-branch_opened (Node.record_of name aliases fields) d o is = opened (branch_key (Node.record_of name aliases fields)) d o is
-branch_opened (Node.enum name aliases symbols default) d o is = opened (branch_key (Node.enum name aliases symbols default)) d o is
-branch_opened (Node.fixed name aliases count) d o is = opened (branch_key (Node.fixed name aliases count)) d o is
+branch_opened n d o is = opened (branch_key n) d o is
 
 -- a value of a list, where it is one
 value_in : (ds : List Datum) (i : ℕ) (d : Datum) → i < length ds → value_of (get_or ds i d) ≡ value_at (values_of ds) i

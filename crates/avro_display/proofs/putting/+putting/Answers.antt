@@ -6,12 +6,9 @@ use Rattle.avro_display.specs.Displayed.{AreOrdered, IsShown, item_at, items_cou
 use Rattle.avro_display.specs.Order.{in_order}
 use Rattle.avro_display.specs.Pieces.{PutsText}
 use Rattle.avro_display.specs.inside.Tables.{seen_place}
-use Rattle.avro_display.proofs.Displays.{all_at, entries_last, entries_more, items_last, items_more, members_last, members_more, no_more, some_members}
+use Rattle.avro_display.proofs.Displays.{all_at, entries_last, entries_more, items_last, items_more, members_last, members_more, some_members}
 use Rattle.avro_display.proofs.public.Putting.{on_ok, puts_both, puts_none, puts_opened}
 use Rattle.avro_display.proofs.putting.+putting.Goals as goal
-
-pub put_items-loop-index-init : goal.put_items-loop-index-init
-put_items-loop-index-init g t c = (λ ds are. puts_none g.O.Output.keeps g.met.O.Output.none c.args.out.now c.append_byte.new.self (items_text false ds), refl)
 
 pub put_items-loop-index-preserved : goal.put_items-loop-index-preserved
 put_items-loop-index-preserved g t c =
@@ -79,9 +76,6 @@ put_entries-returns-clause-put g t c = λ keys tree are.
     (c.in_ok-order.ensures.order keys tree are tree) step)
     c.put_ordered.result (c.put_ordered.ensures.put tree (c.in_ok-order.ensures.have keys tree are))
 
-pub put_members-loop-member-init : goal.put_members-loop-member-init
-put_members-loop-member-init g t c = (λ tree are. puts_none g.O.Output.keeps g.met.O.Output.none c.args.out.now c.args.text.now (members_left tree c.args.members.now), refl)
-
 pub put_members-loop-member-preserved : goal.put_members-loop-member-preserved
 put_members-loop-member-preserved g t c =
     let l = c.loop-member in
@@ -105,11 +99,6 @@ put_members-returns-clause-put g t c = λ tree are.
     (members_last g.O.Output.keeps g.met.O.Output.chain c.args.out.now l.out c.put_byte.new.out c.args.text.now (members_left tree ms)
     l.text c.put_byte.new.text tree ms l.member-index c.loop-member-test.false (l.invariant.0 tree are) step))
     c.put_byte.result c.put_byte.ensures.put
-
-pub put_members-returns-then-is_empty-clause-put : goal.put_members-returns-then-is_empty-clause-put
-put_members-returns-then-is_empty-clause-put g t c = λ tree are.
-    let none : length c.args.members.now ≡ 0 = search rules in
-    subst (λ b. OnOk c.put_plain.result (PutsText g.O.Output.keeps c.args.out.now c.args.text.now b c.put_plain.new.out c.put_plain.new.text)) (no_more tree c.args.members.now none) c.put_plain.ensures.put
 
 pub put_branch-returns-clause-put : goal.put_branch-returns-clause-put
 put_branch-returns-clause-put g t c = λ d is.
