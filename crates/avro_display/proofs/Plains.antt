@@ -1,7 +1,7 @@
 -- Data of nodes, as they are opened.
 use Rattle.std.proofs.Common.{◌≡◌, ◌<◌, ◌≤◌, ℕ, zero, suc, List, [], ◌∷◌, get_or, length, map, take, Option, Some, None, inl, inr, refl, sym, ap, subst, ◌∙◌, arith, max}
 use Rattle.std.specs.List.{AllByRecursion}
-use Rattle.std.specs.Prelude.{IfSome, String, slice_get, string_bytes}
+use Rattle.std.specs.Prelude.{IfSome, String, slice_get, string_bytes, option_map, unwrap_or}
 use Rattle.std.specs.declared.alloc.Global.{Global}
 use Rattle.std.specs.Global.{Box, Vec}
 use Rattle.avro_schema.specs.Seen.{entries_of, seen_fields, value_of, values_of, view_step}
@@ -12,6 +12,8 @@ use Rattle.avro_schema.specs.declared.datum.Datum.TheFolds.{fold-roll-Datum}
 use Rattle.avro_schema.specs.declared.datum.Datum.{Datum}
 use Rattle.avro_schema.specs.declared.schema.Field.{Field}
 use Rattle.std.proofs.lemmas.List.{length-map, length-take-le}
+use Rattle.std.proofs.lemmas.Option.{slice_get-map}
+use Rattle.avro_schema.proofs.public.DatumViews.{value_of-Map}
 use Rattle.avro_schema.specs.Node.{Node, node_at, items_node, values_node}
 use Rattle.avro_schema.specs.Value.{Value, Values, depth, values_depth, entries_depth, no_values, value, Entries, no_entries, entry, values_count, entries_count, keys_of}
 use Rattle.serde_json.specs.Data.{Data, Items, array, object, no_members}
@@ -20,7 +22,7 @@ use Rattle.avro_display.specs.Displayed.{EntriesAre, ItemsAre, item_at, items_co
 use Rattle.avro_display.specs.DisplayTree.{display_fields, display_items, display_tree, part_at, record_fields}
 use Rattle.avro_display.specs.Order.{put_each}
 use Rattle.avro_display.specs.Plain.{PlainPart, plain_entry, plain_item, plain_levels, plain_member, plain_node, plain_value}
-use Rattle.avro_display.specs.Table.{AreMembers, IsMember, entry_tree, field_id, field_tree, place_of, value_at}
+use Rattle.avro_display.specs.Table.{AreMembers, entry_at, IsMember, entry_tree, field_id, field_tree, place_of, value_at}
 use Rattle.avro_display.specs.declared.member.Member.{Member}
 use Rattle.avro_display.proofs.public.Ordering.{all_entries, all_members, first_fields, name_of, ordered_fields}
 
@@ -108,6 +110,10 @@ module _ (nodes : List Node) (p : PlainPart) where
         ),
       )
 
+pub count_is : (ds : List Datum) → values_count (values_of ds) ≡ length ds
+count_is [] = refl
+count_is (d ∷ ds) = ap suc (count_is ds)
+
 pub count_entries : (es : List (String Global × Datum)) → entries_count (entries_of es) ≡ length es
 count_entries [] = refl
 count_entries (e ∷ es) = ap suc (count_entries es)
@@ -143,40 +149,46 @@ field_in nodes p i k d vs is (inr (ws, at, within, got, has)) =
 
 -- ---- one of many
 
-pub key_at : (es : List (String Global × Datum)) (i : ℕ) (e : String Global × Datum) (k : List ℕ) → i < length es → e ≡ get_or es i e → slice_get (keys_of (entries_of es)) i ≡ Some k → string_bytes e.0 ≡ k
-key_at [] i e k within is got = absurd (omega (arith, within))
-key_at (x ∷ es) zero e k within is got = let same : string_bytes x.0 ≡ k = cc (got) in ap (λ (y : String Global × Datum). string_bytes y.0) is ∙ same
-key_at (x ∷ es) (suc i) e k within is got = key_at es i e k (omega (arith, within)) is got
+keys_are : (es : List (String Global × Datum)) → keys_of (entries_of es) ≡ map (λ e. string_bytes e.0) es
+keys_are [] = refl
+keys_are (e ∷ es) = ap (λ ks. string_bytes e.0 ∷ ks) (keys_are es)
 
-pub no_key : (es : List (String Global × Datum)) (i : ℕ) (k : List ℕ) → length es ≤ i → slice_get (keys_of (entries_of es)) i ≡ Some k → ⊥
-no_key [] i k past got = absurd (cc (got))
-no_key (x ∷ es) zero k past got = absurd (omega (arith, past))
-no_key (x ∷ es) (suc i) k past got = no_key es i k (omega (arith, past)) got
+names_are : (fs : List Field) → map (λ f. f.name) (seen_fields fs) ≡ map (λ f. string_bytes f.name) fs
+names_are [] = refl
+names_are (f ∷ fs) = ap (λ ks. string_bytes f.name ∷ ks) (names_are fs)
 
-pub named_at : (fs : List Field) (i : ℕ) (f : Field) (k : List ℕ) → i < length fs → f ≡ get_or fs i f → slice_get (map name_of (seen_fields fs)) i ≡ Some k → string_bytes f.name ≡ k
-named_at [] i f k within is got = absurd (omega (arith, within))
-named_at (x ∷ fs) zero f k within is got = let same : string_bytes x.name ≡ k = cc (got) in ap (λ (y : Field). string_bytes y.name) is ∙ same
-named_at (x ∷ fs) (suc i) f k within is got = named_at fs i f k (omega (arith, within)) is got
+pub key_at : (es : List (String Global × Datum)) (i : ℕ) → slice_get (keys_of (entries_of es)) i ≡ option_map (λ e. string_bytes e.0) (slice_get es i)
+key_at es i = rw (keys_are es) (slice_get-map (λ e. string_bytes e.0) es i)
 
-pub not_named : (fs : List Field) (i : ℕ) (k : List ℕ) → length fs ≤ i → slice_get (map name_of (seen_fields fs)) i ≡ Some k → ⊥
-not_named [] i k past got = absurd (cc (got))
-not_named (x ∷ fs) zero k past got = absurd (omega (arith, past))
-not_named (x ∷ fs) (suc i) k past got = not_named fs i k (omega (arith, past)) got
+pub named_at : (fs : List Field) (i : ℕ) → slice_get (map (λ f. f.name) (seen_fields fs)) i ≡ option_map (λ f. string_bytes f.name) (slice_get fs i)
+named_at fs i = rw (names_are fs) (slice_get-map (λ f. string_bytes f.name) fs i)
 
-pub node_at_field : (fs : List Field) (i : ℕ) (f : Field) → i < length fs → f ≡ get_or fs i f → f.node.0 ≡ field_id (seen_fields fs) i
-node_at_field [] i f within is = absurd (omega (arith, within))
-node_at_field (x ∷ fs) zero f within is = ap (λ (y : Field). y.node.0) is
-node_at_field (x ∷ fs) (suc i) f within is = node_at_field fs i f (omega (arith, within)) is
+pub node_at_field : (fs : List Field) (i : ℕ) → field_id (seen_fields fs) i ≡ unwrap_or (option_map (λ f. f.node.0) (slice_get fs i)) 0
+node_at_field [] i = refl
+node_at_field (x ∷ fs) zero = refl
+node_at_field (x ∷ fs) (suc i) = node_at_field fs i
 
-pub item_depth : (ds : List Datum) (i : ℕ) (d : Datum) → i < length ds → d ≡ get_or ds i d → depth (value_of d) ≤ values_depth (values_of ds)
-item_depth [] i d within is = absurd (omega (arith, within))
-item_depth (x ∷ ds) zero d within is = subst (λ (y : Datum). depth (value_of y) ≤ max (depth (value_of x)) (values_depth (values_of ds))) (sym is) (omega arith)
-item_depth (x ∷ ds) (suc i) d within is = omega (arith, item_depth ds i d (omega (arith, within)) is)
+pub item_here : (ds : List Datum) (i : ℕ) → value_at (values_of ds) i ≡ unwrap_or (option_map value_of (slice_get ds i)) Value.null
+item_here [] i = refl
+item_here (x ∷ ds) zero = refl
+item_here (x ∷ ds) (suc i) = item_here ds i
 
-pub entry_depth : (es : List (String Global × Datum)) (i : ℕ) (e : String Global × Datum) → i < length es → e ≡ get_or es i e → depth (value_of e.1) ≤ entries_depth (entries_of es)
-entry_depth [] i e within is = absurd (omega (arith, within))
-entry_depth (x ∷ es) zero e within is = subst (λ (y : String Global × Datum). depth (value_of y.1) ≤ max (depth (value_of x.1)) (entries_depth (entries_of es))) (sym is) (omega arith)
-entry_depth (x ∷ es) (suc i) e within is = omega (arith, entry_depth es i e (omega (arith, within)) is)
+pub entry_here : (es : List (String Global × Datum)) (i : ℕ) → entry_at (entries_of es) i ≡ unwrap_or (option_map (λ e. value_of e.1) (slice_get es i)) Value.null
+entry_here [] i = refl
+entry_here (x ∷ es) zero = refl
+entry_here (x ∷ es) (suc i) = entry_here es i
+
+pub item_depth : (ds : List Datum) (i : ℕ) (d : Datum) → i < length ds → depth (value_of (get_or ds i d)) ≤ values_depth (values_of ds)
+item_depth [] i d within = absurd (omega (arith, within))
+item_depth (x ∷ ds) zero d within = omega arith
+item_depth (x ∷ ds) (suc i) d within = omega (arith, item_depth ds i d (omega (arith, within)))
+
+pub entry_depth : (es : List (String Global × Datum)) (i : ℕ) (e : String Global × Datum) → i < length es → depth (value_of (get_or es i e).1) ≤ entries_depth (entries_of es)
+entry_depth [] i e within = absurd (omega (arith, within))
+entry_depth (x ∷ es) zero e within = omega arith
+entry_depth (x ∷ es) (suc i) e within = omega (arith, entry_depth es i e (omega (arith, within)))
+
+pub ruleset seen_values = (value_of-Array, value_of-Record, value_of-Union, value_of-Map)
 
 -- parts have fewer levels
 pub fewer_levels : (o : Option PlainPart) (m n : ℕ) → n ≡ suc m → IfSome o (λ p. plain_levels p ≤ m) → IfSome o (λ p. plain_levels p < n)

@@ -1,18 +1,16 @@
 -- The text of a display, part by part.
-use Rattle.std.proofs.Common.{◌≡◌, ◌<◌, ℕ, zero, suc, List, [], ◌∷◌, ◌++◌, length, get_or, false, Some, refl, sym, ap, ◌∙◌, arith, append_assoc, append-nil}
+use Rattle.std.proofs.Common.{◌≡◌, ◌<◌, ℕ, zero, suc, List, [], ◌∷◌, ◌++◌, length, false, Some, refl, sym, ap, ◌∙◌, arith, append_assoc, append-nil}
 use Rattle.std.specs.Prelude.{String}
 use Rattle.std.specs.declared.alloc.Global.{Global}
 use Rattle.json.specs.Print.{print, print_from, quoted, token_text}
 use Rattle.json.specs.Token.{Token}
 use Rattle.avro_schema.specs.Node.{Node}
-use Rattle.avro_schema.specs.Seen.{value_of, values_of, entries_of, seen_fields}
-use Rattle.avro_schema.specs.Value.{values_count}
-use Rattle.avro_schema.specs.declared.datum.Datum.{Datum}
+use Rattle.avro_schema.specs.Seen.{values_of, seen_fields}
 use Rattle.avro_schema.specs.declared.schema.Field.{Field}
 use Rattle.serde_json.specs.Data.{Data, member, no_members}
 use Rattle.serde_json.specs.Written.{compact_text, members_text}
 use Rattle.avro_display.specs.DisplayTree.{branch_key, branch_tree}
-use Rattle.avro_display.specs.Table.{entry_at, head_text, opening_of, value_at}
+use Rattle.avro_display.specs.Table.{head_text, opening_of}
 
 -- one token is written
 print_one : (t : Token) → print (t ∷ []) ≡ token_text t
@@ -35,24 +33,6 @@ opened k d o is =
 pub branch_opened : (n : Node) (d : Data) (o : List ℕ) → Some o ≡ opening_of n → compact_text (branch_tree n d) ≡ o ++ (compact_text d ++ 125 ∷ [])
 branch_opened Node.null d o is = absurd (cc (is))
 branch_opened n d o is = opened (branch_key n) d o is
-
--- a value of a list, where it is one
-value_in : (ds : List Datum) (i : ℕ) (d : Datum) → i < length ds → value_of (get_or ds i d) ≡ value_at (values_of ds) i
-value_in [] i d within = absurd (omega (arith, within))
-value_in (x ∷ ds) zero d within = refl
-value_in (x ∷ ds) (suc i) d within = value_in ds i d (omega (arith, within))
-
-pub value_here : (ds : List Datum) (i : ℕ) (d : Datum) → i < length ds → d ≡ get_or ds i d → value_of d ≡ value_at (values_of ds) i
-value_here ds i d within is = ap value_of is ∙ value_in ds i d within
-
-pub entry_here : (es : List (String Global × Datum)) (i : ℕ) (e : String Global × Datum) → i < length es → value_of (get_or es i e).1 ≡ entry_at (entries_of es) i
-entry_here [] i e within = absurd (omega (arith, within))
-entry_here (x ∷ es) zero e within = refl
-entry_here (x ∷ es) (suc i) e within = entry_here es i e (omega (arith, within))
-
-pub count_is : (ds : List Datum) → values_count (values_of ds) ≡ length ds
-count_is [] = refl
-count_is (d ∷ ds) = ap suc (count_is ds)
 
 pub seen_length : (fs : List Field) → length (seen_fields fs) ≡ length fs
 seen_length [] = refl

@@ -70,6 +70,7 @@ impl<'a> Displayed for Plain<'a> {
         }
     }
 
+    #[tactic(auto, using(crate::proofs::Plains::seen_values))]
     #[inline(always)]
     fn item(&self, array: Self::Part, index: usize) -> Option<Self::Part> {
         match array.1 {
@@ -78,6 +79,7 @@ impl<'a> Displayed for Plain<'a> {
         }
     }
 
+    #[tactic(auto, using(crate::proofs::Plains::seen_values))]
     fn key(&self, object: Self::Part, index: usize) -> &str {
         match object.1 {
             Datum::Map(entries) => key_of(entries, index),
@@ -85,6 +87,7 @@ impl<'a> Displayed for Plain<'a> {
         }
     }
 
+    #[tactic(auto, using(crate::proofs::Plains::seen_values))]
     fn entry(&self, object: Self::Part, index: usize) -> Option<Self::Part> {
         match object.1 {
             Datum::Map(entries) => { entry_of(self.table.node(object.0).values(), entries, index) }
@@ -95,6 +98,7 @@ impl<'a> Displayed for Plain<'a> {
         }
     }
 
+    #[tactic(auto, using(crate::proofs::Plains::seen_values))]
     #[inline(always)]
     fn member(&self, object: Self::Part, member: &Member) -> Option<Self::Part> {
         match object.1 {
@@ -141,6 +145,7 @@ fn opened_record<'a>(
 }
 
 /// The item at an index, as one of a node.
+#[tactic(auto, using(std::proofs::lemmas::Option::gets, crate::proofs::Plains::count_is, crate::proofs::Plains::item_depth, crate::proofs::Plains::item_here))]
 #[inline(always)]
 fn item_of<'a>(
     id: Option<NodeId>,
@@ -159,6 +164,7 @@ fn item_of<'a>(
 }
 
 /// The value of the entry at an index, as one of a node.
+#[tactic(auto, using(std::proofs::lemmas::Option::gets, crate::proofs::Plains::entry_depth, crate::proofs::Plains::entry_here, crate::proofs::Plains::key_at))]
 fn entry_of<'a>(
     id: Option<NodeId>,
     entries: &'a [(String, Datum)],
@@ -176,6 +182,7 @@ fn entry_of<'a>(
 }
 
 /// The key of the entry at an index.
+#[tactic(auto, using(std::proofs::lemmas::Option::gets, crate::proofs::Plains::key_at))]
 fn key_of(entries: &[(String, Datum)], index: usize) -> &str
     ensures { (k : List ℕ) → slice_get (keys_of (entries_of entries.now)) index ≡ Some k → result.now ≡ k }
 {
@@ -186,6 +193,7 @@ fn key_of(entries: &[(String, Datum)], index: usize) -> &str
 }
 
 /// The name of the field at an index.
+#[tactic(auto, using(std::proofs::lemmas::Option::gets, crate::proofs::Plains::named_at))]
 fn field_name(fields: &[Field], index: usize) -> &str
     ensures { (k : List ℕ) → slice_get (map (λ f. f.name) (seen_fields fields.now)) index ≡ Some k → result.now ≡ k }
 {
@@ -196,6 +204,7 @@ fn field_name(fields: &[Field], index: usize) -> &str
 }
 
 /// The value of the field at an index.
+#[tactic(auto, using(std::proofs::lemmas::Option::gets, crate::proofs::Plains::named_at, crate::proofs::Plains::node_at_field))]
 fn value_of_field<'a>(
     fields: &[Field],
     values: &'a [Datum],

@@ -7,8 +7,7 @@ use Rattle.std.specs.Prelude.{option_map, option_and_then, slice_get}
 use Rattle.avro_schema.specs.Node.{branches_of}
 use Rattle.avro_display.specs.DisplayTree.{branch_tree, display_tree, part_at}
 use Rattle.avro_display.specs.Plain.{plain_node, plain_value}
-use Rattle.avro_display.proofs.Plains.{count_entries, opened_entries, opened_items, value_of-Array, value_of-Record, value_of-Union}
-use Rattle.avro_display.proofs.Texts.{count_is}
+use Rattle.avro_display.proofs.Plains.{count_entries, count_is, opened_entries, opened_items, value_of-Array, value_of-Record, value_of-Union}
 use Rattle.avro_display.proofs.plain.PlainDisplayed.open.Goals as goal
 
 pub returns-in-Array-clause-opens : goal.returns-in-Array-clause-opens
