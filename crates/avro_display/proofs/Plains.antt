@@ -118,35 +118,6 @@ pub count_entries : (es : List (String Global × Datum)) → entries_count (entr
 count_entries [] = refl
 count_entries (e ∷ es) = ap suc (count_entries es)
 
--- ---- what a part is, by its datum
-
-pub array_in : {vs ws : Values} → Value.array vs ≡ Value.array ws → vs ≡ ws
-array_in e = cc (e)
-
-pub record_in : {vs ws : Values} → Value.record_of vs ≡ Value.record_of ws → vs ≡ ws
-record_in e = cc (e)
-
-map_in : {es fs : Entries} → Value.map_of es ≡ Value.map_of fs → es ≡ fs
-map_in e = cc (e)
-
-no_record : {vs : Values} {es : Entries} → Value.record_of vs ≡ Value.map_of es → ⊥
-no_record e = cc (e)
-
-pub entry_in : (nodes : List Node) (p : PlainPart) (i : ℕ) (k : List ℕ) (d : Data) (es : Entries) → plain_value p ≡ Value.map_of es → plain_entry nodes p i k d
-    → (slice_get (keys_of es) i ≡ Some k) × (d ≡ entry_tree nodes (part_at nodes (values_node (plain_node nodes p))) es i)
-entry_in nodes p i k d es is (inl (fs, at, got, has)) =
-    let same : fs ≡ es = map_in (sym at ∙ is) in
-    subst (λ (es : Entries). (slice_get (keys_of es) i ≡ Some k) × (d ≡ entry_tree nodes (part_at nodes (values_node (plain_node nodes p))) es i)) same (got, has)
-entry_in nodes p i k d es is (inr (vs, at, within, got, has)) = absurd (no_record (sym at ∙ is))
-
-pub field_in : (nodes : List Node) (p : PlainPart) (i : ℕ) (k : List ℕ) (d : Data) (vs : Values) → plain_value p ≡ Value.record_of vs → plain_entry nodes p i k d
-    → (i < values_count vs) × (slice_get (map name_of (record_fields (plain_node nodes p))) i ≡ Some k) × (d ≡ field_tree nodes (record_fields (plain_node nodes p)) vs i)
-field_in nodes p i k d vs is (inl (es, at, got, has)) = absurd (no_record (sym is ∙ at))
-field_in nodes p i k d vs is (inr (ws, at, within, got, has)) =
-    let same : ws ≡ vs = record_in (sym at ∙ is) in
-    subst (λ (vs : Values). (i < values_count vs) × (slice_get (map name_of (record_fields (plain_node nodes p))) i ≡ Some k) × (d ≡ field_tree nodes (record_fields (plain_node nodes p)) vs i)) same
-    (within, got, has)
-
 -- ---- one of many
 
 keys_are : (es : List (String Global × Datum)) → keys_of (entries_of es) ≡ map (λ e. string_bytes e.0) es
@@ -189,8 +160,3 @@ entry_depth (x ∷ es) zero e within = omega arith
 entry_depth (x ∷ es) (suc i) e within = omega (arith, entry_depth es i e (omega (arith, within)))
 
 pub ruleset seen_values = (value_of-Array, value_of-Record, value_of-Union, value_of-Map)
-
--- parts have fewer levels
-pub fewer_levels : (o : Option PlainPart) (m n : ℕ) → n ≡ suc m → IfSome o (λ p. plain_levels p ≤ m) → IfSome o (λ p. plain_levels p < n)
-fewer_levels None m n is all = tt
-fewer_levels (Some p) m n is all = omega (arith, is, all)

@@ -3,7 +3,7 @@ use Rattle.std.proofs.Common.{◌≡◌, ◌<◌, ◌≤◌, ◌+◌, ℕ, zero,
 use Rattle.std.specs.List.{AllByRecursion}
 use Rattle.std.proofs.lemmas.List.{drop_more, drop_all, length_push, map-append}
 use Rattle.std.proofs.lemmas.Map.Lookups.{exact_bytes}
-use Rattle.std.proofs.lemmas.Option.{slice_get_past, slice_get_read}
+use Rattle.std.proofs.lemmas.Option.{get_or_from_slice_get, slice_get_past, slice_get_read, slice_get_within}
 use Rattle.std.specs.BTreeMap.{insert_entry}
 use Rattle.std.specs.Cmp.Lexicographic.{slice_cmp}
 use Rattle.std.specs.Ordering.{nat_cmp, match_ordering}
@@ -115,9 +115,7 @@ name_at (x ∷ fs) (suc i) f k within is = let next = name_at fs i f k (omega (a
 
 -- the keys of entries from an index on
 pub key_here : (keys : List (List ℕ)) (i : ℕ) (k : List ℕ) → slice_get keys i ≡ Some k → drop i keys ≡ k ∷ drop (i + 1) keys
-key_here [] i k is = absurd (cc (is))
-key_here (x ∷ keys) zero k is = let same : x ≡ k = cc (is) in ap (λ (n : List ℕ). n ∷ keys) same
-key_here (x ∷ keys) (suc i) k is = let next : suc (i + 1) ≡ suc i + 1 = omega arith in key_here keys i k is ∙ ap (λ (j : ℕ). k ∷ drop j (x ∷ keys)) next
+key_here keys i k is = drop_more keys i k (slice_get_within keys i k is) ∙ ap (λ (n : List ℕ). n ∷ drop (i + 1) keys) (get_or_from_slice_get keys i k k is)
 
 -- ---- members in an order
 
