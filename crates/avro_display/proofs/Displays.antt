@@ -42,11 +42,6 @@ all_at P [] i x within all = absurd (omega (arith, within))
 all_at P (y ∷ ys) zero x within all = all.0
 all_at P (y ∷ ys) (suc i) x within all = all_at P ys i x (omega (arith, within)) all.1
 
--- a separator and a head, and then the tail
-pub apart : (text separator head next left tail : List ℕ) → next ≡ text ++ (separator ++ head) → left ≡ separator ++ (head ++ tail) → text ++ left ≡ next ++ tail
-apart text separator head next left tail has is =
-    ap (λ l. text ++ l) (is ∙ sym (append_assoc separator head tail)) ∙ sym (append_assoc text (separator ++ head) tail) ∙ ap (λ t. t ++ tail) (sym has)
-
 -- ---- a list of parts goes out one after another
 
 module _ {O : Type 0} (keeps : O → List ℕ → O → Type 0) (chain : (s t u : O) (front back : List ℕ) → keeps s front t → keeps t back u → keeps s (front ++ back) u)
@@ -58,15 +53,12 @@ module _ {O : Type 0} (keeps : O → List ℕ → O → Type 0) (chain : (s t u 
   items_more later ds i next within has all step =
       let part = compact_text (item_at ds i) in
       let tail = items_text true (items_from (i + 1) ds) in
-      puts_more keeps chain s t u held whole (text ++ items_text later (items_from i ds)) next part then tail
-      (ap (λ (l : Items). text ++ items_text later l) (item_here i ds within) ∙ sym (append_assoc text (comma_if later) (part ++ tail)) ∙ ap (λ (l : List ℕ). l ++ (part ++ tail)) (sym has))
-      all step
+      puts_more keeps chain s t u held whole (text ++ items_text later (items_from i ds)) next part then tail (rw (item_here i ds within, has) (simp append_assoc)) all step
 
   pub items_last : (later : Bool) (ds : Items) (i : ℕ) → items_count ds ≤ i
       → PutsText keeps s held whole t (text ++ items_text later (items_from i ds)) → PutsText keeps t text (93 ∷ []) u then → PutsText keeps s held whole u then
   items_last later ds i past all step =
-      puts_last keeps chain s t u held whole (text ++ items_text later (items_from i ds)) text (93 ∷ []) then
-      (ap (λ (l : Items). text ++ items_text later l) (item_none i ds past)) all step
+      puts_last keeps chain s t u held whole (text ++ items_text later (items_from i ds)) text (93 ∷ []) then (rw (item_none i ds past)) all step
 
   pub entries_more : (later : Bool) (tree : ℕ → Data) (left rest : List (List ℕ × ℕ)) (e : List ℕ × ℕ) (next : List ℕ) → left ≡ e ∷ rest
       → next ≡ text ++ (comma_if later ++ head_text e.0) → PutsText keeps s held whole t (text ++ members_text later (in_order tree left)) → PutsText keeps t next (compact_text (tree e.1)) u then
@@ -74,18 +66,12 @@ module _ {O : Type 0} (keeps : O → List ℕ → O → Type 0) (chain : (s t u 
   entries_more later tree left rest e next is has all step =
       let part = compact_text (tree e.1) in
       let tail = members_text true (in_order tree rest) in
-      let cut : members_text later (in_order tree left) ≡ comma_if later ++ (head_text e.0 ++ (part ++ tail)) =
-      ap (λ (l : List (List ℕ × ℕ)). members_text later (in_order tree l)) is
-      ∙ ap (λ (l : List ℕ). comma_if later ++ l) (sym (append_assoc (quoted e.0) (58 ∷ []) (part ++ tail))) in
-      puts_more keeps chain s t u held whole (text ++ members_text later (in_order tree left)) next part then tail
-      (apart text (comma_if later) (head_text e.0) next (members_text later (in_order tree left)) (part ++ tail) has cut)
-      all step
+      puts_more keeps chain s t u held whole (text ++ members_text later (in_order tree left)) next part then tail (rw (is, has) (simp append_assoc)) all step
 
   pub entries_last : (later : Bool) (tree : ℕ → Data) (left : List (List ℕ × ℕ)) → left ≡ [] → PutsText keeps s held whole t (text ++ members_text later (in_order tree left))
       → PutsText keeps t text (125 ∷ []) u then → PutsText keeps s held whole u then
   entries_last later tree left is all step =
-      puts_last keeps chain s t u held whole (text ++ members_text later (in_order tree left)) text (125 ∷ []) then
-      (ap (λ (l : List (List ℕ × ℕ)). text ++ members_text later (in_order tree l)) is) all step
+      puts_last keeps chain s t u held whole (text ++ members_text later (in_order tree left)) text (125 ∷ []) then (rw is) all step
 
   pub members_more : (tree : ℕ → Data) (ms : List Member) (i : ℕ) (m : Member) (next : List ℕ) → i < length ms → m ≡ get_or ms i m → next ≡ text ++ m.head.items
       → PutsText keeps s held whole t (text ++ members_left tree (drop i ms))
@@ -94,18 +80,12 @@ module _ {O : Type 0} (keeps : O → List ℕ → O → Type 0) (chain : (s t u 
   members_more tree ms i m next within at has all step =
       let part = compact_text (tree m.field) in
       let tail = members_left tree (drop (i + 1) ms) in
-      let left : members_left tree (drop i ms) ≡ m.head.items ++ (part ++ tail) =
-      ap (λ (l : List Member). members_left tree l) (drop_more ms i m within)
-      ∙ ap (λ (y : Member). y.head.items ++ (compact_text (tree y.field) ++ tail)) (sym at) in
-      puts_more keeps chain s t u held whole (text ++ members_left tree (drop i ms)) next part then tail
-      (ap (λ (l : List ℕ). text ++ l) left ∙ sym (append_assoc text m.head.items (part ++ tail)) ∙ ap (λ (l : List ℕ). l ++ (part ++ tail)) (sym has))
-      all step
+      puts_more keeps chain s t u held whole (text ++ members_left tree (drop i ms)) next part then tail (rw (drop_more ms i m within, ← at, has) (simp append_assoc)) all step
 
   pub members_last : (tree : ℕ → Data) (ms : List Member) (i : ℕ) → length ms ≤ i
       → PutsText keeps s held whole t (text ++ members_left tree (drop i ms)) → PutsText keeps t text (125 ∷ []) u then → PutsText keeps s held whole u then
   members_last tree ms i past all step =
-      puts_last keeps chain s t u held whole (text ++ members_left tree (drop i ms)) text (125 ∷ []) then
-      (ap (λ (l : List Member). text ++ members_left tree l) (drop_all i ms past)) all step
+      puts_last keeps chain s t u held whole (text ++ members_left tree (drop i ms)) text (125 ∷ []) then (rw (drop_all i ms past)) all step
 
 -- an object with members
 pub some_members : (tree : ℕ → Data) (ms : List Member) → 0 < length ms → members_left tree ms ≡ object_text tree ms

@@ -105,9 +105,6 @@ name_here fs i f k within has =
     ap (λ l. map (λ (g : FieldNode). g.name) (seen_fields l)) (drop_more fs i f within)
     ∙ ap (λ (n : List ℕ). n ∷ names_past fs (i + 1)) (sym has)
 
-pub names_end : (fs : List Field) (i : ℕ) → length fs ≤ i → names_past fs i ≡ []
-names_end fs i past = ap (λ l. map (λ (f : FieldNode). f.name) (seen_fields l)) (drop_all i fs past)
-
 pub name_at : (fs : List Field) (i : ℕ) (f : Field) (k : List ℕ) → i < length fs → k ≡ string_bytes (get_or fs i f).name → (i < length (seen_fields fs)) × (k ≡ field_name (seen_fields fs) i)
 name_at [] i f k within is = absurd (omega (arith, within))
 name_at (x ∷ fs) zero f k within is = (omega arith, is)
@@ -120,25 +117,22 @@ key_here keys i k is = drop_more keys i k (slice_get_within keys i k is) ∙ ap 
 -- ---- members in an order
 
 -- the text before the next member
-abbrev pub opener_after : List Member → ℕ
-opener_after [] = 123
-opener_after (m ∷ ms) = 44
+abbrev pub opener_after : ℕ → List Member → ℕ
+opener_after opener [] = opener
+opener_after opener (m ∷ ms) = opener_after 44 ms
 
 each_push : (fields : List FieldNode) (ms : List Member) (m : Member) → AllByRecursion (IsMember fields) ms → IsMember fields m → AllByRecursion (IsMember fields) (ms ++ m ∷ [])
 each_push fields [] m all last = (last, tt)
 each_push fields (x ∷ ms) m all last = (all.0, each_push fields ms m all.1 last)
 
-later_push : (fields : List FieldNode) (ms : List Member) (m : Member) → AreHeads fields 44 ms → m.head.items ≡ 44 ∷ head_text (field_name fields m.field) → AreHeads fields 44 (ms ++ m ∷ [])
-later_push fields [] m all last = (last, tt)
-later_push fields (x ∷ ms) m all last = (all.0, later_push fields ms m all.1 last)
+heads_push : (fields : List FieldNode) (opener : ℕ) (ms : List Member) (m : Member) → AreHeads fields opener ms → m.head.items ≡ opener_after opener ms ∷ head_text (field_name fields m.field)
+    → AreHeads fields opener (ms ++ m ∷ [])
+heads_push fields opener [] m all last = (last, tt)
+heads_push fields opener (x ∷ ms) m all last = (all.0, heads_push fields 44 ms m all.1 last)
 
-heads_push : (fields : List FieldNode) (ms : List Member) (m : Member) → AreHeads fields 123 ms → m.head.items ≡ opener_after ms ∷ head_text (field_name fields m.field) → AreHeads fields 123 (ms ++ m ∷ [])
-heads_push fields [] m all last = (last, tt)
-heads_push fields (x ∷ ms) m all last = (all.0, later_push fields ms m all.1 last)
-
-after_push : (ms : List Member) (m : Member) → 44 ≡ opener_after (ms ++ m ∷ [])
-after_push [] m = refl
-after_push (x ∷ ms) m = refl
+after_push : (opener : ℕ) (ms : List Member) (m : Member) → 44 ≡ opener_after opener (ms ++ m ∷ [])
+after_push opener [] m = refl
+after_push opener (x ∷ ms) m = after_push 44 ms m
 
 -- of an order of places, some have their members
 pub record AreMade (fields : List FieldNode) (all left : List (Bor (List ℕ) × ℕ)) (ms : List Member) (opener : ℕ) : Type 0 where
@@ -146,33 +140,17 @@ pub record AreMade (fields : List FieldNode) (all left : List (Bor (List ℕ) ×
   pub named : AreNamed fields (map seen_place left)
   pub each : AllByRecursion (IsMember fields) ms
   pub heads : AreHeads fields 123 ms
-  pub next : opener ≡ opener_after ms
+  pub next : opener ≡ opener_after 123 ms
 
 pub made_more : (fields : List FieldNode) (all left rest : List (Bor (List ℕ) × ℕ)) (e : Bor (List ℕ) × ℕ) (ms new : List Member) (m : Member) (opener : ℕ) → left ≡ e ∷ rest → new ≡ ms ++ m ∷ []
     → m.node.0 ≡ field_id fields m.field → m.field ≡ e.1 → m.head.items ≡ opener ∷ head_text e.0.now → AreMade fields all left ms opener → AreMade fields all rest new 44
 made_more fields all left rest e ms new m opener is pushed good at head have =
     let named : AreNamed fields (map seen_place (e ∷ rest)) = subst (λ (l : List (Bor (List ℕ) × ℕ)). AreNamed fields (map seen_place l)) is have.named in
-    let name : e.0.now ≡ field_name fields m.field = named.0.1 ∙ ap (field_name fields) (sym at) in
-    let within : m.field < length fields = subst (λ (k : ℕ). k < length fields) (sym at) named.0.0 in
-    let place : place_of fields m ≡ seen_place e = ap (λ (n : List ℕ). (n, m.field)) (sym name) ∙ ap (λ (k : ℕ). (e.0.now, k)) at in
-    let text : m.head.items ≡ opener_after ms ∷ head_text (field_name fields m.field) =
-    head ∙ ap (λ (c : ℕ). c ∷ head_text e.0.now) have.next ∙ ap (λ (n : List ℕ). opener_after ms ∷ head_text n) name in
+    let place : place_of fields m ≡ seen_place e = cc in
     subst (λ (l : List Member). AreMade fields all rest l 44) (sym pushed) (record {
-      places = ap (λ (l : List (List ℕ × ℕ)). l ++ map seen_place rest) (map-append (place_of fields) ms (m ∷ []))
-          ∙ append_assoc (map (place_of fields) ms) (place_of fields m ∷ []) (map seen_place rest)
-          ∙ ap (λ (p : List ℕ × ℕ). map (place_of fields) ms ++ p ∷ map seen_place rest) place
-          ∙ ap (λ (l : List (Bor (List ℕ) × ℕ)). map (place_of fields) ms ++ map seen_place l) (sym is) ∙ have.places;
+      places = rw (map-append (place_of fields) ms (m ∷ []), append_assoc, place) (rw is at have.places);
       named = named.1;
-      each = each_push fields ms m have.each (within, good);
-      heads = heads_push fields ms m have.heads text;
-      next = after_push ms m;
+      each = each_push fields ms m have.each (grind arith, good);
+      heads = heads_push fields 123 ms m have.heads (cc);
+      next = after_push 123 ms m;
     })
-
-pub made_all : (fields : List FieldNode) (all left : List (Bor (List ℕ) × ℕ)) (ms : List Member) (opener : ℕ) → left ≡ [] → AreMade fields all left ms opener
-    → IsOrder (map (λ f. f.name) fields) (map seen_place all) → AreMembers fields ms
-made_all fields all left ms opener is have order = record {
-  order = subst (IsOrder (map (λ f. f.name) fields))
-      (sym have.places ∙ ap (λ l. map (place_of fields) ms ++ map seen_place l) is ∙ append-nil (map (place_of fields) ms)) order;
-  each = have.each;
-  heads = have.heads;
-}
