@@ -69,12 +69,6 @@ in_order-insert tree (e ∷ es) k i = in_order-match tree (key_cmp k e.0) _ _ _ 
 abbrev pub AreLeft : List (List ℕ) → ℕ → List (List ℕ) → List (Bor (List ℕ) × ℕ) → Type 0
 AreLeft all i left es = (tree : ℕ → Data) → put_each tree i left (in_order tree (map seen_place es)) ≡ put_each tree 0 all no_members
 
-pub left_more : (all left rest : List (List ℕ)) (i : ℕ) (es new : List (Bor (List ℕ) × ℕ)) (k : Bor (List ℕ)) → left ≡ k.now ∷ rest → new ≡ insert_entry key_cmp es k i
-    → AreLeft all i left es → AreLeft all (i + 1) rest new
-left_more all left rest i es new k is inserted have tree =
-    ap (λ ms. put_each tree (i + 1) rest ms) (ap (λ l. in_order tree (map seen_place l)) inserted ∙ in_order-insert tree es k i)
-    ∙ ap (λ l. put_each tree i l (in_order tree (map seen_place es))) (sym is) ∙ have tree
-
 pub left_none : (all left : List (List ℕ)) (i : ℕ) (es : List (Bor (List ℕ) × ℕ)) → left ≡ [] → AreLeft all i left es → IsOrder all (map seen_place es)
 left_none all left i es is have tree = ap (λ l. put_each tree i l (in_order tree (map seen_place es))) (sym is) ∙ have tree
 
@@ -92,9 +86,13 @@ all_insert P (e ∷ es) k i all here =
     all_match P (key_cmp k e.0) _ _ _ (λ less. (here, all)) (λ equal. (subst (λ (n : List ℕ). P (n, i)) (exact_bytes k.now e.0.now equal) here, all.1))
     (λ greater. (all.0, all_insert P es k i all.1 here))
 
-pub all_more : (P : List ℕ × ℕ → Type 0) (es new : List (Bor (List ℕ) × ℕ)) (k : Bor (List ℕ)) (i : ℕ) → new ≡ insert_entry key_cmp es k i → AllByRecursion P (map seen_place es) → P (k.now, i)
-    → AllByRecursion P (map seen_place new)
-all_more P es new k i is all here = subst (λ (l : List (Bor (List ℕ) × ℕ)). AllByRecursion P (map seen_place l)) (sym is) (all_insert P es k i all here)
+-- the next key is inserted
+pub placed_more : (P : List ℕ × ℕ → Type 0) (all left rest : List (List ℕ)) (i : ℕ) (es new : List (Bor (List ℕ) × ℕ)) (k : Bor (List ℕ)) → left ≡ k.now ∷ rest → new ≡ insert_entry key_cmp es k i → P (k.now, i)
+    → AreLeft all i left es × AllByRecursion P (map seen_place es) → AreLeft all (i + 1) rest new × AllByRecursion P (map seen_place new)
+placed_more P all left rest i es new k is inserted here (have, each) = rw inserted (
+  λ tree. rw (in_order-insert tree es k i) (rw is at (have tree)),
+  all_insert P es k i each here,
+)
 
 -- the names of fields from an index on
 abbrev pub names_past : List Field → ℕ → List (List ℕ)

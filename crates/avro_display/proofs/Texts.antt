@@ -13,7 +13,7 @@ use Rattle.avro_display.specs.DisplayTree.{branch_key, branch_tree}
 use Rattle.avro_display.specs.Table.{head_text, opening_of}
 
 -- one token is written
-print_one : (t : Token) → print (t ∷ []) ≡ token_text t
+pub print_one : (t : Token) → print (t ∷ []) ≡ token_text t
 unfolding print_from
 print_one t = append-nil (token_text t)
 
