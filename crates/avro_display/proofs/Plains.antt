@@ -65,11 +65,8 @@ module _ (nodes : List Node) (p : PlainPart) where
   opened_items vs n d is count shown =
       let item = part_at nodes (items_node (plain_node nodes p)) in (
         display_items nodes item vs,
-        shown ∙ ap (display_tree nodes (plain_node nodes p)) is,
-        (
-          count_items nodes item vs ∙ sym count,
-          λ i within. let here : i < values_count vs = subst (λ (m : ℕ). i < m) count within in (vs, is, here, each_item nodes item vs i here),
-        ),
+        rw is at shown,
+        (count_items nodes item vs ∙ sym count, λ i within. let here : i < values_count vs = omega arith in (vs, is, here, each_item nodes item vs i here)),
       )
 
   pub opened_entries : (es : Entries) (n : ℕ) (d : Data) → plain_value p ≡ Value.map_of es → n ≡ entries_count es → d ≡ display_tree nodes (plain_node nodes p) (plain_value p)

@@ -17,11 +17,6 @@ pub print_one : (t : Token) → print (t ∷ []) ≡ token_text t
 unfolding print_from
 print_one t = append-nil (token_text t)
 
-pub written_one : (held before items : List ℕ) (old new : List Token) (t : Token) → before ≡ held → old ≡ [] → new ≡ old ++ t ∷ [] → items ≡ before ++ print new
-    → items ≡ held ++ token_text t
-written_one held before items old new t stays none more is =
-    is ∙ ap (λ b. b ++ print new) stays ∙ ap (λ ts. held ++ print ts) (more ∙ ap (λ ts. ts ++ t ∷ []) none) ∙ ap (λ w. held ++ w) (print_one t)
-
 same_some : {A : Type 0} {a b : A} → Some a ≡ Some b → a ≡ b
 same_some e = cc (e)
 

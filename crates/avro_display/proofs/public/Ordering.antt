@@ -26,10 +26,8 @@ module _ (nodes : List Node) where
   put_fields tree i (f ∷ fields) no_values ms are = refl
   put_fields tree i (f ∷ fields) (value v vs) ms are =
       let here : i + 0 ≡ i = omega arith in
-      let first : tree i ≡ display_tree nodes (node_at nodes f.node) v = ap tree (sym here) ∙ are 0 in
-      put_fields tree (i + 1) fields vs (put f.name (tree i) ms)
-      (λ j. let next : i + 1 + j ≡ i + suc j = omega arith in ap tree next ∙ are (suc j))
-      ∙ ap (λ d. display_fields nodes fields vs (put f.name d ms)) first
+      let first : tree i ≡ display_tree nodes (node_at nodes f.node) v = rw here at (are 0) in
+      rw (← first) (put_fields tree (i + 1) fields vs (put f.name (tree i) ms) (λ j. let next : i + 1 + j ≡ i + suc j = omega arith in rw next (are (suc j))))
 
   -- of fewer values than fields, those that there are
   pub first_fields : (fields : List FieldNode) (vs : Values)
@@ -52,27 +50,21 @@ module _ (nodes : List Node) (n : Node) where
   put_entries tree i no_entries ms are = refl
   put_entries tree i (entry k v es) ms are =
       let here : i + 0 ≡ i = omega arith in
-      let first : tree i ≡ display_tree nodes n v = ap tree (sym here) ∙ are 0 in
-      put_entries tree (i + 1) es (put k (tree i) ms) (λ j. let next : i + 1 + j ≡ i + suc j = omega arith in ap tree next ∙ are (suc j))
-      ∙ ap (λ d. display_entries nodes n es (put k d ms)) first
+      let first : tree i ≡ display_tree nodes n v = rw here at (are 0) in
+      rw (← first) (put_entries tree (i + 1) es (put k (tree i) ms) (λ j. let next : i + 1 + j ≡ i + suc j = omega arith in rw next (are (suc j))))
 
   pub all_entries : (es : Entries) → put_each (entry_tree nodes n es) 0 (keys_of es) no_members ≡ display_entries nodes n es no_members
   all_entries es = put_entries (entry_tree nodes n es) 0 es no_members (λ j. let same : 0 + j ≡ j = omega arith in ap (entry_tree nodes n es) same)
 
 -- ---- the text of an object of members
 
+head_at : (name : List ℕ) (opener : ℕ) (text left right : List ℕ) → left ≡ right → (opener ∷ (quoted name ++ 58 ∷ [])) ++ (text ++ left) ≡ opener ∷ (quoted name ++ 58 ∷ (text ++ right))
+head_at name opener text left right same = ap (λ (l : List ℕ). opener ∷ l) (append_assoc (quoted name) (58 ∷ []) (text ++ left)) ∙ ap (λ (l : List ℕ). opener ∷ (quoted name ++ 58 ∷ (text ++ l))) same
+
 later_members : (fields : List FieldNode) (tree : ℕ → Data) (ms : List Member) → AreHeads fields 44 ms → members_left tree ms ≡ members_text true (in_order tree (map (place_of fields) ms))
 later_members fields tree [] heads = refl
-later_members fields tree (m ∷ ms) heads =
-    let name = field_name fields m.field in
-    ap (λ (l : List ℕ). l ++ (compact_text (tree m.field) ++ members_left tree ms)) heads.0
-    ∙ ap (λ (l : List ℕ). 44 ∷ l) (append_assoc (quoted name) (58 ∷ []) (compact_text (tree m.field) ++ members_left tree ms)
-    ∙ ap (λ (l : List ℕ). quoted name ++ 58 ∷ (compact_text (tree m.field) ++ l)) (later_members fields tree ms heads.1))
+later_members fields tree (m ∷ ms) heads = rw heads.0 (head_at (field_name fields m.field) 44 (compact_text (tree m.field)) _ _ (later_members fields tree ms heads.1))
 
 pub all_members : (fields : List FieldNode) (tree : ℕ → Data) (ms : List Member) → AreHeads fields 123 ms → compact_text (object (in_order tree (map (place_of fields) ms))) ≡ object_text tree ms
 all_members fields tree [] heads = refl
-all_members fields tree (m ∷ ms) heads =
-    let name = field_name fields m.field in
-    sym (ap (λ (l : List ℕ). l ++ (compact_text (tree m.field) ++ members_left tree ms)) heads.0
-    ∙ ap (λ (l : List ℕ). 123 ∷ l) (append_assoc (quoted name) (58 ∷ []) (compact_text (tree m.field) ++ members_left tree ms)
-    ∙ ap (λ (l : List ℕ). quoted name ++ 58 ∷ (compact_text (tree m.field) ++ l)) (later_members fields tree ms heads.1)))
+all_members fields tree (m ∷ ms) heads = rw heads.0 (sym (head_at (field_name fields m.field) 123 (compact_text (tree m.field)) _ _ (later_members fields tree ms heads.1)))
