@@ -1,7 +1,7 @@
 -- Data of nodes, as they are opened.
-use Rattle.std.proofs.Common.{◌≡◌, ◌<◌, ◌≤◌, ℕ, zero, suc, List, [], ◌∷◌, get_or, length, map, take, Option, Some, None, inl, inr, refl, sym, ap, subst, ◌∙◌, arith, max}
+use Rattle.std.proofs.Common.{◌≡◌, ◌<◌, ◌≤◌, ℕ, zero, suc, List, [], ◌∷◌, get_or, length, map, take, Some, inl, inr, refl, sym, ap, subst, ◌∙◌, arith}
 use Rattle.std.specs.List.{AllByRecursion}
-use Rattle.std.specs.Prelude.{IfSome, String, slice_get, string_bytes, option_map, unwrap_or}
+use Rattle.std.specs.Prelude.{String, slice_get, string_bytes, option_map, unwrap_or}
 use Rattle.std.specs.declared.alloc.Global.{Global}
 use Rattle.std.specs.Global.{Box, Vec}
 use Rattle.avro_schema.specs.Seen.{entries_of, seen_fields, value_of, values_of, view_step}
@@ -21,7 +21,7 @@ use Rattle.serde_json.specs.Written.{compact_text}
 use Rattle.avro_display.specs.Displayed.{EntriesAre, ItemsAre, item_at, items_count, object_text}
 use Rattle.avro_display.specs.DisplayTree.{display_fields, display_items, display_tree, part_at, record_fields}
 use Rattle.avro_display.specs.Order.{put_each}
-use Rattle.avro_display.specs.Plain.{PlainPart, plain_entry, plain_item, plain_levels, plain_member, plain_node, plain_value}
+use Rattle.avro_display.specs.Plain.{PlainPart, plain_entry, plain_item, plain_member, plain_node, plain_value}
 use Rattle.avro_display.specs.Table.{AreMembers, entry_at, IsMember, entry_tree, field_id, field_tree, place_of, value_at}
 use Rattle.avro_display.specs.declared.member.Member.{Member}
 use Rattle.avro_display.proofs.public.Ordering.{all_entries, all_members, first_fields, name_of, ordered_fields}
@@ -75,7 +75,7 @@ module _ (nodes : List Node) (p : PlainPart) where
       let item = part_at nodes (values_node (plain_node nodes p)) in (
         keys_of es,
         entry_tree nodes item es,
-        shown ∙ ap (display_tree nodes (plain_node nodes p)) is ∙ ap object (sym (all_entries nodes item es)),
+        rw all_entries (rw is at shown),
         (count_keys es ∙ sym count, λ i k got. inl (es, is, got, refl)),
       )
 

@@ -1,11 +1,9 @@
 -- The text of a display, part by part.
-use Rattle.std.proofs.Common.{◌≡◌, ◌<◌, ℕ, zero, suc, List, [], ◌∷◌, ◌++◌, length, false, Some, refl, sym, ap, ◌∙◌, arith, append_assoc, append-nil}
-use Rattle.std.specs.Prelude.{String}
-use Rattle.std.specs.declared.alloc.Global.{Global}
+use Rattle.std.proofs.Common.{◌≡◌, ℕ, suc, List, [], ◌∷◌, ◌++◌, length, false, Some, refl, sym, ap, ◌∙◌, append_assoc, append-nil}
 use Rattle.json.specs.Print.{print, print_from, quoted, token_text}
 use Rattle.json.specs.Token.{Token}
 use Rattle.avro_schema.specs.Node.{Node}
-use Rattle.avro_schema.specs.Seen.{values_of, seen_fields}
+use Rattle.avro_schema.specs.Seen.{seen_fields}
 use Rattle.avro_schema.specs.declared.schema.Field.{Field}
 use Rattle.serde_json.specs.Data.{Data, member, no_members}
 use Rattle.serde_json.specs.Written.{compact_text, members_text}

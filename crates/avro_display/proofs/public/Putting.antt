@@ -1,5 +1,5 @@
 -- Text that goes out in pieces, one part after another.
-use Rattle.std.proofs.Common.{◌≡◌, ℕ, List, [], ◌++◌, Result, Ok, Err, refl, sym, ap, subst, ◌∙◌, append_assoc, append-nil}
+use Rattle.std.proofs.Common.{◌≡◌, ℕ, List, [], ◌++◌, Result, Ok, Err, refl, sym, ap, subst, ◌∙◌, append_assoc}
 use Rattle.std.specs.Prelude.{OnOk}
 use Rattle.avro_display.specs.Pieces.{PutsText}
 
@@ -15,10 +15,6 @@ module _ {O : Type 0} (keeps : O → List ℕ → O → Type 0) where
   -- what was appended before is held
   pub puts_opened : (s t : O) (held front rest text left : List ℕ) → text ≡ held ++ front → PutsText keeps s text rest t left → PutsText keeps s held (front ++ rest) t left
   puts_opened s t held front rest text left has (put, kept, is) = (put, kept, sym (append_assoc held front rest) ∙ ap (λ b. b ++ rest) (sym has) ∙ is)
-
-  -- what was appended is put, or held
-  pub puts_appended : (s t : O) (held bytes text left : List ℕ) → text ≡ held ++ bytes → PutsText keeps s text [] t left → PutsText keeps s held bytes t left
-  puts_appended s t held bytes text left has (put, kept, is) = (put, kept, sym has ∙ sym (append-nil text) ∙ is)
 
   module _ (chain : (s t u : O) (front back : List ℕ) → keeps s front t → keeps t back u → keeps s (front ++ back) u) where
     -- of what is left, some is held now, and the next part is put then

@@ -10,10 +10,9 @@ use Rattle.avro_display.proofs.display.put_line.Goals as goal
 pub returns-clause-put : goal.returns-clause-put
 returns-clause-put g c =
     let nodes = schema_nodes c.args.table.now in
+    let value = value_of c.args.datum.now in
     let old = c.args.text.now in
-    let shown = display_text nodes (node_at nodes c.root-root.result.0) (value_of c.args.datum.now) in
     let root : node_at nodes c.root-root.result.0 ≡ root_of nodes = ap (node_at nodes) (search rules) in
-    on_ok (λ step. subst (λ n. PutsText g.O.Output.keeps c.args.out.now old (display_text nodes n (value_of c.args.datum.now) ++ 10 ∷ []) c.put_byte.new.out c.put_byte.new.text) root
-    (puts_both g.O.Output.keeps g.met.O.Output.chain c.args.out.now c.put_datum.new.out c.put_byte.new.out old shown c.put_datum.new.text (10 ∷ []) c.put_byte.new.text
-    c.in_ok-put_datum.ensures.put step))
+    on_ok (λ step. subst (λ n. PutsText g.O.Output.keeps c.args.out.now old (display_text nodes n value ++ 10 ∷ []) c.put_byte.new.out c.put_byte.new.text) root
+    (puts_both g.O.Output.keeps g.met.O.Output.chain _ _ _ old (display_text nodes (node_at nodes c.root-root.result.0) value) _ _ _ c.in_ok-put_datum.ensures.put step))
     c.put_byte.result c.put_byte.ensures.put

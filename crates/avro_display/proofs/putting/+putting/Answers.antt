@@ -102,10 +102,8 @@ put_members-returns-clause-put g t c = λ tree are.
 
 pub put_branch-returns-clause-put : goal.put_branch-returns-clause-put
 put_branch-returns-clause-put g t c = λ d is.
-    on_ok (λ step. puts_opened g.O.Output.keeps c.args.out.now c.put_byte.new.out c.args.text.now c.args.opening.now (compact_text d ++ 125 ∷ [])
-    c.append.new.self c.put_byte.new.text c.in_ok-append.ensures
-    (puts_both g.O.Output.keeps g.met.O.Output.chain c.args.out.now c.put_displayed.new.out c.put_byte.new.out c.append.new.self (compact_text d)
-    c.put_displayed.new.text (125 ∷ []) c.put_byte.new.text (c.in_ok-put_displayed.ensures.put d is) step))
+    on_ok (λ step. puts_opened g.O.Output.keeps _ _ c.args.text.now c.args.opening.now (compact_text d ++ 125 ∷ []) _ _ c.in_ok-append.ensures
+    (puts_both g.O.Output.keeps g.met.O.Output.chain _ _ _ c.append.new.self (compact_text d) _ _ _ (c.in_ok-put_displayed.ensures.put d is) step))
     c.put_byte.result c.put_byte.ensures.put
 
 pub put_displayed-returns-in-Entries-clause-put : goal.put_displayed-returns-in-Entries-clause-put
