@@ -1,5 +1,5 @@
 -- Text that goes out in pieces, one part after another.
-use Rattle.std.proofs.Common.{◌≡◌, ℕ, List, [], ◌++◌, Result, Ok, Err, refl, sym, ap, subst, ◌∙◌, append_assoc}
+use Rattle.std.proofs.Common.{◌≡◌, ℕ, List, [], ◌++◌, Result, Ok, Err, refl, sym, ap, ◌∙◌, append_assoc}
 use Rattle.std.specs.Prelude.{OnOk}
 use Rattle.avro_display.specs.Pieces.{PutsText}
 
@@ -41,8 +41,3 @@ module _ {O : Type 0} (keeps : O → List ℕ → O → Type 0) where
       chain s t u put more kept later,
       sym (append_assoc held first second) ∙ ap (λ b. b ++ second) all ∙ append_assoc put text second ∙ ap (λ b. put ++ b) cut ∙ sym (append_assoc put more then),
     )
-
-    -- what is held is put at last
-    pub puts_all : (s t u : O) (held whole left : List ℕ) → held ≡ [] → PutsText keeps s held whole t left → keeps t left u → keeps s whole u
-    puts_all s t u held whole left none (put, kept, is) last =
-        subst (λ (b : List ℕ). keeps s b u) (sym is ∙ ap (λ (h : List ℕ). h ++ whole) none) (chain s t u put left kept last)
