@@ -17,15 +17,7 @@ use Rattle.avro_display.proofs.public.Ordering.{all_members, ordered_fields}
 -- ---- Levels
 
 pub below_more : {P : Type 0} (levels : P → ℕ) (a b : ℕ) (o : Opened P) → a ≤ b → AreBelow levels a o → AreBelow levels b o
-below_more levels a b Opened.Null low below = tt
-below_more levels a b (Opened.Bool x) low below = tt
-below_more levels a b (Opened.Number x) low below = tt
-below_more levels a b (Opened.Bytes x) low below = tt
-below_more levels a b (Opened.Text x) low below = tt
-below_more levels a b (Opened.Branch x p) low below = omega (arith, low, below)
-below_more levels a b (Opened.Items p x) low below = omega (arith, low, below)
-below_more levels a b (Opened.Entries p x) low below = omega (arith, low, below)
-below_more levels a b (Opened.Members p x) low below = omega (arith, low, below)
+below_more levels a b o low below = grind arith
 
 module _ (nodes : List Node) where
   -- ---- Items
@@ -35,9 +27,9 @@ module _ (nodes : List Node) where
   items_shown n (value u us) = ap suc (items_shown n us)
 
   pub item_shown : (n : Node) (us : Values) (i : ℕ) → i < values_count us → item_at (display_items nodes n us) i ≡ display_tree nodes n (value_at us i)
-  item_shown n no_values i low = absurd (omega (arith, low))
+  item_shown n no_values i low = grind arith
   item_shown n (value u us) zero low = refl
-  item_shown n (value u us) (suc i) low = item_shown n us i (omega (arith, low))
+  item_shown n (value u us) (suc i) low = grind (arith, item_shown n us i)
 
   -- ---- Fields that lack values
 
@@ -53,17 +45,17 @@ module _ (nodes : List Node) where
   put_fields tree i [] (value v vs) ms are = refl
   put_fields tree i (f ∷ fields) (value v vs) ms are =
       let here : i + 0 ≡ i = omega arith in
-      let first : tree i ≡ display_tree nodes (node_at nodes f.node) v = ap tree (sym here) ∙ are 0 in
-      put_fields tree (i + 1) fields vs (put f.name (tree i) ms) (λ j. let next : i + 1 + j ≡ i + suc j = omega arith in ap tree next ∙ are (suc j))
-      ∙ ap (λ d. display_fields nodes fields vs (put f.name d ms)) first
+      let first : tree i ≡ display_tree nodes (node_at nodes f.node) v = cc (here, are 0) in
+      put_fields tree (i + 1) fields vs (put f.name (tree i) ms) (λ j. let next : i + 1 + j ≡ i + suc j = omega arith in cc (next, are (suc j)))
+      ∙ cc first
 
   pub fields_shown : (fields : List FieldNode) (vs : Values) → put_each (field_tree nodes fields vs) 0 (names_shown fields vs) no_members ≡ display_fields nodes fields vs no_members
   fields_shown fields vs = put_fields (field_tree nodes fields vs) 0 fields vs no_members (λ j. let same : 0 + j ≡ j = omega arith in ap (field_tree nodes fields vs) same)
 
   pub names_counted : (fields : List FieldNode) (vs : Values) → values_count vs ≤ length fields → length (names_shown fields vs) ≡ values_count vs
   names_counted fields no_values low = refl
-  names_counted [] (value v vs) low = absurd (omega (arith, low))
-  names_counted (f ∷ fields) (value v vs) low = ap suc (names_counted fields vs (omega (arith, low)))
+  names_counted [] (value v vs) low = grind arith
+  names_counted (f ∷ fields) (value v vs) low = grind (arith, names_counted fields vs)
 
   pub name_of_field : (fields : List FieldNode) (vs : Values) (i : ℕ) (k : List ℕ) → slice_get (names_shown fields vs) i ≡ Some k → (f : FieldNode) × (slice_get fields i ≡ Some f) × (k ≡ f.name)
   name_of_field fields no_values i k e = absurd cc
@@ -72,7 +64,7 @@ module _ (nodes : List Node) where
   name_of_field (f ∷ fields) (value v vs) (suc i) k e = name_of_field fields vs i k e
 
   pub field_shown : (fields : List FieldNode) (vs : Values) (i : ℕ) (f : FieldNode) → slice_get fields i ≡ Some f → field_tree nodes fields vs i ≡ display_tree nodes (node_at nodes f.node) (value_at vs i)
-  field_shown fields vs i f there = ap (λ (o : Option FieldNode). display_tree nodes (node_at nodes (unwrap_or (option_map (λ f. f.node) o) 0)) (value_at vs i)) there
+  field_shown fields vs i f there = cc there
 
   -- ---- Members
 

@@ -19,31 +19,7 @@ use Rattle.avro_resolve.specs.declared.plan.plan_pair.PlanPair.{PlanPair}
 use Rattle.avro_display.specs.Table.{entry_at, value_at}
 use Rattle.avro_show.specs.Showing.{AreEntries, AreFields, AreItems, IsAt, IsTaken, IsWritten, reader_node, writer_node}
 use Rattle.avro_show.specs.Taken.{is_union, taken_as}
-use Rattle.avro_show.proofs.Made.{entries_at, field_found, field_past, field_there, from_default, from_source, inside_ok, is_field, items_at, record_ok, source_past, unmapped}
-
--- a datum in no union is taken by what the nodes lead to
-pub leads : (writer reader : List Node) (w r : Node) (v : Value) → is_union v ≡ false → resolve writer reader w r v ≡ through writer reader w r (taken_as writer reader w v)
-leads writer reader w r Value.null plain = refl
-leads writer reader w r (Value.boolean b) plain = refl
-leads writer reader w r (Value.int i) plain = refl
-leads writer reader w r (Value.long i) plain = refl
-leads writer reader w r (Value.bytes b) plain = refl
-leads writer reader w r (Value.string t) plain = refl
-leads writer reader w r (Value.array vs) plain = refl
-leads writer reader w r (Value.map_of es) plain = refl
-leads writer reader w r (Value.union k v) plain = absurd (cc (plain))
-leads writer reader w r (Value.record_of vs) plain = refl
-leads writer reader w r (Value.enum k) plain = refl
-leads writer reader w r (Value.fixed b) plain = refl
-
--- what is in a writer's union
-pub union_left : (s : Schema × Schema) (p q : PlanPair) (v x u : Value) (k : ℕ) → v ≡ Value.union k x → q.w.0 ≡ branch_id (writer_node s p) k → q.r ≡ p.r
-    → IsWritten s p v u → IsWritten s q x u
-union_left s p q v x u k is of_writer of_reader e =
-    let inner = inside_ok 0 (resolve (schema_nodes s.0) (schema_nodes s.1) (node_at (schema_nodes s.0) (branch_id (writer_node s p) k)) (reader_node s p) x) u
-    (subst (λ (y : Value). IsWritten s p y u) is e) in
-    ap (λ (i : ℕ). resolve (schema_nodes s.0) (schema_nodes s.1) (node_at (schema_nodes s.0) i) (reader_node s q) x) of_writer
-    ∙ ap (λ (i : NodeId). resolve (schema_nodes s.0) (schema_nodes s.1) (node_at (schema_nodes s.0) (branch_id (writer_node s p) k)) (node_at (schema_nodes s.1) i.0) x) of_reader ∙ inner
+use Rattle.avro_show.proofs.Made.{entries_at, field_found, field_past, field_there, from_default, from_source, is_field, items_at, record_ok, source_past, unmapped}
 
 -- what a pair that leads to another makes of a datum in no union
 module _ (s : Schema × Schema) (p q : PlanPair) (v u : Value) (aim : Aim) (id : NodeId) where

@@ -1,6 +1,6 @@
 -- Data at an index.
 use Rattle.std.proofs.Common.{◌≡◌, ◌∙◌, ℕ, zero, suc, ◌<◌, ◌≤◌, List, [], ◌∷◌, length, Some, None, refl, sym, ap, arith}
-use Rattle.std.specs.Prelude.{String, slice_get, string_bytes}
+use Rattle.std.specs.Prelude.{String, get_or, slice_get, string_bytes}
 use Rattle.std.specs.Global.{Vec}
 use Rattle.std.specs.declared.alloc.Global.{Global}
 use Rattle.std.proofs.Math.Nat.{le-max_left, le-max_right}
@@ -17,35 +17,22 @@ use Rattle.avro_compare.specs.Resolve.{fields_at}
 use Rattle.avro_display.specs.Table.{entry_at, value_at}
 use Rattle.avro_show.specs.Showing.{default_depth, defaults_depth, fields_depth}
 
-pub value_there : (xs : List Datum) (k : ℕ) (x : Datum) → slice_get xs k ≡ Some x
+pub value_there : (xs : List Datum) (k : ℕ) (x : Datum) → k < length xs → x ≡ get_or xs k x
     → (k < values_count (values_of xs)) × (value_at (values_of xs) k ≡ value_of x) × (depth (value_of x) ≤ values_depth (values_of xs))
-value_there [] k x e = absurd cc
-value_there (y ∷ xs) zero x e =
-    let same : y ≡ x = cc in
-    let low = le-max_left (depth (value_of y)) (values_depth (values_of xs)) in
-    let depths : depth (value_of y) ≡ depth (value_of x) = ap (λ d. depth (value_of d)) same in
-    (omega arith, ap value_of same, omega (arith, low, depths))
-value_there (y ∷ xs) (suc k) x e =
-    let later = value_there xs k x e in
-    let low = le-max_right (depth (value_of y)) (values_depth (values_of xs)) in
-    (omega (arith, later.0), later.1, omega (arith, low, later.2))
+value_there [] k x low e = grind arith
+value_there (y ∷ xs) zero x low e = grind arith
+value_there (y ∷ xs) (suc k) x low e = grind (arith, value_there xs k x)
 
 pub count_values : (xs : List Datum) → values_count (values_of xs) ≡ length xs
 count_values [] = refl
 count_values (x ∷ xs) = ap suc (count_values xs)
 
-pub entry_there : (xs : List (String Global × Datum)) (k : ℕ) (x : String Global × Datum) → slice_get xs k ≡ Some x
+pub entry_there : (xs : List (String Global × Datum)) (k : ℕ) (x : String Global × Datum) → k < length xs → x ≡ get_or xs k x
     → (k < entries_count (entries_of xs)) × (entry_at (entries_of xs) k ≡ value_of x.1) × (depth (value_of x.1) ≤ entries_depth (entries_of xs))
-entry_there [] k x e = absurd cc
-entry_there (y ∷ xs) zero x e =
-    let same : y ≡ x = cc in
-    let low = le-max_left (depth (value_of y.1)) (entries_depth (entries_of xs)) in
-    let depths : depth (value_of y.1) ≡ depth (value_of x.1) = ap (λ (d : String Global × Datum). depth (value_of d.1)) same in
-    (omega arith, ap (λ (d : String Global × Datum). value_of d.1) same, omega (arith, low, depths))
-entry_there (y ∷ xs) (suc k) x e =
-    let later = entry_there xs k x e in
-    let low = le-max_right (depth (value_of y.1)) (entries_depth (entries_of xs)) in
-    (omega (arith, later.0), later.1, omega (arith, low, later.2))
+    × (slice_get (keys_of (entries_of xs)) k ≡ Some (string_bytes x.0))
+entry_there [] k x low e = grind arith
+entry_there (y ∷ xs) zero x low e = grind arith
+entry_there (y ∷ xs) (suc k) x low e = grind (arith, entry_there xs k x)
 
 pub count_entries : (xs : List (String Global × Datum)) → entries_count (entries_of xs) ≡ length xs
 count_entries [] = refl
@@ -55,15 +42,10 @@ pub count_keys : (es : Entries) → length (keys_of es) ≡ entries_count es
 count_keys Entries.no_entries = refl
 count_keys (Entries.entry k v es) = ap suc (count_keys es)
 
-pub key_there : (xs : List (String Global × Datum)) (k : ℕ) (x : String Global × Datum) → slice_get xs k ≡ Some x → slice_get (keys_of (entries_of xs)) k ≡ Some (string_bytes x.0)
-key_there [] k x e = absurd cc
-key_there (y ∷ xs) zero x e = let same : y ≡ x = cc in ap (λ (d : String Global × Datum). Some (string_bytes d.0)) same
-key_there (y ∷ xs) (suc k) x e = key_there xs k x e
-
 pub key_past : (xs : List (String Global × Datum)) (k : ℕ) → length xs ≤ k → slice_get (keys_of (entries_of xs)) k ≡ None
 key_past [] k past = refl
-key_past (y ∷ xs) zero past = absurd (omega (arith, past))
-key_past (y ∷ xs) (suc k) past = key_past xs k (omega (arith, past))
+key_past (y ∷ xs) zero past = grind arith
+key_past (y ∷ xs) (suc k) past = grind (arith, key_past xs k)
 
 pub count_seen : (fs : List Field) → length (seen_fields fs) ≡ length fs
 count_seen [] = refl
@@ -79,12 +61,12 @@ value_of-Record vs = ap value_of (sym (variants.rolls-Record vs)) ∙ fold-roll-
 -- ---- Defaults
 
 field_depth : (fs : List FieldNode) (i : ℕ) (f : FieldNode) → slice_get fs i ≡ Some f → default_depth f ≤ fields_depth fs
-field_depth [] i f e = absurd cc
-field_depth (g ∷ fs) zero f e = let same : default_depth g ≡ default_depth f = let is : g ≡ f = cc in ap default_depth is in omega (arith, same)
-field_depth (g ∷ fs) (suc i) f e = omega (arith, field_depth fs i f e)
+field_depth [] i f e = grind arith
+field_depth (g ∷ fs) zero f e = grind arith
+field_depth (g ∷ fs) (suc i) f e = grind (arith, field_depth fs i f)
 
 -- a default is within the depths of all
 pub default_within : (nodes : List Node) (k i : ℕ) (f : FieldNode) → slice_get (fields_at (node_at nodes k)) i ≡ Some f → default_depth f ≤ defaults_depth nodes
-default_within [] k i f e = absurd cc
-default_within (n ∷ nodes) zero i f e = omega (arith, field_depth (fields_at n) i f e)
-default_within (n ∷ nodes) (suc k) i f e = omega (arith, default_within nodes k i f e)
+default_within [] k i f e = grind arith
+default_within (n ∷ nodes) zero i f e = grind (arith, field_depth (fields_at n) i f)
+default_within (n ∷ nodes) (suc k) i f e = grind (arith, default_within nodes k i f)
