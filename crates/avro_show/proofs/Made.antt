@@ -1,15 +1,15 @@
 -- What a datum is for a reader, part by part.
-use Rattle.std.proofs.Common.{◌≡◌, ◌∙◌, ℕ, zero, suc, ◌+◌, ◌<◌, ◌≤◌, true, List, [], ◌∷◌, length, map, Option, Some, None, Result, Ok, Err, refl, sym, ap, subst, arith}
-use Rattle.std.specs.Prelude.{◌==◌, bytes_eq, slice_get, unwrap_or}
+use Rattle.std.proofs.Common.{◌≡◌, ℕ, zero, suc, ◌+◌, ◌<◌, ◌≤◌, true, List, [], ◌∷◌, length, map, Option, Some, None, Result, Ok, Err, refl, subst, arith}
+use Rattle.std.specs.Prelude.{bytes_eq, slice_get, unwrap_or}
 use Rattle.std.specs.List.{flat_map}
-use Rattle.std.proofs.lemmas.Bool.{cond-true, cond-false, eq-eqb, ne_eqb}
+use Rattle.std.proofs.lemmas.Bool.{eq-eqb, ne_eqb}
 use Rattle.avro_schema.specs.Distinct.{are_distinct}
 use Rattle.avro_schema.specs.Node.{Node, FieldNode, node_at}
 use Rattle.avro_schema.specs.Value.{Value, Values, no_values, value, Entries, no_entries, entry, entries_count, keys_of, values_count}
 use Rattle.avro_schema.specs.WellFormed.{field_names}
 use Rattle.avro_compare.specs.Fault.{ResolutionFault}
 use Rattle.avro_compare.specs.Fields.{IsField, here, later}
-use Rattle.avro_compare.specs.Resolve.{Resolved, Sourced, both, inside, record_or_missing, field_value, field_values, resolve, resolve_entries, resolve_items, resolve_sources, result_map, sourced_at, with_sourced}
+use Rattle.avro_compare.specs.Resolve.{Resolved, Sourced, record_or_missing, field_value, field_values, resolve, resolve_entries, resolve_items, resolve_sources, result_map, sourced_at}
 use Rattle.avro_compare.specs.Source.{reader_field, source_of}
 use Rattle.avro_display.specs.Table.{entry_at, value_at}
 use Rattle.avro_compare.proofs.public.Sources.{reader_field-source}

@@ -3,7 +3,6 @@ use Rattle.std.proofs.Common.{◌≡◌, ◌∙◌, ℕ, zero, suc, ◌<◌, ◌
 use Rattle.std.specs.Prelude.{String, get_or, slice_get, string_bytes}
 use Rattle.std.specs.Global.{Vec}
 use Rattle.std.specs.declared.alloc.Global.{Global}
-use Rattle.std.proofs.Math.Nat.{le-max_left, le-max_right}
 use Rattle.avro_schema.specs.Node.{Node, FieldNode, node_at}
 use Rattle.avro_schema.specs.Seen.{entries_of, seen_fields, value_of, values_of, view_step}
 use Rattle.avro_schema.specs.Value.{Value, Entries, depth, entries_count, entries_depth, keys_of, values_count, values_depth}
