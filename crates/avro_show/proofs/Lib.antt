@@ -2,4 +2,3 @@ mod Values
 mod Made
 mod Taken
 mod Objects
-mod Texts

@@ -76,8 +76,7 @@ module _ (writer reader : List Node) (ws rs : List FieldNode) where
       → source_of ws f ≡ Some k → resolve_sources writer reader ws rs 0 vs ≡ Ok found → by_source k (value_at vs k) f ≡ Ok (sourced_at found k)
   field_found vs found k f low is distinct source e =
       let takes = reader_field-source ws rs k f is distinct source in
-      subst (λ (id : ℕ). resolve writer reader (node_at writer (unwrap_or (slice_get (map (λ g. g.node) ws) k) 0)) (node_at reader id) (value_at vs k) ≡ Ok (sourced_at found k)) takes.2
-      (source_found 0 vs found k k takes.0 low (omega arith) takes.1 e)
+      rw (← takes.2) (source_found 0 vs found k k takes.0 low (omega arith) takes.1 e)
 
 -- a field that is at an index is one of the fields
 pub is_field : (fs : List FieldNode) (k : ℕ) (f : FieldNode) → slice_get fs k ≡ Some f → IsField f fs
@@ -101,9 +100,6 @@ module _ (ws : List FieldNode) (found : Sourced) where
   field_past (g ∷ rs) zero past = grind arith
   field_past (g ∷ rs) (suc k) past = grind (arith, field_past rs k)
 
-  -- by its source, or its default
-  pub from_source : (f : FieldNode) (k : ℕ) → source_of ws f ≡ Some k → field_value ws found f ≡ sourced_at found k
-  from_source f k is = rw is refl
-
+  -- its default, if it has no source
   pub from_default : (f : FieldNode) → source_of ws f ≡ None → field_value ws found f ≡ unwrap_or f.default Value.null
   from_default f is = rw is refl

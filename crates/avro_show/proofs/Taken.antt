@@ -1,43 +1,20 @@
 -- What a pair of nodes makes of a datum, and its parts.
-use Rattle.std.proofs.Common.{◌≡◌, ◌∙◌, ℕ, ◌<◌, ◌≤◌, true, length, Some, None, Ok, refl, sym, subst, arith}
+use Rattle.std.proofs.Common.{◌≡◌, ℕ, ◌<◌, ◌≤◌, true, length, Some, None, refl, arith}
 use Rattle.std.specs.Prelude.{bytes_eq, slice_get, unwrap_or}
 use Rattle.std.specs.List.{flat_map}
 use Rattle.avro_schema.specs.Distinct.{are_distinct}
-use Rattle.avro_schema.specs.Node.{FieldNode, field_ids, node_at}
+use Rattle.avro_schema.specs.Node.{FieldNode, field_ids}
 use Rattle.avro_schema.specs.SeenSchema.{schema_nodes}
 use Rattle.avro_schema.specs.Value.{Value, Values, Entries, entries_count}
 use Rattle.avro_schema.specs.WellFormed.{field_names}
-use Rattle.avro_schema.specs.declared.schema.NodeId.{NodeId}
 use Rattle.avro_schema.specs.declared.schema.Schema.{Schema}
-use Rattle.avro_compare.specs.Pairs.{IsAim, item_id, value_id}
-use Rattle.avro_compare.specs.Resolve.{fields_at, resolve_sources, through}
+use Rattle.avro_compare.specs.Pairs.{item_id, value_id}
+use Rattle.avro_compare.specs.Resolve.{fields_at, resolve_sources}
 use Rattle.avro_compare.specs.Source.{missing_field, source_of}
-use Rattle.avro_compare.specs.declared.guided.Aim.{Aim}
-use Rattle.avro_compare.specs.declared.guided.Aim.TheVariants.{To}
 use Rattle.avro_resolve.specs.declared.plan.plan_pair.PlanPair.{PlanPair}
 use Rattle.avro_display.specs.Table.{entry_at, value_at}
 use Rattle.avro_show.specs.Showing.{AreEntries, AreFields, AreItems, IsAt, IsTaken, IsWritten, reader_node, writer_node}
-use Rattle.avro_show.specs.Taken.{taken_as}
 use Rattle.avro_show.proofs.Made.{entries_at, field_found, field_past, field_there, from_default, is_field, items_at, record_ok, source_past, unmapped}
-
--- what a pair that leads to another makes of a datum in no union
-module _ (s : Schema × Schema) (p q : PlanPair) (v u : Value) (aim : Aim) (id : NodeId) where
-  abbrev pub Through : Type 0
-  Through = through (schema_nodes s.0) (schema_nodes s.1) (writer_node s p) (reader_node s p) (taken_as (schema_nodes s.0) (schema_nodes s.1) (writer_node s p) v) ≡ Ok u
-
-  abbrev pub Aims : Type 0
-  Aims = IsAim (schema_nodes s.0) (schema_nodes s.1) (writer_node s p) (reader_node s p) aim
-
-  pub leads_plain : aim ≡ To None id → Aims → q.w ≡ p.w → q.r ≡ id → Through → IsTaken s q v u
-  leads_plain is aims of_writer of_reader e =
-      let led = aims (taken_as (schema_nodes s.0) (schema_nodes s.1) (writer_node s p) v) in
-      grind (arith, led)
-
-  pub leads_branch : (k : ℕ) → aim ≡ To (Some k) id → Aims → q.w ≡ p.w → q.r ≡ id → Through → (x : Value) × IsTaken s q v x × (Value.union k x ≡ u)
-  leads_branch k is aims of_writer of_reader e =
-      let all = unmapped (Value.union k) (taken_as (schema_nodes s.0) (schema_nodes s.1) (writer_node s p) v (node_at (schema_nodes s.1) id.0)) u
-      (sym (subst (λ (a : Aim). IsAim (schema_nodes s.0) (schema_nodes s.1) (writer_node s p) (reader_node s p) a) is aims (taken_as (schema_nodes s.0) (schema_nodes s.1) (writer_node s p) v)) ∙ e) in
-      (all.0, cc (all.1, of_writer, of_reader), all.2)
 
 module _ (s : Schema × Schema) (p below : PlanPair) (u : Value) where
   pub array_taken : (vs : Values) → below.w.0 ≡ item_id (writer_node s p) → below.r.0 ≡ item_id (reader_node s p) → IsTaken s p (Value.array vs) u

@@ -16,6 +16,7 @@ use avro_resolve::{PlanPair, PlanRef};
 use avro_schema::{Datum, Field, Node, NodeId};
 
 /// What the value at an index is for the reader; null if there is none.
+#[tactic(auto, using(crate::proofs::Values::value_there, crate::proofs::Values::count_values))]
 pub(crate) fn value_part<'a>(
     pair: PlanPair,
     id: Option<NodeId>,
@@ -50,6 +51,7 @@ pub(crate) fn entry_part<'a>(
 }
 
 /// The key of the entry at an index.
+#[tactic(auto, using(crate::proofs::Values::entry_there, crate::proofs::Values::key_past))]
 pub(crate) fn key_of(entries: &[(String, Datum)], index: usize) -> &str
     ensures { (k : List ℕ) → slice_get (keys_of (entries_of entries.now)) index ≡ Some k → result.now ≡ k }
 {
