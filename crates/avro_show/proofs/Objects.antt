@@ -46,8 +46,7 @@ module _ (nodes : List Node) where
   put_fields tree i (f ∷ fields) (value v vs) ms are =
       let here : i + 0 ≡ i = omega arith in
       let first : tree i ≡ display_tree nodes (node_at nodes f.node) v = cc (here, are 0) in
-      put_fields tree (i + 1) fields vs (put f.name (tree i) ms) (λ j. let next : i + 1 + j ≡ i + suc j = omega arith in cc (next, are (suc j)))
-      ∙ cc first
+      rw (← first) (put_fields tree (i + 1) fields vs (put f.name (tree i) ms) (λ j. let next : i + 1 + j ≡ i + suc j = omega arith in cc (next, are (suc j))))
 
   pub fields_shown : (fields : List FieldNode) (vs : Values) → put_each (field_tree nodes fields vs) 0 (names_shown fields vs) no_members ≡ display_fields nodes fields vs no_members
   fields_shown fields vs = put_fields (field_tree nodes fields vs) 0 fields vs no_members (λ j. let same : 0 + j ≡ j = omega arith in ap (field_tree nodes fields vs) same)

@@ -9,8 +9,8 @@ use Rattle.avro_schema.specs.Value.{Value, Values, Entries, entries_count}
 use Rattle.avro_schema.specs.WellFormed.{field_names}
 use Rattle.avro_schema.specs.declared.schema.Schema.{Schema}
 use Rattle.avro_compare.specs.Pairs.{item_id, value_id}
-use Rattle.avro_compare.specs.Resolve.{fields_at, resolve_sources}
-use Rattle.avro_compare.specs.Source.{missing_field, source_of}
+use Rattle.avro_compare.specs.Resolve.{fields_at}
+use Rattle.avro_compare.specs.Source.{source_of}
 use Rattle.avro_resolve.specs.declared.plan.plan_pair.PlanPair.{PlanPair}
 use Rattle.avro_display.specs.Table.{entry_at, value_at}
 use Rattle.avro_show.specs.Showing.{AreEntries, AreFields, AreItems, IsAt, IsTaken, IsWritten, reader_node, writer_node}
@@ -26,11 +26,7 @@ module _ (s : Schema × Schema) (p below : PlanPair) (u : Value) where
   map_taken es of_writer of_reader e = unmapped Value.map_of _ u (rw (of_writer, of_reader) e)
 
 pub record_taken : (s : Schema × Schema) (p : PlanPair) (u : Value) (vs : Values) → IsTaken s p (Value.record_of vs) u → (us : Values) × AreFields s p vs us × (Value.record_of us ≡ u)
-record_taken s p u vs e =
-    let ws = fields_at (writer_node s p) in
-    let rs = fields_at (reader_node s p) in
-    let found = record_ok ws rs (missing_field ws rs) (resolve_sources (schema_nodes s.0) (schema_nodes s.1) ws rs 0 vs) u e in
-    (_, (found.0, found.1, refl), found.2)
+record_taken s p u vs e = let found = record_ok _ _ _ _ u e in (_, (found.0, found.1, refl), found.2)
 
 -- ---- Parts
 

@@ -34,6 +34,7 @@ pub(crate) fn value_part<'a>(
 }
 
 /// What the value of the entry at an index is for the reader.
+#[tactic(auto, using(crate::proofs::Values::entry_there, crate::proofs::Taken::entry_is))]
 pub(crate) fn entry_part<'a>(
     pair: PlanPair,
     id: Option<NodeId>,

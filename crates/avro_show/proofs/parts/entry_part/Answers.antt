@@ -1,17 +1,8 @@
 use Rattle.std.proofs.Common.{arith}
-use Rattle.avro_display.specs.Table.{entry_at}
 use Rattle.avro_schema.specs.Seen.{entries_of}
 use Rattle.avro_show.proofs.Taken.{entry_is}
-use Rattle.avro_show.proofs.Values.{count_entries, entry_there}
+use Rattle.avro_show.proofs.Values.{count_entries}
 use Rattle.avro_show.proofs.parts.entry_part.Goals as goal
-
-pub returns-in-Some-clause-shows : goal.returns-in-Some-clause-shows
-returns-in-Some-clause-shows c = λ s t us d are shows.
-    let is = entry_is s c.args.pair (entries_of c.args.entries.now) us c.args.index are in
-    (entry_at us c.args.index, grind (arith, entry_there, is.0), shows)
-
-pub returns-in-Some-clause-levels : goal.returns-in-Some-clause-levels
-returns-in-Some-clause-levels c = grind (arith, entry_there)
 
 pub returns-in-None-clause-shows : goal.returns-in-None-clause-shows
 returns-in-None-clause-shows c = λ s t us d are shows.

@@ -12,8 +12,7 @@ pub returns-in-Some-source-clause-shows : goal.returns-in-Some-source-clause-sho
 returns-in-Some-source-clause-shows c = λ t us d all shows.
     let s = c.args.plan.now in
     let i = c.args.index in
-    let found = c.in-Some.ensures.lookup in
-    let there = rw (c.fields_of.ensures.seen, c.reader.ensures) at (seen_at c.fields_of.result.now i c.in-Some.field.now found.3.0 found.1) in
+    let there = rw (c.fields_of.ensures.seen, c.reader.ensures) at (seen_at c.fields_of.result.now i c.in-Some.field.now c.in-Some.ensures.lookup.3.0 c.in-Some.ensures.lookup.1) in
     let distinct = rw (c.fields_of.ensures.seen, c.reader.ensures) at c.fields_of.ensures.distinct in
     c.value_part.ensures.shows s t (value_at us i) d
     (source_is s c.args.pair (values_of c.args.values.now) us i all (field_of c.in-Some.field.now) there c.field.result c.in-Some-source.source distinct (sym (c.source.ensures there) ∙ c.in-Some-source.is)
@@ -24,18 +23,14 @@ pub returns-in-None-source-clause-shows : goal.returns-in-None-source-clause-sho
 returns-in-None-source-clause-shows c = λ t us d all shows.
     let s = c.args.plan.now in
     let i = c.args.index in
-    let found = c.in-Some.ensures.lookup in
-    let there = rw (c.fields_of.ensures.seen, c.reader.ensures) at (seen_at c.fields_of.result.now i c.in-Some.field.now found.3.0 found.1) in
+    let there = rw (c.fields_of.ensures.seen, c.reader.ensures) at (seen_at c.fields_of.result.now i c.in-Some.field.now c.in-Some.ensures.lookup.3.0 c.in-Some.ensures.lookup.1) in
     let none = default_is s c.args.pair (values_of c.args.values.now) us i all (field_of c.in-Some.field.now) there (sym (c.source.ensures there) ∙ c.in-None-source.is) in
     c.default_part.ensures.shows s t d (rw (← none) shows)
 
 pub returns-in-None-source-clause-levels : goal.returns-in-None-source-clause-levels
 returns-in-None-source-clause-levels c =
-    let s = c.args.plan.now in
-    let i = c.args.index in
-    let found = c.in-Some.ensures.lookup in
-    let there = rw (c.fields_of.ensures.seen, c.reader.ensures) at (seen_at c.fields_of.result.now i c.in-Some.field.now found.3.0 found.1) in
-    omega (arith, c.default_part.ensures.levels s, default_within (schema_nodes s.1) c.args.pair.r.0 i (field_of c.in-Some.field.now) there)
+    let there = rw (c.fields_of.ensures.seen, c.reader.ensures) at (seen_at c.fields_of.result.now c.args.index c.in-Some.field.now c.in-Some.ensures.lookup.3.0 c.in-Some.ensures.lookup.1) in
+    omega (arith, c.default_part.ensures.levels c.args.plan.now, default_within (schema_nodes c.args.plan.now.1) c.args.pair.r.0 c.args.index (field_of c.in-Some.field.now) there)
 
 pub returns-in-None-clause-shows : goal.returns-in-None-clause-shows
 returns-in-None-clause-shows c = λ t us d all shows.
