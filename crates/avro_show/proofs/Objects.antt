@@ -1,5 +1,5 @@
 -- The display of a reader's array, map or record, as its parts are displayed.
-use Rattle.std.proofs.Common.{◌≡◌, ◌∙◌, ℕ, zero, suc, ◌+◌, ◌<◌, ◌≤◌, List, [], ◌∷◌, length, map, Some, refl, sym, ap, subst, arith}
+use Rattle.std.proofs.Common.{◌≡◌, ℕ, zero, suc, ◌+◌, ◌<◌, ◌≤◌, List, [], ◌∷◌, length, map, Some, refl, ap, arith}
 use Rattle.std.specs.Prelude.{slice_get}
 use Rattle.std.specs.List.{AllByRecursion}
 use Rattle.avro_schema.specs.Node.{Node, FieldNode, node_at}
@@ -62,20 +62,15 @@ module _ (nodes : List Node) where
   name_of_field (f ∷ fields) (value v vs) zero k e = (f, refl, cc)
   name_of_field (f ∷ fields) (value v vs) (suc i) k e = name_of_field fields vs i k e
 
-  pub field_shown : (fields : List FieldNode) (vs : Values) (i : ℕ) (f : FieldNode) → slice_get fields i ≡ Some f → field_tree nodes fields vs i ≡ display_tree nodes (node_at nodes f.node) (value_at vs i)
-  field_shown fields vs i f there = cc there
-
   -- ---- Members
 
   pub members_shown : (fields : List FieldNode) (vs : Values) (ms : List Member) → length fields ≤ values_count vs → AreMembers fields ms
       → compact_text (object (display_fields nodes fields vs no_members)) ≡ object_text (field_tree nodes fields vs) ms
   members_shown fields vs ms enough are =
-      ap (λ (all : Members). compact_text (object all)) (sym (ordered_fields nodes fields vs (map (place_of fields) ms) enough are.order))
-      ∙ all_members fields (field_tree nodes fields vs) ms are.heads
+      rw (← ordered_fields nodes fields vs (map (place_of fields) ms) enough are.order) (all_members fields (field_tree nodes fields vs) ms are.heads)
 
   -- each is displayed as data of its node
   pub each_member : (fields : List FieldNode) (vs : Values) (P : Member → Data → Type 0) → ((m : Member) → P m (display_tree nodes (node_at nodes m.node.0) (value_at vs m.field)))
       → (ms : List Member) → AllByRecursion (IsMember fields) ms → AllByRecursion (λ m. P m (field_tree nodes fields vs m.field)) ms
   each_member fields vs P holds [] are = tt
-  each_member fields vs P holds (m ∷ ms) are =
-      (subst (λ (id : ℕ). P m (display_tree nodes (node_at nodes id) (value_at vs m.field))) are.0.1 (holds m), each_member fields vs P holds ms are.1)
+  each_member fields vs P holds (m ∷ ms) are = (rw (← are.0.1) (holds m), each_member fields vs P holds ms are.1)

@@ -1,8 +1,8 @@
-use Rattle.std.proofs.Common.{◌≡◌, ◌∙◌, refl, sym, ap, arith}
+use Rattle.std.proofs.Common.{◌∙◌, refl, sym, ap, arith}
 use Rattle.avro_schema.specs.Node.{items_node, values_node}
-use Rattle.avro_schema.specs.Seen.{entries_of, value_of, values_of}
+use Rattle.avro_schema.specs.Seen.{entries_of, values_of}
 use Rattle.avro_schema.specs.SeenSchema.{schema_nodes}
-use Rattle.avro_schema.specs.Value.{Value, depth, keys_of}
+use Rattle.avro_schema.specs.Value.{keys_of}
 use Rattle.avro_schema.proofs.public.DatumViews.{value_of-Bytes, value_of-Enum, value_of-Map, value_of-Str}
 use Rattle.serde_json.specs.Data.{Data}
 use Rattle.avro_display.specs.DisplayTree.{display_items, part_at}
@@ -71,9 +71,7 @@ returns-in-Map-clause-opens c = λ u d taken shows.
     )
 
 pub returns-in-Map-clause-levels : goal.returns-in-Map-clause-levels
-returns-in-Map-clause-levels c =
-    let depths : depth (value_of c.args.datum.now) ≡ depth (Value.map_of (entries_of c.in-Map.entries.items)) = rw (c.in-Map.is, value_of-Map) refl in
-    grind (arith, depths, c.deref-in-Map.ensures.value)
+returns-in-Map-clause-levels c = grind (arith, value_of-Map, c.deref-in-Map.ensures.value)
 
 pub returns-in-Record-clause-opens : goal.returns-in-Record-clause-opens
 returns-in-Record-clause-opens c = λ u d taken shows.

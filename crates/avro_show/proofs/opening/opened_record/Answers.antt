@@ -7,7 +7,7 @@ use Rattle.avro_display.specs.Table.{field_tree}
 use Rattle.avro_show.specs.Showing.{reader_node, resolved_member, shown_node, writer_node}
 use Rattle.avro_show.specs.declared.part.Part.{Part}
 use Rattle.avro_show.proofs.Made.{count_fields}
-use Rattle.avro_show.proofs.Objects.{each_member, field_shown, fields_shown, members_shown, name_of_field, names_counted, names_shown}
+use Rattle.avro_show.proofs.Objects.{each_member, fields_shown, members_shown, name_of_field, names_counted, names_shown}
 use Rattle.avro_show.proofs.Values.{count_seen}
 use Rattle.avro_show.proofs.opening.opened_record.Goals as goal
 
@@ -39,6 +39,6 @@ returns-else-node_fields-count-clause-opens c = λ us d all shows.
       rw (fields_shown nodes fields us) shows,
       (
         names_counted nodes fields us (omega (arith, c.if-node_fields-count.false, shown_count, read_count, made)) ∙ made ∙ read_count,
-        λ i k e. let f = name_of_field nodes fields us i k e in (us, f.0, these, f.1, f.2, field_shown nodes fields us i f.0 f.1),
+        λ i k e. let f = name_of_field nodes fields us i k e in (us, f.0, these, f.1, f.2, rw f.1 refl),
       ),
     )
