@@ -20,8 +20,6 @@ returns-in-To-None-default-clause-opens c = λ u d written shows.
 pub returns-in-To-Some-default-clause-opens : goal.returns-in-To-Some-default-clause-opens
 returns-in-To-Some-default-clause-opens c = λ u d written shows.
     let s = c.args.plan.now in
-    let t = c.args.table.now in
-    let nodes = schema_nodes t in
     let k = c.in-To-Some-default.branch in
     let pair = c.aimed-in-To-Some-default in
     let is : c.aim.result ≡ To (Some k) c.in-To-Some-default.q = search rules in
@@ -30,9 +28,8 @@ returns-in-To-Some-default-clause-opens c = λ u d written shows.
     let all = unmapped (Value.union k) (taken_as (schema_nodes s.0) (schema_nodes s.1) (writer_node s pair.result) (value_of c.out_of_unions.result.1.now) (reader_node s pair.result)) u
     (rw (pair.ensures.of_writer, pair.ensures.of_reader, ← taken) (c.out_of_unions.ensures.resolves u written)) in
     c.opened_branch.ensures.opens s all.0 d all.1
-    (rw (c.branch-node.ensures, c.node.ensures) (shows ∙ ap (shown t c.args.id) (sym all.2)))
+    (rw (c.branch-node.ensures, c.node.ensures) (shows ∙ ap (shown c.args.table.now c.args.id) (sym all.2)))
 
 pub returns-in-To-Some-default-clause-levels : goal.returns-in-To-Some-default-clause-levels
 returns-in-To-Some-default-clause-levels c =
-    let s = c.args.plan.now in
-    below_more (resolved_levels s) _ _ c.opened_branch.result (omega (arith, c.out_of_unions.ensures.depth)) (c.opened_branch.ensures.levels s)
+    below_more (resolved_levels c.args.plan.now) _ _ c.opened_branch.result (omega (arith, c.out_of_unions.ensures.depth)) (c.opened_branch.ensures.levels c.args.plan.now)
