@@ -3,7 +3,7 @@ use Rattle.std.proofs.Common.{◌≡◌, ◌<◌, ◌≤◌, ℕ, zero, suc, Lis
 use Rattle.std.specs.List.{AllByRecursion}
 use Rattle.std.specs.Prelude.{String, slice_get, string_bytes, option_map, unwrap_or}
 use Rattle.std.specs.declared.alloc.Global.{Global}
-use Rattle.std.specs.Global.{Box, Vec}
+use Rattle.std.specs.Global.{Box}
 use Rattle.avro_schema.specs.Seen.{entries_of, seen_fields, value_of, values_of, view_step}
 use Rattle.avro_schema.specs.declared.datum.Datum.TheOpen.{Datum-F}
 use Rattle.avro_schema.specs.declared.datum.Datum.TheViews as view
@@ -15,7 +15,7 @@ use Rattle.std.proofs.lemmas.List.{length-map, length-take-le}
 use Rattle.std.proofs.lemmas.Option.{slice_get-map}
 use Rattle.avro_schema.proofs.public.DatumViews.{value_of-Map}
 use Rattle.avro_schema.specs.Node.{Node, node_at, items_node, values_node}
-use Rattle.avro_schema.specs.Value.{Value, Values, depth, values_depth, entries_depth, no_values, value, Entries, no_entries, entry, values_count, entries_count, keys_of}
+use Rattle.avro_schema.specs.Value.{Value, Values, depth, values_depth, entries_depth, no_values, value, Entries, values_count, entries_count, keys_of}
 use Rattle.serde_json.specs.Data.{Data, Items, array, object, no_members}
 use Rattle.serde_json.specs.Written.{compact_text}
 use Rattle.avro_display.specs.Displayed.{EntriesAre, ItemsAre, item_at, items_count, object_text}
@@ -24,13 +24,8 @@ use Rattle.avro_display.specs.Order.{put_each}
 use Rattle.avro_display.specs.Plain.{PlainPart, plain_entry, plain_item, plain_member, plain_node, plain_value}
 use Rattle.avro_display.specs.Table.{AreMembers, entry_at, IsMember, entry_tree, field_id, field_tree, place_of, value_at}
 use Rattle.avro_display.specs.declared.member.Member.{Member}
+use Rattle.avro_display.proofs.public.Opened.{count_keys, value_of-Array, value_of-Record}
 use Rattle.avro_display.proofs.public.Ordering.{all_entries, all_members, first_fields, name_of, ordered_fields}
-
-pub value_of-Array : (v : Vec Datum) → value_of (view.Array v) ≡ Value.array (values_of v.items)
-value_of-Array v = ap value_of (sym (variants.rolls-Array v)) ∙ fold-roll-Datum Value view_step (Datum-F.Array v)
-
-pub value_of-Record : (v : Vec Datum) → value_of (view.Record v) ≡ Value.record_of (values_of v.items)
-value_of-Record v = ap value_of (sym (variants.rolls-Record v)) ∙ fold-roll-Datum Value view_step (Datum-F.Record v)
 
 pub value_of-Union : (k : ℕ) (b : Box Datum) → value_of (view.Union k b) ≡ Value.union k (value_of b.value)
 value_of-Union k b = ap value_of (sym (variants.rolls-Union k b)) ∙ fold-roll-Datum Value view_step (Datum-F.Union k b)
@@ -44,10 +39,6 @@ module _ (nodes : List Node) (n : Node) where
   each_item no_values i within = absurd (omega (arith, within))
   each_item (value v vs) zero within = refl
   each_item (value v vs) (suc i) within = each_item vs i (omega (arith, within))
-
-pub count_keys : (es : Entries) → length (keys_of es) ≡ entries_count es
-count_keys no_entries = refl
-count_keys (entry k v es) = ap suc (count_keys es)
 
 some_taken : {A : Type 0} (n : ℕ) (xs : List A) (i : ℕ) (x : A) → slice_get (take n xs) i ≡ Some x → (i < n) × (slice_get xs i ≡ Some x)
 some_taken zero xs i x got = absurd (cc (got))
@@ -110,10 +101,6 @@ module _ (nodes : List Node) (p : PlainPart) where
 pub count_is : (ds : List Datum) → values_count (values_of ds) ≡ length ds
 count_is [] = refl
 count_is (d ∷ ds) = ap suc (count_is ds)
-
-pub count_entries : (es : List (String Global × Datum)) → entries_count (entries_of es) ≡ length es
-count_entries [] = refl
-count_entries (e ∷ es) = ap suc (count_entries es)
 
 -- ---- one of many
 

@@ -1,2 +1,3 @@
 pub mod Putting
 pub mod Ordering
+pub mod Opened

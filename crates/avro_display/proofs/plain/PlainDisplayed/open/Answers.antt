@@ -1,7 +1,8 @@
 use Rattle.std.proofs.Common.{arith}
 use Rattle.avro_schema.specs.Seen.{entries_of, values_of}
 use Rattle.avro_schema.specs.SeenSchema.{schema_nodes}
-use Rattle.avro_display.proofs.Plains.{count_entries, count_is, opened_entries, opened_items, seen_values}
+use Rattle.avro_display.proofs.public.Opened.{count_entries}
+use Rattle.avro_display.proofs.Plains.{count_is, opened_entries, opened_items, seen_values}
 use Rattle.avro_display.proofs.plain.PlainDisplayed.open.Goals as goal
 
 pub returns-in-Array-clause-opens : goal.returns-in-Array-clause-opens
