@@ -4,14 +4,13 @@ use Rattle.std.specs.Prelude.{String, get_or, slice_get, string_bytes}
 use Rattle.std.specs.Global.{Vec}
 use Rattle.std.specs.declared.alloc.Global.{Global}
 use Rattle.avro_schema.specs.Node.{Node, FieldNode, node_at}
-use Rattle.avro_schema.specs.Seen.{entries_of, seen_fields, value_of, values_of, view_step}
+use Rattle.avro_schema.specs.Seen.{entries_of, value_of, values_of, view_step}
 use Rattle.avro_schema.specs.Value.{Value, Entries, depth, entries_count, entries_depth, keys_of, values_count, values_depth}
 use Rattle.avro_schema.specs.declared.datum.Datum.{Datum}
 use Rattle.avro_schema.specs.declared.datum.Datum.TheOpen.{Datum-F}
 use Rattle.avro_schema.specs.declared.datum.Datum.TheViews as view
 use Rattle.avro_schema.specs.declared.datum.Datum.TheVariants as variants
 use Rattle.avro_schema.specs.declared.datum.Datum.TheFolds.{fold-roll-Datum}
-use Rattle.avro_schema.specs.declared.schema.Field.{Field}
 use Rattle.avro_compare.specs.Resolve.{fields_at}
 use Rattle.avro_display.specs.Table.{entry_at, value_at}
 use Rattle.avro_show.specs.Showing.{default_depth, defaults_depth, fields_depth}
@@ -45,10 +44,6 @@ pub key_past : (xs : List (String Global × Datum)) (k : ℕ) → length xs ≤ 
 key_past [] k past = refl
 key_past (y ∷ xs) zero past = grind arith
 key_past (y ∷ xs) (suc k) past = grind (arith, key_past xs k)
-
-pub count_seen : (fs : List Field) → length (seen_fields fs) ≡ length fs
-count_seen [] = refl
-count_seen (f ∷ fs) = ap suc (count_seen fs)
 
 -- how an array and a record are seen
 pub value_of-Array : (vs : Vec Datum) → value_of (view.Array vs) ≡ Value.array (values_of vs.items)

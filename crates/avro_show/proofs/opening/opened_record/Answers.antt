@@ -1,3 +1,5 @@
+use Rattle.avro_schema.specs.Seen.{field_of}
+use Rattle.std.proofs.lemmas.List.{length-map}
 use Rattle.std.proofs.Common.{◌∙◌, refl, ap, arith}
 use Rattle.avro_schema.specs.SeenSchema.{schema_nodes}
 use Rattle.avro_schema.specs.Value.{values_count}
@@ -8,7 +10,6 @@ use Rattle.avro_show.specs.Showing.{reader_node, resolved_member, shown_node, wr
 use Rattle.avro_show.specs.declared.part.Part.{Part}
 use Rattle.avro_show.proofs.Made.{count_fields}
 use Rattle.avro_show.proofs.Objects.{each_member, fields_shown, members_shown, name_of_field, names_counted, names_shown}
-use Rattle.avro_show.proofs.Values.{count_seen}
 use Rattle.avro_show.proofs.opening.opened_record.Goals as goal
 
 pub returns-then-node_fields-count-clause-opens : goal.returns-then-node_fields-count-clause-opens
@@ -16,8 +17,8 @@ returns-then-node_fields-count-clause-opens c = λ us d all shows.
     let s = c.args.plan.now in
     let nodes = schema_nodes c.args.table.now in
     let fields = record_fields (shown_node c.args.table.now c.args.id) in
-    let shown_count = rw (c.node_fields.ensures, c.node.ensures) at (count_seen c.node_fields.result.now) in
-    let read_count = rw (c.fields_of-count.ensures.seen, c.reader.ensures) at (count_seen c.fields_of-count.result.now) in
+    let shown_count = rw (c.node_fields.ensures, c.node.ensures) at (length-map c.node_fields.result.now field_of) in
+    let read_count = rw (c.fields_of-count.ensures.seen, c.reader.ensures) at (length-map c.fields_of-count.result.now field_of) in
     let made = ap values_count all.2 ∙ count_fields (fields_at (writer_node s c.args.pair)) all.0 (fields_at (reader_node s c.args.pair)) in
     let these = rw (← c.deref.ensures.value) at all in (
       field_tree nodes fields us,
@@ -30,8 +31,8 @@ returns-else-node_fields-count-clause-opens c = λ us d all shows.
     let s = c.args.plan.now in
     let nodes = schema_nodes c.args.table.now in
     let fields = record_fields (shown_node c.args.table.now c.args.id) in
-    let shown_count = rw (c.node_fields.ensures, c.node.ensures) at (count_seen c.node_fields.result.now) in
-    let read_count = rw (c.fields_of-count.ensures.seen, c.reader.ensures) at (count_seen c.fields_of-count.result.now) in
+    let shown_count = rw (c.node_fields.ensures, c.node.ensures) at (length-map c.node_fields.result.now field_of) in
+    let read_count = rw (c.fields_of-count.ensures.seen, c.reader.ensures) at (length-map c.fields_of-count.result.now field_of) in
     let made = ap values_count all.2 ∙ count_fields (fields_at (writer_node s c.args.pair)) all.0 (fields_at (reader_node s c.args.pair)) in
     let these = rw (← c.deref.ensures.value) at all in (
       names_shown nodes fields us,

@@ -1,3 +1,4 @@
+use Rattle.std.proofs.lemmas.List.{length-map}
 use Rattle.std.proofs.Common.{◌∙◌, sym, ap, arith}
 use Rattle.avro_schema.specs.Seen.{field_of, values_of}
 use Rattle.avro_schema.specs.SeenSchema.{schema_nodes}
@@ -5,7 +6,7 @@ use Rattle.avro_schema.specs.declared.schema.NodeId.{NodeId}
 use Rattle.avro_compare.proofs.public.Lists.{seen_at}
 use Rattle.avro_display.specs.Table.{value_at}
 use Rattle.avro_show.proofs.Taken.{default_is, no_field, source_is}
-use Rattle.avro_show.proofs.Values.{count_seen, default_within}
+use Rattle.avro_show.proofs.Values.{default_within}
 use Rattle.avro_show.proofs.parts.field_part.Goals as goal
 
 pub returns-in-Some-source-clause-shows : goal.returns-in-Some-source-clause-shows
@@ -34,5 +35,5 @@ returns-in-None-source-clause-levels c =
 
 pub returns-in-None-clause-shows : goal.returns-in-None-clause-shows
 returns-in-None-clause-shows c = λ t us d all shows.
-    let counted = rw (c.fields_of.ensures.seen, c.reader.ensures) at (count_seen c.fields_of.result.now) in
+    let counted = rw (c.fields_of.ensures.seen, c.reader.ensures) at (length-map c.fields_of.result.now field_of) in
     rw (no_field c.args.plan.now c.args.pair (values_of c.args.values.now) us c.args.index all (omega (arith, c.in-None.ensures.lookup, counted))) at shows
