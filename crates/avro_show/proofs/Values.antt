@@ -32,25 +32,10 @@ entry_there [] k x low e = grind arith
 entry_there (y ∷ xs) zero x low e = grind arith
 entry_there (y ∷ xs) (suc k) x low e = grind (arith, entry_there xs k x)
 
-pub count_entries : (xs : List (String Global × Datum)) → entries_count (entries_of xs) ≡ length xs
-count_entries [] = refl
-count_entries (x ∷ xs) = ap suc (count_entries xs)
-
-pub count_keys : (es : Entries) → length (keys_of es) ≡ entries_count es
-count_keys Entries.no_entries = refl
-count_keys (Entries.entry k v es) = ap suc (count_keys es)
-
 pub key_past : (xs : List (String Global × Datum)) (k : ℕ) → length xs ≤ k → slice_get (keys_of (entries_of xs)) k ≡ None
 key_past [] k past = refl
 key_past (y ∷ xs) zero past = grind arith
 key_past (y ∷ xs) (suc k) past = grind (arith, key_past xs k)
-
--- how an array and a record are seen
-pub value_of-Array : (vs : Vec Datum) → value_of (view.Array vs) ≡ Value.array (values_of vs.items)
-value_of-Array vs = ap value_of (sym (variants.rolls-Array vs)) ∙ fold-roll-Datum Value view_step (Datum-F.Array vs)
-
-pub value_of-Record : (vs : Vec Datum) → value_of (view.Record vs) ≡ Value.record_of (values_of vs.items)
-value_of-Record vs = ap value_of (sym (variants.rolls-Record vs)) ∙ fold-roll-Datum Value view_step (Datum-F.Record vs)
 
 -- ---- Defaults
 

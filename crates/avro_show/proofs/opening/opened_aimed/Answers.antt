@@ -12,7 +12,8 @@ use Rattle.avro_show.specs.Showing.{reader_node, shown, shown_node, writer_node}
 use Rattle.avro_show.proofs.Made.{items_counted, keys_kept}
 use Rattle.avro_show.proofs.Objects.{item_shown, items_shown}
 use Rattle.avro_show.proofs.Taken.{array_taken, map_taken, record_taken}
-use Rattle.avro_show.proofs.Values.{count_entries, count_keys, count_values, value_of-Array, value_of-Record}
+use Rattle.avro_display.proofs.public.Opened.{count_entries, count_keys, value_of-Array, value_of-Record}
+use Rattle.avro_show.proofs.Values.{count_values}
 use Rattle.avro_show.proofs.opening.opened_aimed.Goals as goal
 
 pub returns-in-Bytes-clause-opens : goal.returns-in-Bytes-clause-opens

@@ -1,7 +1,7 @@
 use Rattle.std.proofs.Common.{◌∙◌, refl, sym, ap}
 use Rattle.std.specs.Prelude.{option_map}
 use Rattle.avro_show.specs.Showing.{shown, shown_node}
-use Rattle.avro_display.proofs.Texts.{branch_opened}
+use Rattle.avro_display.proofs.public.Opened.{branch_opened}
 use Rattle.avro_show.proofs.opening.opened_branch.Goals as goal
 
 pub returns-in-Some-clause-opens : goal.returns-in-Some-clause-opens

@@ -1,7 +1,7 @@
 use Rattle.std.proofs.Common.{arith}
 use Rattle.avro_schema.specs.Seen.{entries_of}
 use Rattle.avro_show.proofs.Taken.{entry_is}
-use Rattle.avro_show.proofs.Values.{count_entries}
+use Rattle.avro_display.proofs.public.Opened.{count_entries}
 use Rattle.avro_show.proofs.parts.entry_part.Goals as goal
 
 pub returns-in-None-clause-shows : goal.returns-in-None-clause-shows
