@@ -1,16 +1,11 @@
 -- Data at an index.
-use Rattle.std.proofs.Common.{◌≡◌, ◌∙◌, ℕ, zero, suc, ◌<◌, ◌≤◌, List, [], ◌∷◌, length, Some, None, refl, sym, ap, arith}
+use Rattle.std.proofs.Common.{◌≡◌, ℕ, zero, suc, ◌<◌, ◌≤◌, List, [], ◌∷◌, length, Some, None, refl, ap, arith}
 use Rattle.std.specs.Prelude.{String, get_or, slice_get, string_bytes}
-use Rattle.std.specs.Global.{Vec}
 use Rattle.std.specs.declared.alloc.Global.{Global}
 use Rattle.avro_schema.specs.Node.{Node, FieldNode, node_at}
-use Rattle.avro_schema.specs.Seen.{entries_of, value_of, values_of, view_step}
-use Rattle.avro_schema.specs.Value.{Value, Entries, depth, entries_count, entries_depth, keys_of, values_count, values_depth}
+use Rattle.avro_schema.specs.Seen.{entries_of, value_of, values_of}
+use Rattle.avro_schema.specs.Value.{depth, entries_count, entries_depth, keys_of, values_count, values_depth}
 use Rattle.avro_schema.specs.declared.datum.Datum.{Datum}
-use Rattle.avro_schema.specs.declared.datum.Datum.TheOpen.{Datum-F}
-use Rattle.avro_schema.specs.declared.datum.Datum.TheViews as view
-use Rattle.avro_schema.specs.declared.datum.Datum.TheVariants as variants
-use Rattle.avro_schema.specs.declared.datum.Datum.TheFolds.{fold-roll-Datum}
 use Rattle.avro_compare.specs.Resolve.{fields_at}
 use Rattle.avro_display.specs.Table.{entry_at, value_at}
 use Rattle.avro_show.specs.Showing.{default_depth, defaults_depth, fields_depth}
