@@ -1,5 +1,5 @@
 -- Lists of what is kept of some indices, in the order of these.
-use Rattle.std.specs.Prelude.{◌≡◌, ◌==◌, ◌≤◌, ℕ, suc, List, [], ◌∷◌, Option, Some, None, cond}
+use Rattle.std.specs.Prelude.{◌==◌, ◌≤◌, ℕ, suc, List, [], ◌∷◌, Option, Some, None, cond}
 
 -- what is kept of an index
 abbrev pub entry_at : {A : Type 0} → List (ℕ × A) → ℕ → Option A

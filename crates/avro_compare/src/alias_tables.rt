@@ -70,7 +70,11 @@ fn add_field<'a>(
 }
 
 /// The table of a field, by its record's node and its index, if it has one.
-fn table_at<'t, T>(tables: &'t [((NodeId, usize), T)], id: NodeId, index: usize) -> Option<&'t T>
+pub(crate) fn table_at<'t, T>(
+    tables: &'t [((NodeId, usize), T)],
+    id: NodeId,
+    index: usize,
+) -> Option<&'t T>
     ensures { IfSome result (λ t. HasAliasTable tables.now id.0 index t.now) }
 {
     let at = match tables.binary_search_by_key(&(id, index), |table| table.0) {
@@ -89,30 +93,8 @@ fn table_at<'t, T>(tables: &'t [((NodeId, usize), T)], id: NodeId, index: usize)
 }
 
 /// The index of the writer's field that a reader's field takes its value from, found by the table of the aliases of the
-/// reader's field, where it has one and there are fewer fields than aliases. The reader's field is at an index of a record.
-pub(crate) fn source_by_table(
-    tables: &[((NodeId, usize), BTreeMap<&str, usize>)],
-    _reader: &Schema,
-    r: NodeId,
-    index: usize,
-    writes: &[Field],
-    field: &Field,
-) -> Option<Option<usize>>
-    requires tables { AreAliasTables (schema_nodes _reader.now) tables.now }
-    requires there { slice_get (fields_at (node_at (schema_nodes _reader.now) r.0)) index ≡ Some (field_of field.now) }
-    ensures { IfSome result (λ source. source ≡ source_of (seen_fields writes.now) (field_of field.now)) }
-{
-    if writes.len() >= field.aliases.len() {
-        return None;
-    }
-    match table_at(tables, r, index) {
-        Some(first) => Some(source_by_aliases(first, writes, field)),
-        None => None,
-    }
-}
-
-/// The same, given the table.
-fn source_by_aliases(
+/// reader's field.
+pub(crate) fn source_by_aliases(
     first: &BTreeMap<&str, usize>,
     writes: &[Field],
     field: &Field,

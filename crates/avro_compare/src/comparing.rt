@@ -85,7 +85,7 @@ fn outside(alloc: Global, w: NodeId, r: NodeId, aim: Aim) -> Comparison
 }
 
 /// The comparison of a pair of nodes that leads to the reader's node itself.
-pub fn compare_inside(
+fn compare_inside(
     alloc: Global,
     names: &Names,
     w: NodeId,

@@ -35,7 +35,7 @@ mod symbols;
 mod union_tables;
 
 pub use children::{has_fault, leads};
-pub use comparing::{compare, compare_all, compare_inside};
+pub use comparing::{compare, compare_all};
 pub use comparison::Comparison;
 pub use entries::{first_entry, rest_entries};
 pub use error::{Fault, FaultKind};

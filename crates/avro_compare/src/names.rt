@@ -1,4 +1,4 @@
-use crate::alias_tables::{alias_tables, source_by_table};
+use crate::alias_tables::{alias_tables, source_by_aliases, table_at};
 use crate::field_tables::{field_tables, source_by};
 use crate::guided::Aim;
 use crate::name_numbers::NameNumbers;
@@ -6,7 +6,6 @@ use crate::numbering::{name_numbers, no_numbers};
 use crate::pairs::{aim_after, first_match_after};
 use crate::sourcing::fields_of;
 use crate::symbol_tables::{symbol_by, symbol_tables};
-use crate::symbols::text_of;
 use crate::union_tables::{start_by, union_tables};
 use avro_schema::{Field, Memory, NodeId, Schema};
 use std::alloc::Global;
@@ -63,7 +62,7 @@ impl<'a> Names<'a> {
     ghost use Rattle.avro_compare.specs.Match.{first_match_at};
     ghost use Rattle.avro_compare.specs.inside.NameTables.{StartsAt};
     ghost use Rattle.avro_compare.specs.Pairs.{IsAim, IsSymbol, aim_at};
-    ghost use Rattle.avro_compare.specs.Resolve.{enum_as, fields_at, symbol_at};
+    ghost use Rattle.avro_compare.specs.Resolve.{enum_as, fields_at};
     ghost use Rattle.avro_compare.specs.Source.{source_of};
 
     /// The tables of two schemas.
@@ -135,10 +134,13 @@ impl<'a> Names<'a> {
         ensures { result ≡ source_of (fields_at (node_at (schema_nodes self.now.0) w.0)) (field_of field.now) }
     {
         let writes = fields_of(self.writer, w);
-        match source_by_table(&self.aliases, self.reader, r, index, writes, field) {
-            Some(source) => source,
-            None => self.source(w, field),
+        // With their table there is a step for each of the writer's fields, without it one for each alias.
+        if writes.len() < field.aliases.len() {
+            if let Some(first) = table_at(&self.aliases, r, index) {
+                return source_by_aliases(first, writes, field);
+            }
         }
+        self.source(w, field)
     }
 
     /// The index of a symbol of a reader's enum, or of its default; none at another reader's node.
@@ -146,13 +148,6 @@ impl<'a> Names<'a> {
         ensures { IsSymbol (enum_as symbol.now (node_at (schema_nodes self.now.1) q.0)) result }
     {
         symbol_by(&self.symbols, self.reader, q, symbol)
-    }
-
-    /// The reader's symbol for a symbol of a writer's enum.
-    pub fn symbol_for(&self, w: NodeId, symbol: u32, q: NodeId) -> Option<u32>
-        ensures { IsSymbol (enum_as (symbol_at (node_at (schema_nodes self.now.0) w.0) symbol) (node_at (schema_nodes self.now.1) q.0)) result }
-    {
-        self.symbol(text_of(self.writer, w, symbol as usize), q)
     }
 
     /// Where a pair of nodes leads.
