@@ -16,7 +16,7 @@ use Rattle.avro_compare.specs.declared.guided.At.{At}
 use Rattle.avro_compare.proofs.public.Sources.{past_all}
 use Rattle.avro_least.specs.Asked.{Row, Asked, rows_from}
 use Rattle.avro_least.specs.SeenAsk.{rows_by}
-use Rattle.avro_least.specs.KeptAsks.{AreOrdered, AreTaken, IsKept, indexed, kept_count, kept_part, nth_part, pair_for, seen_part, view_of, with_index}
+use Rattle.avro_least.specs.Asks.{AreOrdered, AreTaken, IsKept, indexed, kept_count, kept_part, nth_part, pair_for, seen_part, view_of, with_index}
 use Rattle.avro_least.specs.inside.Parts.{nodes_of, part_at, parts_of, row_part}
 use Rattle.avro_least.specs.declared.pairs.asking.Ask.{Ask}
 use Rattle.avro_least.proofs.AskedLed.{rows_same}

@@ -2,7 +2,7 @@ pub mod Tables
 pub mod SeenLeast
 pub mod Asked
 pub mod SeenAsk
-pub mod KeptAsks
+pub mod Asks
 pub mod Reached
 pub mod FoundTables
 pub mod BuiltErrors

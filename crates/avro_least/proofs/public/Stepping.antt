@@ -11,7 +11,7 @@ use Rattle.avro_compare.specs.Children.{Pair, children_of, has_local_fault}
 use Rattle.avro_compare.specs.Planned.{AreComparisons}
 use Rattle.avro_compare.specs.declared.comparison.Comparison.{Comparison}
 use Rattle.avro_least.specs.Tables.{LeastTable, pair_number}
-use Rattle.avro_least.specs.KeptAsks.{AreFound, IsFound}
+use Rattle.avro_least.specs.Asks.{AreFound, IsFound}
 use Rattle.avro_least.specs.Asked.{children_at, live_numbers, steps_at}
 use Rattle.avro_certificate.proofs.public.Tests.{and_left, and_right}
 use Rattle.avro_least.proofs.public.Keys.{get_kept, some_same}

@@ -8,7 +8,7 @@ use Rattle.avro_schema.specs.WellFormed.{is_schema}
 use Rattle.avro_compare.specs.Children.{Pair}
 use Rattle.avro_least.specs.Tables.{Least, LeastTable, AtMost, AreDataShown, no_parts, pair_number, erring_of}
 use Rattle.avro_least.specs.SeenLeast.{seen_all, table_of}
-use Rattle.avro_least.specs.KeptAsks.{AreFound}
+use Rattle.avro_least.specs.Asks.{AreFound}
 use Rattle.avro_least.specs.Reached.{AreFollowed}
 use Rattle.avro_least.specs.Asked.{asked_at, steps_at, ArePairsShown}
 use Rattle.avro_least.specs.inside.Parts.{part_at, value_by_part, value_alone, AreOthers}

@@ -8,7 +8,7 @@ ghost use Rattle.avro_schema.specs.WellFormed.{is_schema};
 ghost use Rattle.avro_compare.specs.Planned.{AreFor, AreInside, IsComparison};
 ghost use Rattle.avro_compare.specs.Resolve.{fields_at};
 ghost use Rattle.avro_least.specs.Asked.{Asked, asked, asked_inside};
-ghost use Rattle.avro_least.specs.KeptAsks.{AreTaken, IsKept, view_of};
+ghost use Rattle.avro_least.specs.Asks.{AreTaken, IsKept, view_of};
 ghost use Rattle.avro_least.specs.SeenAsk.{rows_by, rows_of, theirs_in};
 ghost use Rattle.avro_least.specs.inside.Parts.{nodes_of};
 

@@ -6,7 +6,7 @@ ghost use Rattle.indexmap.specs.IndexSet.{keys};
 ghost use Rattle.avro_schema.specs.SeenSchema.{schema_nodes};
 ghost use Rattle.avro_least.specs.SeenLeast.{table_of};
 ghost use Rattle.avro_least.specs.Tables.{pair_number};
-ghost use Rattle.avro_least.specs.KeptAsks.{AreFound, kept_part};
+ghost use Rattle.avro_least.specs.Asks.{AreFound, kept_part};
 ghost use Rattle.avro_least.specs.inside.Leading.{is_lead, leads_at, row_leads, AreLeads};
 
 use crate::kept::Least;

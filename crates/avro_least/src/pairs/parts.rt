@@ -7,7 +7,7 @@ ghost use Rattle.avro_schema.specs.Seen.{ids_of, node_of, seen_fields};
 ghost use Rattle.avro_schema.specs.SeenSchema.{schema_nodes};
 ghost use Rattle.avro_compare.specs.Entries.{AreAscending, entry_at as kept_at};
 ghost use Rattle.avro_least.specs.Asked.{Row, Asked};
-ghost use Rattle.avro_least.specs.KeptAsks.{AreOrdered, IsKept, kept_count, kept_part, nth_part, pair_for, seen_part, with_index};
+ghost use Rattle.avro_least.specs.Asks.{AreOrdered, IsKept, kept_count, kept_part, nth_part, pair_for, seen_part, with_index};
 ghost use Rattle.avro_least.specs.SeenLeast.{seen, given_entry, table_of};
 ghost use Rattle.avro_least.specs.Tables.{all_of};
 ghost use Rattle.avro_least.specs.inside.Parts.{around_part, least_of_others, nodes_of, others_at, seen_pair, value_alone, AreOthers, AreOthersOf};
@@ -85,6 +85,30 @@ pub(crate) fn part_at(w: NodeId, r: NodeId, ask: Ask, k: usize) -> Option<(NodeI
         Ask::Branches(ids) => branch_at(ids, r, k),
         Ask::Fields(parts) => pair_for(find_entry(parts, k)),
     }
+}
+
+/// What is kept of an index.
+fn find_entry(entries: &[(usize, At)], index: usize) -> Option<At>
+    requires { AreAscending 0 entries.now }
+    ensures { result ≡ kept_at entries.now index }
+{
+    let mut left = entries;
+    while left.len() > 1 {
+        left = half_with(left, index);
+    }
+    first_entry(left, index)
+}
+
+/// The half of some entries that has all that is kept of an index.
+fn half_with(entries: &[(usize, At)], index: usize) -> &[(usize, At)]
+    requires order { AreAscending 0 entries.now }
+    requires many { 1 < length entries.now }
+    ensures order { AreAscending 0 result.now }
+    ensures same { kept_at entries.now index ≡ kept_at result.now index }
+    ensures fewer { length result.now < length entries.now }
+{
+    let (low, high) = entries.split_at(entries.len() / 2);
+    if high[0].0 <= index { high } else { low }
 }
 
 /// A pair beside an index.
@@ -240,28 +264,4 @@ pub(crate) fn others_at(rows: &[Vec<Option<Least>>], i: usize) -> &[Option<Least
         None => &[],
         Some(row) => row,
     }
-}
-
-/// What is kept of an index.
-fn find_entry(entries: &[(usize, At)], index: usize) -> Option<At>
-    requires { AreAscending 0 entries.now }
-    ensures { result ≡ kept_at entries.now index }
-{
-    let mut left = entries;
-    while left.len() > 1 {
-        left = half_with(left, index);
-    }
-    first_entry(left, index)
-}
-
-/// The half of some entries that has all that is kept of an index.
-fn half_with(entries: &[(usize, At)], index: usize) -> &[(usize, At)]
-    requires order { AreAscending 0 entries.now }
-    requires many { 1 < length entries.now }
-    ensures order { AreAscending 0 result.now }
-    ensures same { kept_at entries.now index ≡ kept_at result.now index }
-    ensures fewer { length result.now < length entries.now }
-{
-    let (low, high) = entries.split_at(entries.len() / 2);
-    if high[0].0 <= index { high } else { low }
 }

@@ -11,7 +11,7 @@ ghost use Rattle.avro_least.specs.Tables.{pair_number};
 ghost use Rattle.avro_least.specs.SeenLeast.{table_of};
 ghost use Rattle.avro_least.specs.Reached.{is_key, AreFollowed, IsSteppedTo};
 ghost use Rattle.avro_least.specs.Asked.{asked_at, live_numbers, open_children, steps_at};
-ghost use Rattle.avro_least.specs.KeptAsks.{AreFound, IsFound, IsKept};
+ghost use Rattle.avro_least.specs.Asks.{AreFound, IsFound, IsKept};
 
 use crate::kept::Least;
 use crate::nodes::least::{count, entry};

@@ -6,7 +6,7 @@ ghost use Rattle.indexmap.specs.IndexSet.{keys};
 ghost use Rattle.avro_schema.specs.SeenSchema.{schema_nodes};
 ghost use Rattle.avro_least.specs.Asked.{asked_at, steps_at, ArePairsShown};
 ghost use Rattle.avro_least.specs.Reached.{AreFollowed};
-ghost use Rattle.avro_least.specs.KeptAsks.{AreFound};
+ghost use Rattle.avro_least.specs.Asks.{AreFound};
 ghost use Rattle.avro_least.specs.SeenLeast.{seen, seen_all, table_of};
 ghost use Rattle.avro_least.specs.Tables.{erring_of, AreDataShown, AreLow, IsLowForData};
 ghost use Rattle.avro_least.specs.inside.Parts.{value_alone, value_by_part};

@@ -12,7 +12,7 @@ use Rattle.avro_least.specs.Asked.{Asked, Row, asked}
 use Rattle.avro_least.specs.Tables.{LeastTable, ErringTable}
 use Rattle.avro_least.specs.SeenAsk.{row_of, rows_by, rows_of}
 use Rattle.avro_least.specs.BuiltErrors.{BuildsError, BuildsAsked, BuildsRow, BuildsRows}
-use Rattle.avro_least.specs.KeptAsks.{view_of}
+use Rattle.avro_least.specs.Asks.{view_of}
 use Rattle.avro_least.specs.inside.Parts.{nodes_of}
 use Rattle.avro_least.proofs.AskedBuilds.{whole_builds, lone_builds, part_builds, branches_builds, fields_builds, same_builds, rows_more}
 use Rattle.avro_schema.specs.WellFormed.{is_schema}

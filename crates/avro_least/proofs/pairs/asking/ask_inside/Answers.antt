@@ -5,7 +5,7 @@ use Rattle.avro_schema.specs.declared.schema.Node.{Node as KeptNode}
 use Rattle.avro_compare.specs.Planned.{AreInside}
 use Rattle.avro_compare.proofs.public.Symbols.{lacking_some}
 use Rattle.avro_least.specs.Asked.{Asked, asked_inside, rows_from}
-use Rattle.avro_least.specs.KeptAsks.{view_of}
+use Rattle.avro_least.specs.Asks.{view_of}
 use Rattle.avro_least.specs.inside.Parts.{nodes_of}
 use Rattle.avro_least.proofs.AskedLed.{rows_same}
 use Rattle.avro_least.proofs.pairs.asking.ask_inside.Goals as goal

@@ -3,7 +3,7 @@ use Rattle.avro_schema.specs.Node.{Node, node_at}
 use Rattle.avro_schema.specs.Seen.{node_of}
 use Rattle.avro_schema.specs.SeenSchema.{schema_nodes}
 use Rattle.avro_least.specs.Asked.{asked}
-use Rattle.avro_least.specs.KeptAsks.{IsKept, view_of}
+use Rattle.avro_least.specs.Asks.{IsKept, view_of}
 use Rattle.avro_least.specs.inside.Parts.{nodes_of}
 use Rattle.avro_least.proofs.KeptParts.{kept_of_view}
 use Rattle.avro_least.proofs.pairs.asking.ask_of_pair.Goals as goal

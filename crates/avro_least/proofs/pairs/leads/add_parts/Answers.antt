@@ -2,7 +2,7 @@ use Rattle.std.proofs.Common.{◌≡◌, ℕ, false, inl, inr, arith, sym, ◌�
 use Rattle.std.proofs.lemmas.Bool.{cases_eq}
 use Rattle.indexmap.specs.IndexSet.{keys}
 use Rattle.avro_least.specs.Tables.{pair_number}
-use Rattle.avro_least.specs.KeptAsks.{nth_part}
+use Rattle.avro_least.specs.Asks.{nth_part}
 use Rattle.avro_least.specs.SeenLeast.{table_of}
 use Rattle.avro_least.proofs.KeptParts.{nth_found, part_given}
 use Rattle.avro_least.proofs.pairs.leads.add_parts.Goals as goal

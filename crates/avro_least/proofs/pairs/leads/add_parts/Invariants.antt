@@ -1,7 +1,7 @@
 use Rattle.std.proofs.Common.{◌≡◌, ◌<◌, ℕ, true, false, Some, length, is_none, position, ◌==◌}
 use Rattle.indexmap.specs.IndexSet.{keys}
 use Rattle.avro_least.specs.Tables.{pair_number}
-use Rattle.avro_least.specs.KeptAsks.{nth_part}
+use Rattle.avro_least.specs.Asks.{nth_part}
 use Rattle.avro_least.specs.SeenLeast.{table_of}
 use Rattle.avro_least.specs.inside.Leading.{is_lead, leads_at}
 use Rattle.avro_least.proofs.pairs.leads.add_parts.Given as goal

@@ -5,7 +5,7 @@ use Rattle.avro_schema.specs.Node.{Node}
 use Rattle.avro_schema.specs.SeenSchema.{schema_nodes}
 use Rattle.avro_least.specs.Tables.{pair_number}
 use Rattle.avro_least.specs.Asked.{asked_at}
-use Rattle.avro_least.specs.KeptAsks.{kept_part}
+use Rattle.avro_least.specs.Asks.{kept_part}
 use Rattle.avro_least.specs.SeenLeast.{table_of}
 use Rattle.avro_least.specs.declared.pairs.asking.Ask.{Ask}
 use Rattle.avro_least.specs.declared.pairs.leads.LeadRow.{LeadRow}

@@ -4,7 +4,7 @@ use Rattle.indexmap.specs.IndexSet.{keys}
 use Rattle.avro_schema.specs.Node.{node_at}
 use Rattle.avro_schema.specs.SeenSchema.{schema_nodes}
 use Rattle.avro_least.specs.Asked.{asked}
-use Rattle.avro_least.specs.KeptAsks.{IsKept}
+use Rattle.avro_least.specs.Asks.{IsKept}
 use Rattle.avro_least.proofs.pairs.reaching.ask_at_index.Goals as goal
 
 pub ask_of_pair-requires : goal.ask_of_pair-requires

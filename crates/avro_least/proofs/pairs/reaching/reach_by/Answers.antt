@@ -7,7 +7,7 @@ use Rattle.avro_compare.specs.declared.comparison.Comparison.{Comparison}
 use Rattle.avro_least.specs.SeenLeast.{table_of}
 use Rattle.avro_least.specs.Reached.{is_key, AreFollowed, IsSteppedTo, from_first, one_step}
 use Rattle.avro_least.specs.Asked.{steps_at}
-use Rattle.avro_least.specs.KeptAsks.{AreFound, IsFound}
+use Rattle.avro_least.specs.Asks.{AreFound, IsFound}
 use Rattle.avro_least.proofs.public.Keys.{key_kept, followed_more, few_keys, key_at, only_key}
 use Rattle.avro_certificate.proofs.public.Tests.{or_cases, all_at}
 use Rattle.avro_least.proofs.PairSteps.{below_at}

@@ -5,7 +5,7 @@ use Rattle.avro_schema.specs.SeenSchema.{schema_nodes}
 use Rattle.avro_least.specs.SeenLeast.{table_of}
 use Rattle.avro_least.specs.Reached.{is_key, AreFollowed, IsSteppedTo}
 use Rattle.avro_least.specs.Asked.{steps_at}
-use Rattle.avro_least.specs.KeptAsks.{AreFound}
+use Rattle.avro_least.specs.Asks.{AreFound}
 use Rattle.avro_least.proofs.pairs.reaching.reach_by.Given as goal
 
 abbrev pub invariant-loop-next : goal.invariant-loop-next

@@ -6,7 +6,7 @@ use Rattle.avro_schema.specs.Node.{Node, node_at}
 use Rattle.avro_schema.specs.SeenSchema.{schema_nodes}
 use Rattle.avro_least.specs.Tables.{ErringTable, LeastTable, erring_of}
 use Rattle.avro_least.specs.Asked.{Row, Asked, asked_at}
-use Rattle.avro_least.specs.KeptAsks.{IsKept}
+use Rattle.avro_least.specs.Asks.{IsKept}
 use Rattle.avro_least.specs.SeenLeast.{seen, seen_all, given_entry, table_of}
 use Rattle.avro_least.specs.declared.kept.Least.{Least as KeptLeast}
 use Rattle.avro_least.specs.inside.Parts.{least_of_others, nodes_of, part_at, row_part, seen_pair}
