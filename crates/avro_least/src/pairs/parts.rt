@@ -100,6 +100,7 @@ fn find_entry(entries: &[(usize, At)], index: usize) -> Option<At>
 }
 
 /// The half of some entries that has all that is kept of an index.
+#[tactic(auto, using(crate::proofs::Entries::high_ordered, crate::proofs::Entries::high_read, crate::proofs::Entries::low_ordered, crate::proofs::Entries::low_read))]
 fn half_with(entries: &[(usize, At)], index: usize) -> &[(usize, At)]
     requires order { AreAscending 0 entries.now }
     requires many { 1 < length entries.now }
