@@ -24,6 +24,7 @@ pub use display::{put_display, put_line, show};
 pub use displayed::{Displayed, Opened};
 pub use labels::symbol_text;
 pub use member::Member;
+pub use parts::{entry_key, node_fields};
 pub use pieces::put_byte;
 pub use plain::Plain;
 pub use put_error::PutError;

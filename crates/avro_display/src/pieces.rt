@@ -7,7 +7,6 @@ ghost use Rattle.serde_json.specs.Written.{number_text};
 ghost use Rattle.avro_display.specs.Pieces.{PutsText};
 ghost use Rattle.avro_display.specs.declared.put_error.PutError.{PutError};
 
-use crate::labels::bytes_text;
 use crate::put_error::PutError;
 use crate::text::Text;
 use avro_device::{Output, put_all};
@@ -105,6 +104,6 @@ pub(crate) fn put_characters<O: Output>(
     ensures fails { IsErrOf result PutError.CannotWrite → (O.failures out.new ≢ O.failures out.old) ⊎ O.stuck out.new }
     ensures memory { IsErrOf result PutError.OutOfMemory → O.failures out.new ≡ O.failures out.old }
 {
-    let characters = bytes_text(text.allocator(), bytes)?;
-    put_quoted(out, text, characters.as_str())
+    text.append_characters(bytes)?;
+    put_piece(out, text)
 }

@@ -14,7 +14,7 @@ ghost use Rattle.avro_display.specs.Table.{entry_tree, field_tree, value_at};
 use crate::displayed::{Displayed, Opened};
 use crate::labels::symbol_text;
 use crate::member::Member;
-use crate::parts::node_fields;
+use crate::parts::{entry_key, node_fields};
 use crate::table::DisplayTable;
 use avro_schema::{Datum, Field, NodeId};
 
@@ -82,7 +82,7 @@ impl<'a> Displayed for Plain<'a> {
     #[tactic(auto, using(crate::proofs::Plains::seen_values))]
     fn key(&self, object: Self::Part, index: usize) -> &str {
         match object.1 {
-            Datum::Map(entries) => key_of(entries, index),
+            Datum::Map(entries) => entry_key(entries, index),
             _ => field_name(node_fields(self.table.node(object.0)), index),
         }
     }
@@ -178,17 +178,6 @@ fn entry_of<'a>(
     match entries.get(index) {
         Some(entry) => Some((id, &entry.1)),
         None => None,
-    }
-}
-
-/// The key of the entry at an index.
-#[tactic(auto, using(std::proofs::lemmas::Option::gets, crate::proofs::Plains::key_at))]
-fn key_of(entries: &[(String, Datum)], index: usize) -> &str
-    ensures { (k : List ℕ) → slice_get (keys_of (entries_of entries.now)) index ≡ Some k → result.now ≡ k }
-{
-    match entries.get(index) {
-        Some(entry) => entry.0.as_str(),
-        None => "",
     }
 }
 

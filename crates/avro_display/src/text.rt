@@ -1,9 +1,10 @@
-ghost use Rattle.std.specs.Prelude.{◌≡◌, ◌++◌, ◌∷◌, [], OnOk, length, take};
+ghost use Rattle.std.specs.Prelude.{◌≡◌, ◌++◌, ◌∷◌, [], OnOk, encode_utf8_all, length, take};
 ghost use Rattle.json.specs.Print.{quoted};
 ghost use Rattle.serde_json.specs.Find.{of_integer};
 ghost use Rattle.serde_json.specs.Written.{number_text};
 ghost use Rattle.avro_display.specs.Table.{head_text};
 
+use crate::labels::bytes_text;
 use itoa::Buffer;
 use json::Writer;
 use std::alloc::{AllocError, Global};
@@ -83,7 +84,7 @@ impl Text {
     }
 
     /// Appends a byte.
-    pub(crate) fn append_byte(&mut self, byte: u8) -> Result<(), AllocError>
+    pub fn append_byte(&mut self, byte: u8) -> Result<(), AllocError>
         ensures { OnOk result (self.new ≡ self.old ++ byte ∷ []) }
     {
         self.held.push(byte)?;
@@ -91,14 +92,14 @@ impl Text {
     }
 
     /// Appends bytes.
-    pub(crate) fn append(&mut self, bytes: &[u8]) -> Result<(), AllocError>
+    pub fn append(&mut self, bytes: &[u8]) -> Result<(), AllocError>
         ensures { OnOk result (self.new ≡ self.old ++ bytes.now) }
     {
         self.held.extend_from_slice(bytes)
     }
 
     /// Appends the digits of a number.
-    pub(crate) fn append_number(&mut self, number: i64) -> Result<(), AllocError>
+    pub fn append_number(&mut self, number: i64) -> Result<(), AllocError>
         ensures { OnOk result (self.new ≡ self.old ++ number_text (of_integer number)) }
     {
         self.held
@@ -106,15 +107,25 @@ impl Text {
     }
 
     /// Appends a quoted text.
-    pub(crate) fn append_quoted(&mut self, string: &str) -> Result<(), AllocError>
+    pub fn append_quoted(&mut self, string: &str) -> Result<(), AllocError>
         ensures { OnOk result (self.new ≡ self.old ++ quoted string.now) }
     {
         write_quoted(&mut self.quoted, string)?;
         self.held.extend_from_slice(&self.quoted)
     }
 
+    /// Appends bytes as a quoted text of one character per byte.
+    pub fn append_characters(&mut self, bytes: &[u8]) -> Result<(), AllocError>
+        ensures { OnOk result (self.new ≡ self.old ++ quoted (encode_utf8_all bytes.now)) }
+    {
+        let Ok(characters) = bytes_text(self.allocator(), bytes) else {
+            return Err(AllocError);
+        };
+        self.append_quoted(characters.as_str())
+    }
+
     /// Appends a key and its colon.
-    pub(crate) fn append_key(&mut self, key: &str) -> Result<(), AllocError>
+    pub fn append_key(&mut self, key: &str) -> Result<(), AllocError>
         ensures { OnOk result (self.new ≡ self.old ++ head_text key.now) }
     {
         self.append_quoted(key)?;

@@ -27,11 +27,6 @@ entry_there [] k x low e = grind arith
 entry_there (y ∷ xs) zero x low e = grind arith
 entry_there (y ∷ xs) (suc k) x low e = grind (arith, entry_there xs k x)
 
-pub key_past : (xs : List (String Global × Datum)) (k : ℕ) → length xs ≤ k → slice_get (keys_of (entries_of xs)) k ≡ None
-key_past [] k past = refl
-key_past (y ∷ xs) zero past = grind arith
-key_past (y ∷ xs) (suc k) past = grind (arith, key_past xs k)
-
 -- ---- Defaults
 
 field_depth : (fs : List FieldNode) (i : ℕ) (f : FieldNode) → slice_get fs i ≡ Some f → default_depth f ≤ fields_depth fs

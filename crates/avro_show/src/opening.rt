@@ -15,9 +15,8 @@ ghost use Rattle.avro_show.specs.Showing.{AreFields, IsTaken, IsWritten, OpensRe
 ghost use Rattle.avro_show.specs.Taken.{is_union, taken_as};
 
 use crate::part::Part;
-use crate::parts::node_fields;
 use avro_compare::{Aim, fields_of};
-use avro_display::{DisplayTable, Opened, symbol_text};
+use avro_display::{DisplayTable, Opened, node_fields, symbol_text};
 use avro_resolve::{PlanPair, PlanRef};
 use avro_schema::{Datum, Node, NodeId};
 use std::str::from_utf8;

@@ -51,17 +51,6 @@ pub(crate) fn entry_part<'a>(
     }
 }
 
-/// The key of the entry at an index.
-#[tactic(auto, using(crate::proofs::Values::entry_there, crate::proofs::Values::key_past))]
-pub(crate) fn key_of(entries: &[(String, Datum)], index: usize) -> &str
-    ensures { (k : List ℕ) → slice_get (keys_of (entries_of entries.now)) index ≡ Some k → result.now ≡ k }
-{
-    match entries.get(index) {
-        Some(entry) => entry.0.as_str(),
-        None => "",
-    }
-}
-
 /// What the reader's field at an index takes of a writer's record: what its source is for it, or its default.
 pub(crate) fn field_part<'a>(
     plan: &'a PlanRef<'_>,
@@ -91,16 +80,6 @@ fn default_part<'a>(id: Option<NodeId>, field: &'a Field) -> Part<'a>
     match &field.default {
         Some(default) => Part::Default((id, default)),
         None => Part::Null,
-    }
-}
-
-/// The fields of a record; none for other nodes.
-pub(crate) fn node_fields(node: &Node) -> &[Field]
-    ensures { seen_fields result.now ≡ record_fields (node_of node.now) }
-{
-    match node.fields() {
-        Some(fields) => fields,
-        None => &[],
     }
 }
 

@@ -2,10 +2,8 @@ ghost use Rattle.std.specs.Prelude.{◌≡◌};
 
 use crate::opening::{as_default, opened_aimed, opened_default, opened_written};
 use crate::part::Part;
-use crate::parts::{
-    entry_part, field_name, field_part, key_of, node_fields, node_of_field, value_part,
-};
-use avro_display::{DisplayTable, Displayed, Member, Opened, Plain};
+use crate::parts::{entry_part, field_name, field_part, node_of_field, value_part};
+use avro_display::{DisplayTable, Displayed, Member, Opened, Plain, entry_key, node_fields};
 use avro_resolve::PlanRef;
 
 /// A writer's data as a plan's reader has them, displayed as data of a table's schema.
@@ -72,7 +70,7 @@ impl<'a> Displayed for Resolved<'a> {
 
     fn key(&self, object: Self::Part, index: usize) -> &str {
         match object {
-            Part::Entries(_, _, entries) => key_of(entries, index),
+            Part::Entries(_, _, entries) => entry_key(entries, index),
             Part::Fields(_, id, _) => field_name(node_fields(self.table.node(id)), index),
             Part::Default(plain) => self.plain.key(plain, index),
             _ => "",
