@@ -1,4 +1,6 @@
 ghost use Rattle.std.specs.Prelude.{◌≡◌, IfOk, option_map, string_bytes, encode_utf8_all};
+ghost use Rattle.json.specs.Print.{token_text};
+ghost use Rattle.json.specs.Token.Token.{boolean};
 ghost use Rattle.avro_schema.specs.Fits.{is_null_node};
 ghost use Rattle.avro_schema.specs.Seen.{node_of};
 ghost use Rattle.avro_display.specs.DisplayTree.{name_text, branch_key as key_of_branch, symbol_at};
@@ -25,6 +27,13 @@ pub(crate) fn bytes_text(alloc: Global, bytes: &[u8]) -> Result<String, Memory>
         text.push(char::from(*byte))?;
     }
     Ok(text)
+}
+
+/// The text of a boolean.
+pub fn bool_text(value: bool) -> &'static [u8]
+    ensures { result.now ≡ token_text (boolean value) }
+{
+    if value { b"true" } else { b"false" }
 }
 
 /// The symbol of an enum at an index; empty if there is none.

@@ -22,7 +22,7 @@ mod text;
 
 pub use display::{put_display, put_line, show};
 pub use displayed::{Displayed, Opened};
-pub use labels::symbol_text;
+pub use labels::{bool_text, symbol_text};
 pub use member::Member;
 pub use parts::{entry_key, node_fields};
 pub use pieces::put_byte;

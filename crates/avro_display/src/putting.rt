@@ -4,8 +4,6 @@ ghost use Rattle.std.specs.Prelude.{◌≡◌, ◌≢◌, ◌⊎◌, ◌++◌, �
 ghost use Rattle.std.specs.List.{AllByRecursion};
 ghost use Rattle.serde_json.specs.Data.{Data, Items, array, object, no_members};
 ghost use Rattle.serde_json.specs.Written.{comma_if, compact_text};
-ghost use Rattle.json.specs.Print.{token_text};
-ghost use Rattle.json.specs.Token.Token.{boolean};
 ghost use Rattle.avro_display.specs.Displayed.{AreOrdered, EntriesAre, IsShown, ItemsAre, object_text};
 ghost use Rattle.avro_display.specs.Order.{in_order, put_each};
 ghost use Rattle.avro_display.specs.Pieces.{PutsText};
@@ -14,6 +12,7 @@ ghost use Rattle.avro_display.specs.inside.Tables.{seen_place};
 ghost use Rattle.avro_display.specs.declared.put_error.PutError.{PutError};
 
 use crate::displayed::{Displayed, Opened};
+use crate::labels::bool_text;
 use crate::member::Member;
 use crate::members::entry_order;
 use crate::pieces::{put_byte, put_characters, put_number, put_plain, put_quoted};
@@ -96,7 +95,7 @@ fn put_items<O: Output, D: Displayed>(
     text.append_byte(b'[')?;
     let mut later = false;
     for index in 0..count {
-        append_comma(text, later)?;
+        text.append_comma(later)?;
         let item = displayed.item(items, index);
         put_displayed(&mut *out, &mut *text, displayed, item)?;
         later = true;
@@ -141,7 +140,7 @@ fn put_ordered<O: Output, D: Displayed>(
     text.append_byte(b'{')?;
     let mut later = false;
     for (key, index) in order.iter() {
-        append_entry_key(text, later, key)?;
+        text.append_entry_key(later, key)?;
         let value = displayed.entry(entries, *index);
         put_displayed(&mut *out, &mut *text, displayed, value)?;
         later = true;
@@ -173,30 +172,4 @@ fn put_members<O: Output, D: Displayed>(
         put_displayed(&mut *out, &mut *text, displayed, value)?;
     }
     put_byte(out, text, b'}')
-}
-
-/// Appends a comma, if something is before.
-fn append_comma(text: &mut Text, later: bool) -> Result<(), AllocError>
-    ensures { OnOk result (text.new ≡ text.old ++ comma_if later) }
-{
-    if later {
-        text.append_byte(b',')
-    } else {
-        Ok(())
-    }
-}
-
-/// Appends a comma, if something is before, and then a key with its colon.
-fn append_entry_key(text: &mut Text, later: bool, key: &str) -> Result<(), AllocError>
-    ensures { OnOk result (text.new ≡ text.old ++ (comma_if later ++ head_text key.now)) }
-{
-    append_comma(text, later)?;
-    text.append_key(key)
-}
-
-/// The text of a boolean.
-fn bool_text(value: bool) -> &'static [u8]
-    ensures { result.now ≡ token_text (boolean value) }
-{
-    if value { b"true" } else { b"false" }
 }

@@ -1,7 +1,7 @@
 ghost use Rattle.std.specs.Prelude.{◌≡◌, ◌++◌, ◌∷◌, [], OnOk, encode_utf8_all, length, take};
 ghost use Rattle.json.specs.Print.{quoted};
 ghost use Rattle.serde_json.specs.Find.{of_integer};
-ghost use Rattle.serde_json.specs.Written.{number_text};
+ghost use Rattle.serde_json.specs.Written.{comma_if, number_text};
 ghost use Rattle.avro_display.specs.Table.{head_text};
 
 use crate::labels::bytes_text;
@@ -130,6 +130,25 @@ impl Text {
     {
         self.append_quoted(key)?;
         self.append_byte(b':')
+    }
+
+    /// Appends a comma, if something is before.
+    pub fn append_comma(&mut self, later: bool) -> Result<(), AllocError>
+        ensures { OnOk result (self.new ≡ self.old ++ comma_if later) }
+    {
+        if later {
+            self.append_byte(b',')
+        } else {
+            Ok(())
+        }
+    }
+
+    /// Appends a comma, if something is before, and then a key with its colon.
+    pub fn append_entry_key(&mut self, later: bool, key: &str) -> Result<(), AllocError>
+        ensures { OnOk result (self.new ≡ self.old ++ (comma_if later ++ head_text key.now)) }
+    {
+        self.append_comma(later)?;
+        self.append_key(key)
     }
 }
 

@@ -16,7 +16,7 @@ put_items-loop-index-preserved g t c =
       λ ds are.
           let within : l.index < items_count ds = omega (arith, are.0, c.loop-index-test.true) in
           items_more g.O.Output.keeps g.met.O.Output.chain c.args.out.now l.out c.put_displayed.new.out c.append_byte.new.self (items_text false ds)
-          l.text c.put_displayed.new.text l.later ds l.index c.append_comma.new.text within c.in_ok-append_comma.ensures (l.invariant.0 ds are)
+          l.text c.put_displayed.new.text l.later ds l.index c.append_comma.new.self within c.in_ok-append_comma.ensures (l.invariant.0 ds are)
           (c.in_ok-put_displayed.ensures.put (item_at ds l.index) (c.item-item.ensures.shows (item_at ds l.index) (are.1 l.index c.loop-index-test.true))),
       c.in_ok-put_displayed.ensures.works ∙ l.invariant.1,
     )
@@ -52,7 +52,7 @@ put_ordered-loop-key-preserved g t c =
             entries_more g.O.Output.keeps g.met.O.Output.chain c.args.out.now l.out c.put_displayed.new.out c.append_byte.new.self
                 (members_text false (in_order tree (map seen_place c.args.order.now.entries)))
                 l.text c.put_displayed.new.text l.later tree (map seen_place l.key-iterator) (map seen_place c.next.new.self) place
-                c.append_entry_key.new.text left c.in_ok-append_entry_key.ensures have.0
+                c.append_entry_key.new.self left c.in_ok-append_entry_key.ensures have.0
                 (c.in_ok-put_displayed.ensures.put (tree place.1) (c.entry-value.ensures.shows place.0 (tree place.1) some.0)),
             some.1,
           ),
