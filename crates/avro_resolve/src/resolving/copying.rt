@@ -17,18 +17,11 @@ ghost use Rattle.avro_resolve.specs.inside.Guided.{StandsAs};
 
 use crate::plan::plan_ref::PlanRef;
 use crate::resolving::guided::{Made, Part};
-use avro_binary::Put;
+use avro_binary::{Pieces, Put, piece_of};
 use avro_compare::{At, fields_of, first_entry, rest_entries};
 use avro_schema::{Field, Node, NodeId, Schema};
 use avro_zigzag::starts_shortest;
 use std::alloc::{AllocError, Global};
-
-/// The encodings of the fields of a record, one after another: each stands from one end to the next.
-#[derive(Clone, Copy)]
-struct Pieces<'b> {
-    bytes: &'b [u8],
-    ends: &'b [usize],
-}
 
 /// What is made of a record whose pair is straight, or `None` where a field is not spelled as it is written.
 #[inline(always)]
@@ -138,27 +131,6 @@ fn put_default<P: Put>(alloc: Global, builder: &mut P, f: &Field) -> Result<P::O
         Some(datum) => builder.default(alloc, datum),
         None => builder.null(alloc, None),
     }
-}
-
-/// The encoding of a field, by its index, among the encodings of some fields.
-#[inline(always)]
-fn piece_of<'b>(pieces: Pieces<'b>, field: usize) -> Option<&'b [u8]>
-    ensures { IfSome result (λ content. content.now ≡ piece pieces.entry.bytes.now pieces.entry.ends.now field) }
-{
-    let (bytes, ends) = (pieces.bytes, pieces.ends);
-    if field >= ends.len() {
-        return None;
-    }
-    let next = field + 1;
-    if next >= ends.len() {
-        return None;
-    }
-    let start = ends[field];
-    let end = ends[next];
-    if start > end || end > bytes.len() {
-        return None;
-    }
-    Some(&bytes[start..end])
 }
 
 /// Whether the encoding of a leaf is spelled as it is written.
