@@ -1,4 +1,4 @@
-ghost use Rattle.std.specs.Prelude.{◌≡◌, ◌++◌, ◌∷◌, [], OnOk, encode_utf8_all, length, take};
+ghost use Rattle.std.specs.Prelude.{◌≡◌, ◌++◌, ◌∷◌, [], OnErr, OnOk, encode_utf8_all, length, take};
 ghost use Rattle.json.specs.Print.{quoted};
 ghost use Rattle.serde_json.specs.Find.{of_integer};
 ghost use Rattle.serde_json.specs.Written.{comma_if, number_text};
@@ -85,7 +85,8 @@ impl Text {
 
     /// Appends a byte.
     pub fn append_byte(&mut self, byte: u8) -> Result<(), AllocError>
-        ensures { OnOk result (self.new ≡ self.old ++ byte ∷ []) }
+        ensures appended { OnOk result (self.new ≡ self.old ++ byte ∷ []) }
+        ensures unchanged { OnErr result (self.new ≡ self.old) }
     {
         self.held.push(byte)?;
         Ok(())
@@ -93,7 +94,8 @@ impl Text {
 
     /// Appends bytes.
     pub fn append(&mut self, bytes: &[u8]) -> Result<(), AllocError>
-        ensures { OnOk result (self.new ≡ self.old ++ bytes.now) }
+        ensures appended { OnOk result (self.new ≡ self.old ++ bytes.now) }
+        ensures unchanged { OnErr result (self.new ≡ self.old) }
     {
         self.held.extend_from_slice(bytes)
     }

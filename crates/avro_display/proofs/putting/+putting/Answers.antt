@@ -26,7 +26,7 @@ put_items-returns-clause-put g t c = λ ds are.
     let l = c.loop-index in
     let all = items_text false ds in
     on_ok (λ step. puts_opened g.O.Output.keeps c.args.out.now c.put_byte.new.out c.args.text.now (91 ∷ []) all c.append_byte.new.self c.put_byte.new.text
-    c.in_ok-append_byte.ensures
+    c.in_ok-append_byte.ensures.appended
     (items_last g.O.Output.keeps g.met.O.Output.chain c.args.out.now l.out c.put_byte.new.out c.append_byte.new.self all
     l.text c.put_byte.new.text l.later ds l.index (omega (arith, are.0, c.loop-index-test.false)) (l.invariant.0 ds are) step))
     c.put_byte.result c.put_byte.ensures.put
@@ -65,7 +65,7 @@ put_ordered-returns-clause-put g t c = λ tree are.
     let all = members_text false (in_order tree (map seen_place c.args.order.now.entries)) in
     let none : map seen_place l.key-iterator ≡ [] = search rules in
     on_ok (λ step. puts_opened g.O.Output.keeps c.args.out.now c.put_byte.new.out c.args.text.now (123 ∷ []) all c.append_byte.new.self c.put_byte.new.text
-    c.in_ok-append_byte.ensures
+    c.in_ok-append_byte.ensures.appended
     (entries_last g.O.Output.keeps g.met.O.Output.chain c.args.out.now l.out c.put_byte.new.out c.append_byte.new.self all
     l.text c.put_byte.new.text l.later tree (map seen_place l.key-iterator) none (l.invariant.0 tree are).0 step))
     c.put_byte.result c.put_byte.ensures.put
@@ -85,7 +85,7 @@ put_members-loop-member-preserved g t c =
           let good = all_at (λ x. g.D.Displayed.member_shows c.args.displayed.now c.args.owner x (tree x.field)) ms l.member-index m c.loop-member-test.true are in
           members_more g.O.Output.keeps g.met.O.Output.chain c.args.out.now l.out c.put_displayed.new.out c.args.text.now (members_left tree ms)
           l.text c.put_displayed.new.text tree ms l.member-index m c.append.new.self c.loop-member-test.true c.member-item.is
-          (c.in_ok-append.ensures ∙ ap (λ b. l.text ++ b) c.head.ensures) (l.invariant.0 tree are)
+          (c.in_ok-append.ensures.appended ∙ ap (λ b. l.text ++ b) c.head.ensures) (l.invariant.0 tree are)
           (c.in_ok-put_displayed.ensures.put (tree m.field) (c.member-value.ensures.shows (tree m.field) (subst (λ x. g.D.Displayed.member_shows c.args.displayed.now c.args.owner x (tree x.field)) (sym c.member-item.is) good))),
       c.in_ok-put_displayed.ensures.works ∙ l.invariant.1,
     )
@@ -102,7 +102,7 @@ put_members-returns-clause-put g t c = λ tree are.
 
 pub put_branch-returns-clause-put : goal.put_branch-returns-clause-put
 put_branch-returns-clause-put g t c = λ d is.
-    on_ok (λ step. puts_opened g.O.Output.keeps _ _ c.args.text.now c.args.opening.now (compact_text d ++ 125 ∷ []) _ _ c.in_ok-append.ensures
+    on_ok (λ step. puts_opened g.O.Output.keeps _ _ c.args.text.now c.args.opening.now (compact_text d ++ 125 ∷ []) _ _ c.in_ok-append.ensures.appended
     (puts_both g.O.Output.keeps g.met.O.Output.chain _ _ _ c.append.new.self (compact_text d) _ _ _ (c.in_ok-put_displayed.ensures.put d is) step))
     c.put_byte.result c.put_byte.ensures.put
 
