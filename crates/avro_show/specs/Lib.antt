@@ -1,2 +1,4 @@
 pub mod Taken
 pub mod Showing
+pub mod Spans
+pub mod inside

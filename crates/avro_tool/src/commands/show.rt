@@ -10,25 +10,30 @@ use avro_display::{DisplayTable, PutError, Text, put_line};
 use avro_resolve::Plan;
 use avro_schema::{Datum, Memory, Schema};
 use avro_schema_json::ReaderText;
-use avro_show::{Resolved, put_resolved_line};
+use avro_show::{Resolved, Room, append_line, put_resolved_line};
 use std::alloc::Global;
-use std::io::{Cursor, Write};
+use std::io::Write;
 use std::rt::Files;
 
-/// A block of which data are shown, the word for its file, and how much text was held before it.
+/// More text is not held.
+const MOST: usize = 1_048_576;
+
+/// A block of which data are shown, its schema, the word for its file, and how much text was held before it.
 #[derive(Drop)]
 struct Shown<'a, 'w> {
     block: &'a Block<'a>,
+    schema: &'a Schema,
     word: &'w str,
     held: usize,
     /// Whether it was walked over.
     is_walked: bool,
 }
 
-/// Where lines go: the displays of a schema's data, the text that is held, and the output.
+/// Where lines go: the displays of a schema's data, the room for one, the text that is held, and the output.
 #[derive(Drop)]
 struct Lines<'a, O> {
     table: DisplayTable<'a>,
+    room: Room,
     text: Text,
     out: WriteOutput<&'a mut O>,
 }
@@ -105,6 +110,7 @@ fn show_planned<'a, I: Input, O: Write>(
     let table = DisplayTable::new(alloc, shown_schema(header.schema(), plan))?;
     let mut lines = Lines {
         table,
+        room: Room::new(alloc),
         text: Text::new(alloc),
         out: WriteOutput::new(out),
     };
@@ -185,6 +191,7 @@ fn show_block<'a, O: Write>(
     let is_whole = count == u64::from(block.count());
     let mut shown = Shown {
         block,
+        schema: header.schema(),
         word,
         held: lines.text.len(),
         is_walked: false,
@@ -192,16 +199,9 @@ fn show_block<'a, O: Write>(
     if plan.is_some() || !is_whole {
         walk(&mut shown, plan, lines)?;
     }
-    let limits = FileLimits::default().datum();
-    let schema = header.schema();
     let mut rest = block.body();
     for _ in 0..count {
-        let Ok((datum, len)) = decode(alloc, schema, schema.root(), rest, &limits) else {
-            walk(&mut shown, plan, lines)?;
-            // After the walk over the block only memory can run out.
-            return Err(Failure::OutOfMemory);
-        };
-        show_datum(&mut shown, plan, &datum, lines)?;
+        let len = show_datum(alloc, &mut shown, plan, rest, lines)?;
         let (_, others) = rest.split_at(len);
         rest = others;
     }
@@ -242,32 +242,58 @@ fn read_all(block: &Block<'_>, plan: &Option<Plan<'_>>) -> Result<(), CopyError>
     }
 }
 
-/// Prints a datum of a block. Its line is held, as those before it are, until the block was read to its end, or walked over since
-/// they are long.
+/// Prints the datum at the front of bytes of a block, and returns its length. Its line is held, as those before it are, until the
+/// block was read to its end, or walked over since they are long.
 fn show_datum<'a, O: Write>(
+    alloc: Global,
     shown: &mut Shown<'_, 'a>,
     plan: &Option<Plan<'_>>,
-    datum: &Datum,
+    bytes: &[u8],
     lines: &mut Lines<'_, O>,
-) -> Result<(), Failure<'a>> {
-    if !shown.is_walked {
-        if hold_line(lines, datum) {
-            return Ok(());
+) -> Result<usize, Failure<'a>> {
+    if plan.is_none() {
+        if let Some(len) = hold_line(alloc, bytes, lines) {
+            if lines.text.len() > MOST {
+                walk(shown, plan, lines)?;
+                put_held(lines)?;
+            }
+            return Ok(len);
         }
-        walk(shown, plan, lines)?;
     }
-    show_line(lines, plan, datum)
+    walk(shown, plan, lines)?;
+    show_read(alloc, shown.schema, plan, bytes, lines)
 }
 
-/// Holds the line of a datum. Returns false if the text would be too long, or memory ran out; nothing of it is held then.
-fn hold_line<O>(lines: &mut Lines<'_, O>, datum: &Datum) -> bool {
-    let held = lines.text.len();
-    let mut nowhere = WriteOutput::new(Cursor::new([0; 0]));
-    if put_line(&mut nowhere, &mut lines.text, &lines.table, datum).is_err() {
-        lines.text.truncate(held);
-        return false;
-    }
-    true
+/// Holds the line of the datum at the front of bytes, and returns its length. Nothing is held if the line is long or the bytes
+/// have a fault.
+fn hold_line<O>(alloc: Global, bytes: &[u8], lines: &mut Lines<'_, O>) -> Option<usize> {
+    let limits = FileLimits::default().datum();
+    append_line(
+        alloc,
+        &lines.table,
+        bytes,
+        &limits,
+        &mut lines.room,
+        &mut lines.text,
+    )
+    .ok()
+}
+
+/// Prints the datum at the front of bytes that were walked over, and returns its length.
+fn show_read<'a, O: Write>(
+    alloc: Global,
+    schema: &Schema,
+    plan: &Option<Plan<'_>>,
+    bytes: &[u8],
+    lines: &mut Lines<'_, O>,
+) -> Result<usize, Failure<'a>> {
+    let limits = FileLimits::default().datum();
+    // After the walk only memory can run out.
+    let Ok((datum, len)) = decode(alloc, schema, schema.root(), bytes, &limits) else {
+        return Err(Failure::OutOfMemory);
+    };
+    show_line(lines, plan, &datum)?;
+    Ok(len)
 }
 
 /// Puts the line of a datum, or holds it. After an error what is held goes on where what was put ends.

@@ -1,0 +1,155 @@
+-- The parts of what is read, one more of them, and their whole.
+use Rattle.std.proofs.Common.{◌≡◌, ℕ, zero, suc, ◌<◌, ◌≤◌, List, [], ◌∷◌, ◌++◌, length, Result, Ok, Err, true, Option, Some, refl, sym, ap, subst, ◌∙◌, arith, Ordering, Less, Equal, Greater}
+use Rattle.std.proofs.lemmas.Bool.{and_parts, false≢true}
+use Rattle.std.specs.BTreeMap.{insert_entry}
+use Rattle.std.specs.List.{AllByRecursion}
+use Rattle.std.specs.String.{string_cmp}
+use Rattle.std.specs.Ordering.{match_ordering}
+use Rattle.std.specs.Prelude.{IfOk, String, option_map, slice_get, string_bytes}
+use Rattle.std.specs.declared.alloc.Global.{Global}
+use Rattle.avro_name.specs.Name.{Name}
+use Rattle.avro_schema.specs.Fits.{fields_fit, fits}
+use Rattle.avro_schema.specs.Node.{Node, FieldNode, field_ids, node_at}
+use Rattle.avro_schema.specs.Seen.{entries_from, values_from}
+use Rattle.avro_schema.specs.SeenSchema.{schema_nodes}
+use Rattle.avro_schema.specs.Value.{Value, values_count}
+use Rattle.avro_schema.specs.declared.schema.Schema.{Schema}
+use Rattle.avro_binary.specs.Pieces.{ArePieces}
+use Rattle.serde_json.specs.Data.{Data, Members, no_members, put}
+use Rattle.serde_json.specs.Written.{compact_text}
+use Rattle.avro_display.specs.DisplayTree.{display_entries, display_items, display_text, display_tree, part_at, record_fields}
+use Rattle.avro_display.specs.Displayed.{object_text}
+use Rattle.avro_display.specs.Table.{AreMembers, IsMember, field_id, field_tree, value_at}
+use Rattle.avro_display.specs.declared.member.Member.{Member}
+use Rattle.avro_show.specs.Spans.{AreFieldsAt, AreItemsAt, AreMembersAt, IsOf, IsPieceOf, IsSpanAt, StandsAt, field_id_at, item_id, text_of, value_id}
+use Rattle.avro_show.specs.declared.spans.Span.{Span}
+use Rattle.avro_show.proofs.Objects.{members_shown}
+
+-- ---- One part more
+
+module _ (text : List ℕ) (nodes : List Node) where
+  pub items_push : (n : Node) (spans : List Span) (s : Span) (vs : List Value) (v : Value) → AreItemsAt text spans (display_items nodes n (values_from vs)) → StandsAt text s (display_text nodes n v)
+      → AreItemsAt text (spans ++ s ∷ []) (display_items nodes n (values_from (vs ++ v ∷ [])))
+  items_push n [] s [] v are here = (_, _, refl, here, refl)
+  items_push n [] s (u ∷ us) v are here = absurd (cc (are))
+  items_push n (x ∷ xs) s [] v (d, rest, is, stands, more) here = absurd (cc (is))
+  items_push n (x ∷ xs) s (u ∷ us) v (d, rest, is, stands, more) here =
+      let tree : d ≡ display_tree nodes n u = cc (is) in
+      let left : rest ≡ display_items nodes n (values_from us) = cc (is) in
+      (_, _, refl, rw tree at stands, items_push n xs s us v (rw left at more) here)
+
+  pub fields_push : (fs : List FieldNode) (spans : List Span) (s : Span) (vs : List Value) (v : Value) (id : ℕ) → slice_get (field_ids fs) (length vs) ≡ Some id → AreFieldsAt nodes text fs spans vs
+      → StandsAt text s (display_text nodes (node_at nodes id) v) → AreFieldsAt nodes text fs (spans ++ s ∷ []) (vs ++ v ∷ [])
+  fields_push [] spans s vs v id at are here = absurd (cc (at))
+  fields_push (f ∷ fs) [] s [] v id at are here = let same : f.node ≡ id = cc (at) in (rw same here, refl)
+  fields_push (f ∷ fs) [] s (u ∷ us) v id at are here = absurd (cc (are))
+  fields_push (f ∷ fs) (x ∷ xs) s [] v id at are here = absurd are
+  fields_push (f ∷ fs) (x ∷ xs) s (u ∷ us) v id at are here = (are.0, fields_push fs xs s us v id at are.1 here)
+
+-- ---- Which node a part is of
+
+pub item_of : (t : Schema) (nodes : List Node) (id : ℕ) (at owner : Option ℕ) → IsOf t nodes (Node.array id) at → owner ≡ at → IsOf t nodes (node_at nodes id) (item_id t owner)
+item_of t nodes id at owner (same, is) own = (same, rw (own, ← is, same) refl)
+
+pub value_of_map : (t : Schema) (nodes : List Node) (id : ℕ) (at owner : Option ℕ) → IsOf t nodes (Node.map_of id) at → owner ≡ at → IsOf t nodes (node_at nodes id) (value_id t owner)
+value_of_map t nodes id at owner (same, is) own = (same, rw (own, ← is, same) refl)
+
+-- ---- Fields that fit
+
+pub fitting_there : (nodes : List Node) (fs : List FieldNode) (vs : List Value) (k : ℕ) → k < length fs → fields_fit nodes (field_ids fs) (values_from vs) ≡ true
+    → (v : Value) × (slice_get vs k ≡ Some v) × (value_at (values_from vs) k ≡ v) × (fits nodes (node_at nodes (field_id fs k)) v ≡ true)
+fitting_there nodes [] vs k low fit = absurd (omega (arith, low))
+fitting_there nodes (f ∷ fs) [] k low fit = absurd (false≢true fit)
+fitting_there nodes (f ∷ fs) (v ∷ vs) zero low fit = (v, refl, refl, (and_parts (fits nodes (node_at nodes f.node) v) (fields_fit nodes (field_ids fs) (values_from vs)) fit).0)
+fitting_there nodes (f ∷ fs) (v ∷ vs) (suc k) low fit =
+    fitting_there nodes fs vs k (omega (arith, low)) (and_parts (fits nodes (node_at nodes f.node) v) (fields_fit nodes (field_ids fs) (values_from vs)) fit).1
+
+pub fitting_count : (nodes : List Node) (fs : List FieldNode) (vs : List Value) → fields_fit nodes (field_ids fs) (values_from vs) ≡ true → length fs ≤ values_count (values_from vs)
+fitting_count nodes [] vs fit = omega arith
+fitting_count nodes (f ∷ fs) [] fit = absurd (false≢true fit)
+fitting_count nodes (f ∷ fs) (v ∷ vs) fit =
+    let rest = fitting_count nodes fs vs (and_parts (fits nodes (node_at nodes f.node) v) (fields_fit nodes (field_ids fs) (values_from vs)) fit).1 in
+    omega (arith, rest)
+
+span_there : (nodes : List Node) (text : List ℕ) (fs : List FieldNode) (spans : List Span) (vs : List Value) (k : ℕ) → k < length fs → fields_fit nodes (field_ids fs) (values_from vs) ≡ true
+    → AreFieldsAt nodes text fs spans vs → IsSpanAt text spans k (compact_text (field_tree nodes fs (values_from vs) k))
+span_there nodes text [] spans vs k low fit are = absurd (omega (arith, low))
+span_there nodes text (f ∷ fs) spans [] k low fit are = absurd (false≢true fit)
+span_there nodes text (f ∷ fs) [] (v ∷ vs) k low fit are = absurd (cc (are))
+span_there nodes text (f ∷ fs) (s ∷ ss) (v ∷ vs) zero low fit are = (s, refl, are.0)
+span_there nodes text (f ∷ fs) (s ∷ ss) (v ∷ vs) (suc k) low fit are =
+    span_there nodes text fs ss vs k (omega (arith, low)) (and_parts (fits nodes (node_at nodes f.node) v) (fields_fit nodes (field_ids fs) (values_from vs)) fit).1 are.1
+
+pub spans_there : (nodes : List Node) (text : List ℕ) (fs : List FieldNode) (spans : List Span) (vs : List Value) → fields_fit nodes (field_ids fs) (values_from vs) ≡ true → AreFieldsAt nodes text fs spans vs
+    → (ms : List Member) → AllByRecursion (IsMember fs) ms → AllByRecursion (λ m. IsSpanAt text spans m.field (compact_text (field_tree nodes fs (values_from vs) m.field))) ms
+spans_there nodes text fs spans vs fit are [] each = tt
+spans_there nodes text fs spans vs fit are (m ∷ ms) each = (span_there nodes text fs spans vs m.field each.0.0 fit are, spans_there nodes text fs spans vs fit are ms each.1)
+
+pub pieces_there : (nodes : List Node) (bytes ends : List ℕ) (fs : List FieldNode) (vs : List Value) → fields_fit nodes (field_ids fs) (values_from vs) ≡ true → ArePieces vs bytes ends
+    → (ms : List Member) → AllByRecursion (IsMember fs) ms → AllByRecursion (IsPieceOf nodes bytes ends (field_tree nodes fs (values_from vs))) ms
+pieces_there nodes bytes ends fs vs fit are [] each = tt
+pieces_there nodes bytes ends fs vs fit are (m ∷ ms) each =
+    let (v, got, is, fitting) = fitting_there nodes fs vs m.field each.0.0 fit in
+    let same = each.0.1 in
+    ((v, rw same fitting, are m.field v got, rw (same, is) refl), pieces_there nodes bytes ends fs vs fit are ms each.1)
+
+-- ---- The node of the next field
+
+fields_count : (nodes : List Node) (text : List ℕ) (fs : List FieldNode) (spans : List Span) (vs : List Value) → AreFieldsAt nodes text fs spans vs → length spans ≡ length vs
+fields_count nodes text fs [] vs are = ap length (sym are)
+fields_count nodes text (f ∷ fs) (s ∷ ss) (v ∷ vs) are = ap suc (fields_count nodes text fs ss vs are.1)
+fields_count nodes text (f ∷ fs) (s ∷ ss) [] are = absurd are
+fields_count nodes text [] (s ∷ ss) vs are = absurd are
+
+id_there : (fs : List FieldNode) (k : ℕ) → slice_get (field_ids fs) k ≡ option_map (λ f. f.node) (slice_get fs k)
+id_there [] k = refl
+id_there (f ∷ fs) zero = refl
+id_there (f ∷ fs) (suc k) = id_there fs k
+
+pub field_of_next : (t : Schema) (nodes : List Node) (text : List ℕ) (fs : List FieldNode) (id : ℕ) (at owner : Option ℕ) (spans : List Span) (vs : List Value) → fs ≡ record_fields (part_at (schema_nodes t) at)
+    → owner ≡ at → AreFieldsAt nodes text fs spans vs → slice_get (field_ids fs) (length vs) ≡ Some id → field_id_at t owner (length spans) ≡ Some id
+field_of_next t nodes text fs id at owner spans vs is own are got =
+    rw (own, ← is, fields_count nodes text fs spans vs are) (sym (id_there fs (length vs)) ∙ got)
+
+-- ---- The display of a record
+
+pub record_shown : (t : Schema) (nodes : List Node) (name : Name) (aliases : List Name) (fs : List FieldNode) (at : Option ℕ) (vs : List Value) (ms : List Member) → IsOf t nodes (Node.record_of name aliases fs) at
+    → fields_fit nodes (field_ids fs) (values_from vs) ≡ true → AreMembers fs ms → object_text (field_tree nodes fs (values_from vs)) ms ≡ text_of t at (Value.record_of (values_from vs))
+record_shown t nodes name aliases fs at vs ms (same, is) fit are =
+    sym (members_shown nodes fs (values_from vs) ms (fitting_count nodes fs vs fit) are) ∙ rw (← is, ← same) refl
+
+-- its members
+pub record_members : (t : Schema) (nodes : List Node) (name : Name) (aliases : List Name) (fs : List FieldNode) (at id : Option ℕ) (ms : List Member) → IsOf t nodes (Node.record_of name aliases fs) at → id ≡ at
+    → AreMembers (record_fields (part_at (schema_nodes t) id)) ms → AreMembers fs ms
+record_members t nodes name aliases fs at id ms (same, is) own are = subst (λ (l : List FieldNode). AreMembers l ms) (ap (λ (o : Option ℕ). record_fields (part_at (schema_nodes t) o)) own ∙ ap record_fields (sym is)) are
+
+pub given : {A E X : Type 0} (P : A → Type 0) (r : Result A E) → (X → IfOk r P) → IfOk r (λ a. X → P a)
+given P (Ok a) h = h
+given P (Err e) h = tt
+
+-- ---- One entry more
+
+display_push : (nodes : List Node) (n : Node) (es : List (List ℕ × Value)) (k : List ℕ) (v : Value) (ms : Members)
+    → display_entries nodes n (entries_from (es ++ (k, v) ∷ [])) ms ≡ put k (display_tree nodes n v) (display_entries nodes n (entries_from es) ms)
+display_push nodes n [] k v ms = refl
+display_push nodes n (e ∷ es) k v ms = display_push nodes n es k v (put e.0 (display_tree nodes n e.1) ms)
+
+module _ (text : List ℕ) where
+  members_match : (o : Ordering) (a b c : List (String Global × Span)) (x y z : Members) → AreMembersAt text a x → AreMembersAt text b y → AreMembersAt text c z
+      → AreMembersAt text (match_ordering o a b c) (match_ordering o x y z)
+  members_match Less a b c x y z less equal greater = less
+  members_match Equal a b c x y z less equal greater = equal
+  members_match Greater a b c x y z less equal greater = greater
+
+  members_insert : (es : List (String Global × Span)) (k : String Global) (s : Span) (d : Data) (ms : Members) → AreMembersAt text es ms → StandsAt text s (compact_text d)
+      → AreMembersAt text (insert_entry string_cmp es k s) (put (string_bytes k) d ms)
+  members_insert [] k s d ms none here = (d, no_members, ap (put (string_bytes k) d) none, here, refl)
+  members_insert (e ∷ es) k s d ms (d', rest, is, stands, more) here =
+      subst (λ (x : Members). AreMembersAt text (insert_entry string_cmp (e ∷ es) k s) (put (string_bytes k) d x)) (sym is)
+      (members_match (string_cmp k e.0) _ _ _ _ _ _ (d, _, refl, here, (d', rest, refl, stands, more)) (d, rest, refl, here, more) (d', _, refl, stands, members_insert es k s d rest more here))
+
+  pub entry_push : (nodes : List Node) (n : Node) (spans new : List (String Global × Span)) (k : String Global) (s : Span) (key : List ℕ) (es : List (List ℕ × Value)) (v : Value) → string_bytes k ≡ key
+      → new ≡ insert_entry string_cmp spans k s → AreMembersAt text spans (display_entries nodes n (entries_from es) no_members) → StandsAt text s (display_text nodes n v)
+      → AreMembersAt text new (display_entries nodes n (entries_from (es ++ (key, v) ∷ [])) no_members)
+  entry_push nodes n spans new k s key es v named inserted are here =
+      rw (inserted, display_push nodes n es key v no_members, ← named) (members_insert spans k s (display_tree nodes n v) _ are here)

@@ -1,0 +1,99 @@
+-- Where the displays of the parts of a datum stand in a text, while the datum is read.
+use Rattle.std.specs.Prelude.{◌≡◌, ℕ, ◌+◌, List, [], ◌∷◌, ◌++◌, length, Option, Some, String, true, option_and_then, option_map, slice_get, string_bytes}
+use Rattle.std.specs.declared.alloc.Global.{Global}
+use Rattle.avro_schema.specs.Fits.{fits}
+use Rattle.avro_schema.specs.Node.{Node, FieldNode, branches_of, items_node, node_at, values_node}
+use Rattle.avro_schema.specs.Seen.{entries_from, values_from}
+use Rattle.avro_schema.specs.SeenSchema.{schema_nodes}
+use Rattle.avro_schema.specs.Value.{Value}
+use Rattle.avro_schema.specs.declared.schema.Schema.{Schema}
+use Rattle.serde_json.specs.Data.{Data, Items, no_items, item, Members, no_members, member}
+use Rattle.serde_json.specs.Written.{compact_text}
+use Rattle.avro_binary.specs.Pieces.{piece}
+use Rattle.avro_cursor.specs.Encoding.{Spells}
+use Rattle.avro_display.specs.declared.member.Member.{Member}
+use Rattle.avro_display.specs.DisplayTree.{display_entries, display_items, display_text, display_tree, part_at, record_fields}
+use Rattle.avro_show.specs.declared.spans.Span.{Span}
+use Rattle.avro_show.specs.declared.spans.Spans.{Spans}
+use Rattle.avro_show.specs.declared.spans.KeyedSpans.{KeyedSpans}
+
+-- a text has more after what it had
+pub record Grows (before after : List ℕ) : Type 0 where
+  pub more : List ℕ
+  pub grown : after ≡ before ++ more
+
+-- the schema that is displayed stays, and its text has more
+abbrev pub Keeps : Schema → List ℕ → Schema → List ℕ → Type 0
+Keeps t before u after = (u ≡ t) × Grows before after
+
+-- these bytes stand in a text
+pub record StandsAt (text : List ℕ) (span : Span) (bytes : List ℕ) : Type 0 where
+  pub before : List ℕ
+  pub rest : List ℕ
+  pub split : text ≡ before ++ bytes ++ rest
+  pub starts : span.start ≡ length before
+  pub ends : span.end ≡ span.start + length bytes
+
+-- the items of an array, one after another
+abbrev pub AreItemsAt : List ℕ → List Span → Items → Type 0
+AreItemsAt text [] ds = ds ≡ no_items
+AreItemsAt text (s ∷ ss) ds = (d : Data) × (rest : Items) × (ds ≡ item d rest) × StandsAt text s (compact_text d) × AreItemsAt text ss rest
+
+-- the values of an object's members, and their keys
+abbrev pub AreMembersAt : List ℕ → List (String Global × Span) → Members → Type 0
+AreMembersAt text [] ms = ms ≡ no_members
+AreMembersAt text (e ∷ es) ms =
+    (d : Data) × (rest : Members) × (ms ≡ member (string_bytes e.0) d rest) × StandsAt text e.1 (compact_text d) × AreMembersAt text es rest
+
+-- the values of the first fields of a record
+abbrev pub AreFieldsAt : List Node → List ℕ → List FieldNode → List Span → List Value → Type 0
+AreFieldsAt nodes text fs [] vs = vs ≡ []
+AreFieldsAt nodes text (f ∷ fs) (s ∷ ss) (v ∷ vs) = StandsAt text s (display_text nodes (node_at nodes f.node) v) × AreFieldsAt nodes text fs ss vs
+AreFieldsAt nodes text fs (s ∷ ss) vs = ⊥
+
+-- the bytes stand where the span at an index says
+abbrev pub IsSpanAt : List ℕ → List Span → ℕ → List ℕ → Type 0
+IsSpanAt text spans k bytes = (span : Span) × (slice_get spans k ≡ Some span) × StandsAt text span bytes
+
+-- the value of a member is encoded in its piece
+abbrev pub IsPieceOf : List Node → List ℕ → List ℕ → (ℕ → Data) → Member → Type 0
+IsPieceOf nodes bytes ends tree m = (v : Value) × (fits nodes (node_at nodes m.node.0) v ≡ true) × Spells v (piece bytes ends m.field)
+    × (tree m.field ≡ display_tree nodes (node_at nodes m.node.0) v)
+
+-- a part of a datum that is read is of the node with an id in the schema that is displayed
+abbrev pub IsOf : Schema → List Node → Node → Option ℕ → Type 0
+IsOf t nodes n at = (nodes ≡ schema_nodes t) × (n ≡ part_at (schema_nodes t) at)
+
+-- the display of a value as data of the node with an id
+abbrev pub text_of : Schema → Option ℕ → Value → List ℕ
+text_of t at v = display_text (schema_nodes t) (part_at (schema_nodes t) at) v
+
+-- the ids of the nodes of an array's items, and of a map's values
+abbrev pub item_id : Schema → Option ℕ → Option ℕ
+item_id t at = items_node (part_at (schema_nodes t) at)
+
+abbrev pub value_id : Schema → Option ℕ → Option ℕ
+value_id t at = values_node (part_at (schema_nodes t) at)
+
+-- the id of the node of a union's branch, and of a record's field at an index
+abbrev pub branch_id : Schema → Option ℕ → ℕ → Option ℕ
+branch_id t at k = option_and_then (λ ids. slice_get ids k) (branches_of (part_at (schema_nodes t) at))
+
+abbrev pub field_id_at : Schema → Option ℕ → ℕ → Option ℕ
+field_id_at t at k = option_map (λ f. f.node) (slice_get (record_fields (part_at (schema_nodes t) at)) k)
+
+-- what is made of a datum, and of its parts so far, stands for it
+abbrev pub StandsFor : Schema → List ℕ → List Node → Node → Option ℕ → Span → Value → Type 0
+StandsFor t text nodes n at span v = IsOf t nodes n at → StandsAt text span (text_of t at v)
+
+abbrev pub ItemsStandFor : Schema → List ℕ → List Node → ℕ → Option ℕ → Spans → List Value → Type 0
+ItemsStandFor t text nodes id at items vs = IsOf t nodes (Node.array id) at
+    → (items.owner ≡ at) × AreItemsAt text items.parts.items (display_items (schema_nodes t) (part_at (schema_nodes t) (item_id t at)) (values_from vs))
+
+abbrev pub EntriesStandFor : Schema → List ℕ → List Node → ℕ → Option ℕ → KeyedSpans → List (List ℕ × Value) → Type 0
+EntriesStandFor t text nodes id at entries es = IsOf t nodes (Node.map_of id) at
+    → (entries.owner ≡ at) × AreMembersAt text entries.parts.entries (display_entries (schema_nodes t) (part_at (schema_nodes t) (value_id t at)) (entries_from es) no_members)
+
+abbrev pub FieldsStandFor : Schema → List ℕ → List Node → List FieldNode → Option ℕ → Spans → List Value → Type 0
+FieldsStandFor t text nodes fs at fields vs = nodes ≡ schema_nodes t → fs ≡ record_fields (part_at (schema_nodes t) at)
+    → (fields.owner ≡ at) × AreFieldsAt nodes text fs fields.parts.items vs

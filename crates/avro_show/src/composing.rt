@@ -1,0 +1,136 @@
+//! The display of a whole from those of its parts.
+
+ghost use Rattle.std.specs.Prelude.{◌≡◌, ◌++◌, ◌∷◌, [], List, ℕ, OnOk};
+ghost use Rattle.std.specs.List.{AllByRecursion};
+ghost use Rattle.serde_json.specs.Data.{Data, Items, Members, array, object};
+ghost use Rattle.serde_json.specs.Written.{compact_text};
+ghost use Rattle.avro_display.specs.Displayed.{object_text};
+ghost use Rattle.avro_schema.specs.SeenSchema.{schema_nodes};
+ghost use Rattle.avro_show.specs.Spans.{AreItemsAt, AreMembersAt, Grows, IsPieceOf, IsSpanAt, StandsAt};
+
+use crate::leaf::append_leaf;
+use crate::spans::Span;
+use avro_binary::{Pieces, piece_of};
+use avro_display::{DisplayTable, Member, Text};
+use std::alloc::AllocError;
+use std::collections::BTreeMap;
+
+/// The bytes of a text where a span says.
+#[inline(always)]
+pub(crate) fn bytes_at(text: &[u8], span: Span) -> &[u8]
+    ensures { (bytes : List ℕ) → StandsAt text.now span bytes → result.now ≡ bytes }
+{
+    if span.start > span.end || span.end > text.len() {
+        return &[];
+    }
+    let (_, rest) = text.split_at(span.start);
+    let (bytes, _) = rest.split_at(span.end - span.start);
+    bytes
+}
+
+/// Appends the display of a union's value, behind the text that opens its branch.
+#[inline(always)]
+pub(crate) fn append_branch(
+    whole: &mut Text,
+    opening: &[u8],
+    value: &[u8],
+) -> Result<(), AllocError>
+    ensures { OnOk result (whole.new ≡ whole.old ++ (opening.now ++ (value.now ++ 125 ∷ []))) }
+{
+    whole.append(opening)?;
+    whole.append(value)?;
+    whole.append_byte(b'}')
+}
+
+/// Appends the display of an array, whose items stand in a text.
+pub(crate) fn append_items(whole: &mut Text, text: &[u8], items: &[Span]) -> Result<(), AllocError>
+    ensures { (ds : Items) → AreItemsAt text.now items.now ds → OnOk result (whole.new ≡ whole.old ++ compact_text (array ds)) }
+{
+    whole.append_byte(b'[')?;
+    let mut later = false;
+    for item in items {
+        whole.append_comma(later)?;
+        whole.append(bytes_at(text, *item))?;
+        later = true;
+    }
+    whole.append_byte(b']')
+}
+
+/// Appends the display of an object, whose values stand in a text.
+pub(crate) fn append_entries(
+    whole: &mut Text,
+    text: &[u8],
+    entries: &BTreeMap<String, Span>,
+) -> Result<(), AllocError>
+    ensures { (ms : Members) → AreMembersAt text.now entries.now.entries ms → OnOk result (whole.new ≡ whole.old ++ compact_text (object ms)) }
+{
+    whole.append_byte(b'{')?;
+    let mut later = false;
+    for (key, value) in entries.iter() {
+        whole.append_entry_key(later, key.as_str())?;
+        whole.append(bytes_at(text, *value))?;
+        later = true;
+    }
+    whole.append_byte(b'}')
+}
+
+/// Appends the display of an object of members, whose values stand in a text.
+pub(crate) fn append_members(
+    whole: &mut Text,
+    text: &[u8],
+    members: &[Member],
+    values: &[Span],
+) -> Result<(), AllocError>
+    ensures { (tree : ℕ → Data) → AllByRecursion (λ m. IsSpanAt text.now values.now m.field (compact_text (tree m.field))) members.now
+        → OnOk result (whole.new ≡ whole.old ++ object_text tree members.now) }
+{
+    if members.is_empty() {
+        return whole.append(b"{}");
+    }
+    for member in members {
+        whole.append(member.head())?;
+        match values.get(member.field) {
+            Some(value) => whole.append(bytes_at(text, *value))?,
+            None => return Err(AllocError),
+        }
+    }
+    whole.append_byte(b'}')
+}
+
+/// Appends the display of an object of members, whose values are encoded in pieces.
+pub(crate) fn append_pieces(
+    text: &mut Text,
+    table: &DisplayTable<'_>,
+    members: &[Member],
+    pieces: Pieces<'_>,
+) -> Result<(), AllocError>
+    ensures shown { (tree : ℕ → Data) → AllByRecursion (IsPieceOf (schema_nodes table.now) pieces.entry.bytes.now pieces.entry.ends.now tree) members.now
+        → OnOk result (text.new ≡ text.old ++ object_text tree members.now) }
+    ensures kept { OnOk result (Grows text.old text.new) }
+{
+    if members.is_empty() {
+        return text.append(b"{}");
+    }
+    for member in members {
+        text.append(member.head())?;
+        append_piece(text, table, member, pieces)?;
+    }
+    text.append_byte(b'}')
+}
+
+/// Appends the display of the value of a member.
+fn append_piece(
+    text: &mut Text,
+    table: &DisplayTable<'_>,
+    member: &Member,
+    pieces: Pieces<'_>,
+) -> Result<(), AllocError>
+    ensures shown { (tree : ℕ → Data) → IsPieceOf (schema_nodes table.now) pieces.entry.bytes.now pieces.entry.ends.now tree member.now
+        → OnOk result (text.new ≡ text.old ++ compact_text (tree member.now.field)) }
+    ensures kept { OnOk result (Grows text.old text.new) }
+{
+    match piece_of(pieces, member.field) {
+        Some(bytes) => append_leaf(text, table.node(Some(member.node)), bytes),
+        None => Err(AllocError),
+    }
+}
