@@ -226,6 +226,7 @@ impl<'a> Make for Displaying<'a> {
         Ok(KeyedSpans {
             owner: at,
             parts: BTreeMap::new(alloc),
+            bytes: 0,
         })
     }
 
@@ -240,6 +241,10 @@ impl<'a> Make for Displaying<'a> {
         key: &str,
         value: Span,
     ) -> Result<(), AllocError> {
+        entries.bytes = entries.bytes.saturating_add(key.len());
+        if self.room.is_full(entries.bytes) {
+            return Err(AllocError);
+        }
         let key = String::from_str(alloc, key)?;
         entries.parts.insert(key, value)?;
         Ok(())

@@ -20,8 +20,8 @@ use std::alloc::{AllocError, Global};
 use std::collections::BTreeMap;
 use std::mem::replace;
 
-/// A longer text is not made.
-const MOST: usize = 1_048_576;
+/// A longer text is not made, so that not much is lost where a display turns out to be long.
+const MOST: usize = 65_536;
 
 /// What the display of a datum is made in. It is kept from datum to datum; what it holds says nothing.
 #[derive(Drop)]
@@ -72,6 +72,11 @@ impl Room {
             return Err(AllocError);
         }
         Ok(Span { start, end })
+    }
+
+    /// Whether so many bytes more would be too many.
+    pub(crate) fn is_full(&self, more: usize) -> bool {
+        self.text.len().saturating_add(more) > MOST
     }
 
     /// Makes a text at hand.

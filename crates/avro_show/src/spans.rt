@@ -15,9 +15,10 @@ pub(crate) struct Spans {
     pub(crate) parts: Vec<Span>,
 }
 
-/// Where the displays of the values of a map stand, so far, by their keys.
+/// Where the displays of the values of a map stand, so far, by their keys, and how many bytes the keys have.
 #[derive(Drop)]
 pub(crate) struct KeyedSpans {
     pub(crate) owner: Option<u32>,
     pub(crate) parts: BTreeMap<String, Span>,
+    pub(crate) bytes: usize,
 }
