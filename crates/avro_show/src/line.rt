@@ -1,6 +1,6 @@
 //! The line of a datum, read from its encoding.
 
-ghost use Rattle.std.specs.Prelude.{◌≡◌, ◌≤◌, ◌++◌, [], ◌∷◌, length, take, true, IfOk, OnErr, OnOk};
+ghost use Rattle.std.specs.Prelude.{◌≡◌, ◌≤◌, ◌++◌, [], ◌∷◌, List, Ok, ℕ, length, take, true, IfOk, OnErr, OnOk};
 ghost use Rattle.std.specs.Result.{IfErr};
 ghost use Rattle.std.specs.Option.{IfSome};
 ghost use Rattle.avro_schema.specs.Fits.{is_within};
@@ -9,7 +9,8 @@ ghost use Rattle.avro_schema.specs.SeenSchema.{schema_nodes};
 ghost use Rattle.avro_schema.specs.Value.{Value};
 ghost use Rattle.avro_cursor.specs.Breaks.{Breaks};
 ghost use Rattle.avro_cursor.specs.Encoding.{Encodes};
-ghost use Rattle.avro_cursor.specs.Seen.{read_fault};
+ghost use Rattle.avro_cursor.specs.Fault.{ReadFault};
+ghost use Rattle.avro_cursor.specs.Seen.{Reports, UnlessOutOfMemory, read_fault};
 ghost use Rattle.avro_display.specs.DisplayTree.{display_text};
 
 use crate::composing::bytes_at;
@@ -36,6 +37,9 @@ pub fn append_line(
 ) -> Result<usize, ReadError>
     ensures found { IfOk result (λ len. (v : Value) × (len ≤ length bytes.now) × Encodes (schema_nodes table.now) (root_of (schema_nodes table.now)) v (take len bytes.now)
         × (is_within limits.now v ≡ true) × (lines.new ≡ lines.old ++ (display_text (schema_nodes table.now) (root_of (schema_nodes table.now)) v ++ 10 ∷ []))) }
+    ensures begins { (v : Value) (front rest : List ℕ) → Encodes (schema_nodes table.now) (root_of (schema_nodes table.now)) v front → is_within limits.now v ≡ true
+        → bytes.now ≡ front ++ rest → UnlessOutOfMemory result (result ≡ Ok (length front)) }
+    ensures breaks { (fault : ReadFault) → Breaks (schema_nodes table.now) limits.now (root_of (schema_nodes table.now)) bytes.now fault → UnlessOutOfMemory result (Reports result fault) }
     ensures unchanged { OnErr result (lines.new ≡ lines.old) }
     ensures refused { IfErr result (λ e. IfSome (read_fault e) (Breaks (schema_nodes table.now) limits.now (root_of (schema_nodes table.now)) bytes.now)) }
 {
