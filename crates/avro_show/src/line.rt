@@ -26,7 +26,8 @@ use std::alloc::{AllocError, Global};
 ///
 /// # Errors
 ///
-/// Those of [`avro_binary::decode`]; `OutOfMemory` also where the display is longer than 64 KiB. The lines are as they were.
+/// Those of [`avro_binary::decode`]; `OutOfMemory` also where the display and those of its parts have more than 64 KiB. The lines
+/// are as they were.
 pub fn append_line(
     alloc: Global,
     table: &DisplayTable<'_>,

@@ -1,6 +1,6 @@
 //! The text in which the display of a datum is made.
 
-ghost use Rattle.std.specs.Prelude.{◌≡◌, ◌++◌, ◌∷◌, [], List, ℕ, IfOk, OnOk, encode_utf8_all, length};
+ghost use Rattle.std.specs.Prelude.{◌≡◌, ◌+◌, ◌≤◌, ◌++◌, ◌∷◌, [], List, false, ℕ, IfOk, OnOk, encode_utf8_all, length};
 ghost use Rattle.std.specs.List.{AllByRecursion};
 ghost use Rattle.avro_schema.specs.SeenSchema.{schema_nodes};
 ghost use Rattle.json.specs.Print.{quoted};
@@ -20,7 +20,7 @@ use std::alloc::{AllocError, Global};
 use std::collections::BTreeMap;
 use std::mem::replace;
 
-/// A longer text is not made, so that not much is lost where a display turns out to be long.
+/// More bytes are not made, so that not much is lost where a display turns out to be long.
 const MOST: usize = 65_536;
 
 /// What the display of a datum is made in. It is kept from datum to datum; what it holds says nothing.
@@ -36,7 +36,9 @@ pub struct Room {
 
 impl Room {
     /// An empty room.
-    pub fn new(alloc: Global) -> Room {
+    pub fn new(alloc: Global) -> Room
+        ensures { result.text ≡ [] }
+    {
         Room {
             text: Text::new(alloc),
             whole: Text::new(alloc),
@@ -75,7 +77,9 @@ impl Room {
     }
 
     /// Whether so many bytes more would be too many.
-    pub(crate) fn is_full(&self, more: usize) -> bool {
+    pub(crate) fn is_full(&self, more: usize) -> bool
+        ensures { result ≡ false → length self.now.text + more ≤ 65_536 }
+    {
         self.text.len().saturating_add(more) > MOST
     }
 
