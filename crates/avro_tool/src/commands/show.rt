@@ -1,3 +1,5 @@
+ghost use Rattle.std.specs.Prelude.{◌≤◌, IfOk, IfSome, length};
+
 use crate::Finding;
 use crate::failure::Failure;
 use crate::files::container::{ROOM, open_container};
@@ -250,7 +252,9 @@ fn show_datum<'a, O: Write>(
     plan: &Option<Plan<'_>>,
     bytes: &[u8],
     lines: &mut Lines<'_, O>,
-) -> Result<usize, Failure<'a>> {
+) -> Result<usize, Failure<'a>>
+    ensures { IfOk result (λ len. len ≤ length bytes.now) }
+{
     if plan.is_none() {
         if let Some(len) = hold_line(alloc, bytes, lines) {
             if lines.text.len() > MOST {
@@ -266,17 +270,15 @@ fn show_datum<'a, O: Write>(
 
 /// Holds the line of the datum at the front of bytes, and returns its length. Nothing is held if the line is long or the bytes
 /// have a fault.
-fn hold_line<O>(alloc: Global, bytes: &[u8], lines: &mut Lines<'_, O>) -> Option<usize> {
+fn hold_line<O>(alloc: Global, bytes: &[u8], lines: &mut Lines<'_, O>) -> Option<usize>
+    ensures { IfSome result (λ len. len ≤ length bytes.now) }
+{
     let limits = FileLimits::default().datum();
-    append_line(
-        alloc,
-        &lines.table,
-        bytes,
-        &limits,
-        &mut lines.room,
-        &mut lines.text,
-    )
-    .ok()
+    let (room, text) = (&mut lines.room, &mut lines.text);
+    match append_line(alloc, &lines.table, bytes, &limits, room, text) {
+        Ok(len) => Some(len),
+        Err(_) => None,
+    }
 }
 
 /// Prints the datum at the front of bytes that were walked over, and returns its length.
@@ -286,7 +288,9 @@ fn show_read<'a, O: Write>(
     plan: &Option<Plan<'_>>,
     bytes: &[u8],
     lines: &mut Lines<'_, O>,
-) -> Result<usize, Failure<'a>> {
+) -> Result<usize, Failure<'a>>
+    ensures { IfOk result (λ len. len ≤ length bytes.now) }
+{
     let limits = FileLimits::default().datum();
     // After the walk only memory can run out.
     let Ok((datum, len)) = decode(alloc, schema, schema.root(), bytes, &limits) else {
