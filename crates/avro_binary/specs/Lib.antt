@@ -1,6 +1,8 @@
 pub mod Encoded
+pub mod Growing
 pub mod IntoBranch
 pub mod Making
+pub mod Outputs
 pub mod Pieces
 pub mod Reading
 pub mod CursorReads

@@ -2,7 +2,7 @@
 use Rattle.std.proofs.Common.{◌≡◌, ℕ, List, ◌++◌, length, take, sym, ap, subst, ◌∙◌, append_assoc, length-append, arith, Bool, true, false, if◌then◌else◌}
 use Rattle.std.specs.Prelude.{Result, Ok, Err, OnOk, OnErr}
 use Rattle.std.proofs.lemmas.List.{take_at}
-use Rattle.avro_packed.specs.Appended.{Grows, StandsAt}
+use Rattle.avro_binary.specs.Outputs.{Grows, StandsAt}
 
 -- what it had
 pub front_left : (old out : List ℕ) (end : ℕ) → Grows old out → end ≡ length old → take end out ≡ old

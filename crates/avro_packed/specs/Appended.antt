@@ -4,21 +4,9 @@ use Rattle.avro_zigzag.specs.Number.{number_bytes}
 use Rattle.avro_schema.specs.Value.{Value}
 use Rattle.avro_schema.specs.Seen.{values_from, entries_from}
 use Rattle.avro_cursor.specs.Encoding.{plain_values, plain_entries}
+use Rattle.avro_binary.specs.Outputs.{StandsAt}
 use Rattle.avro_packed.specs.declared.gathered.Gathered.{Gathered}
 use Rattle.avro_packed.specs.declared.written.Written.{Written}
-
--- an output has more after what it had
-pub record Grows (before after : List ℕ) : Type 0 where
-  pub more : List ℕ
-  pub grown : after ≡ before ++ more
-
--- these bytes stand in an output from one offset to another
-pub record StandsAt (out : List ℕ) (start end : ℕ) (bytes : List ℕ) : Type 0 where
-  pub before : List ℕ
-  pub rest : List ℕ
-  pub split : out ≡ before ++ bytes ++ rest
-  pub starts : start ≡ length before
-  pub ends : end ≡ start + length bytes
 
 -- what was written are these bytes, or so many
 abbrev pub Holds : List ℕ → Written → List ℕ → Type 0

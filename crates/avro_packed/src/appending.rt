@@ -4,7 +4,8 @@ ghost use Rattle.std.specs.Prelude.{◌≡◌, ◌++◌, [], ◌<◌, List, ℕ,
 ghost use Rattle.std.specs.Option.{IfSome};
 ghost use Rattle.avro_zigzag.specs.Number.{number_bytes};
 ghost use Rattle.avro_cursor.specs.Encoding.{plain_bytes, plain_blocks};
-ghost use Rattle.avro_packed.specs.Appended.{AppendsWithin, Grows, Holds, branch_bytes};
+ghost use Rattle.avro_binary.specs.Outputs.{Grows};
+ghost use Rattle.avro_packed.specs.Appended.{AppendsWithin, Holds, branch_bytes};
 
 use crate::gathered::Gathered;
 use crate::moving::{append_written, closed, give_back, is_past, keep_within, only_counted};

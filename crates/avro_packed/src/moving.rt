@@ -3,7 +3,8 @@
 ghost use Rattle.std.specs.Prelude.{◌≡◌, ◌++◌, ◌+◌, ◌<◌, ◌≤◌, [], ◌∷◌, List, ℕ, true, false, length, IfOk, OnOk};
 ghost use Rattle.std.specs.Option.{IfSome};
 ghost use Rattle.avro_cursor.specs.Encoding.{plain_bytes};
-ghost use Rattle.avro_packed.specs.Appended.{AppendsWithin, Grows, Holds, StandsAt};
+ghost use Rattle.avro_binary.specs.Outputs.{Grows, StandsAt};
+ghost use Rattle.avro_packed.specs.Appended.{AppendsWithin, Holds};
 
 use crate::numbers::{append_byte, append_number};
 use crate::spares::{give, room};

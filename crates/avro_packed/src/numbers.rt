@@ -2,7 +2,7 @@
 
 ghost use Rattle.std.specs.Prelude.{◌≡◌, ◌++◌, [], ◌∷◌, List, ℕ, OnOk};
 ghost use Rattle.avro_zigzag.specs.Number.{AreLeastGroups, number_bytes};
-ghost use Rattle.avro_packed.specs.Appended.{Grows};
+ghost use Rattle.avro_binary.specs.Outputs.{Grows};
 
 use avro_zigzag::to_zigzag;
 use std::alloc::AllocError;

@@ -15,7 +15,8 @@ impl Appending {
     ghost use Rattle.avro_schema.specs.Seen.{value_of};
     ghost use Rattle.avro_cursor.specs.Encoding.{plain};
     ghost use Rattle.avro_zigzag.specs.Number.{number_bytes};
-    ghost use Rattle.avro_packed.specs.Appended.{Grows, Holds};
+    ghost use Rattle.avro_binary.specs.Outputs.{Grows};
+    ghost use Rattle.avro_packed.specs.Appended.{Holds};
 
     /// Writes an int at hand.
     #[inline(always)]
@@ -61,8 +62,10 @@ impl Put for Appending {
     ghost use Rattle.std.specs.Prelude.{◌≡◌, ◌++◌, []};
     ghost use Rattle.avro_schema.specs.Seen.{values_from, entries_from};
     ghost use Rattle.avro_cursor.specs.Encoding.{plain, plain_values, plain_entries};
-    ghost use Rattle.avro_packed.specs.Appended.{Grows, Holds, branch_bytes, AreItems, AreEntries};
-    ghost use Rattle.avro_packed.specs.inside.Outputs.{grows_none, grows_on, still_holds};
+    ghost use Rattle.avro_binary.specs.Outputs.{Grows};
+    ghost use Rattle.avro_packed.specs.Appended.{Holds, branch_bytes, AreItems, AreEntries};
+    ghost use Rattle.avro_binary.specs.Growing.{grows_none, grows_on};
+    ghost use Rattle.avro_packed.specs.inside.Outputs.{still_holds};
 
     type Out = Written;
 

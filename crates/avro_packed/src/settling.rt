@@ -1,7 +1,8 @@
 //! Reading into an output that has bytes already, and settling what was written behind them.
 
 ghost use Rattle.std.specs.Prelude.{◌≡◌, ◌++◌, List, ℕ, length, IfOk, OnOk, OnErr};
-ghost use Rattle.avro_packed.specs.Appended.{AppendsWithin, Grows, Holds, StandsAt};
+ghost use Rattle.avro_binary.specs.Outputs.{Grows, StandsAt};
+ghost use Rattle.avro_packed.specs.Appended.{AppendsWithin, Holds};
 
 use crate::appending::Appending;
 use crate::moving::{is_past, keep_within};

@@ -10,7 +10,7 @@ use Rattle.serde_json.specs.Written.{comma_if, compact_text, items_text, members
 use Rattle.avro_display.specs.Displayed.{members_left, object_text}
 use Rattle.avro_display.specs.Table.{head_text}
 use Rattle.avro_display.specs.declared.member.Member.{Member}
-use Rattle.avro_show.specs.Spans.{AreItemsAt, AreMembersAt, IsSpanAt, StandsAt}
+use Rattle.avro_show.specs.Spans.{AreItemsAt, AreMembersAt, IsSpanAt, StandsIn}
 use Rattle.avro_show.specs.declared.spans.Span.{Span}
 
 module _ (text all now : List ℕ) where
@@ -23,14 +23,14 @@ module _ (text all now : List ℕ) where
 
 module _ (text all now next then : List ℕ) where
   pub items_more : (later : Bool) (spans : List Span) (i : ℕ) (s : Span) → i < length spans → next ≡ now ++ comma_if later
-      → ((bytes : List ℕ) → StandsAt text (get_or spans i s) bytes → then ≡ next ++ bytes) → ItemsLeft text all now later (drop i spans) → ItemsLeft text all then true (drop (i + 1) spans)
+      → ((bytes : List ℕ) → StandsIn text (get_or spans i s) bytes → then ≡ next ++ bytes) → ItemsLeft text all now later (drop i spans) → ItemsLeft text all then true (drop (i + 1) spans)
   items_more later spans i s within has step left =
       let (ds, are, is) = subst (λ (l : List Span). ItemsLeft text all now later l) (drop_more spans i s within) left in
       let (d, rest, e, stands, more) = are in
       (rest, more, is ∙ ap (λ (x : Items). now ++ items_text later x) e ∙ rw (step (compact_text d) stands, has) (simp append_assoc))
 
   pub entries_more : (later : Bool) (spans rest : List (String Global × Span)) (k : String Global) (s : Span) → spans ≡ (k, s) ∷ rest → next ≡ now ++ (comma_if later ++ head_text (string_bytes k))
-      → ((bytes : List ℕ) → StandsAt text s bytes → then ≡ next ++ bytes) → EntriesLeft text all now later spans → EntriesLeft text all then true rest
+      → ((bytes : List ℕ) → StandsIn text s bytes → then ≡ next ++ bytes) → EntriesLeft text all now later spans → EntriesLeft text all then true rest
   entries_more later spans rest k s at has step left =
       let (ms, are, is) = subst (λ (l : List (String Global × Span)). EntriesLeft text all now later l) at left in
       let (d, others, e, stands, more) = are in
@@ -62,5 +62,5 @@ entries_last text all now then later spans none has left =
     has ∙ sym (is ∙ ap (λ x. now ++ members_text later x) are)
 
 -- what stands where the span at an index says
-pub span_here : (text : List ℕ) (spans : List Span) (k : ℕ) (s : Span) (bytes : List ℕ) → s ≡ get_or spans k s → IsSpanAt text spans k bytes → StandsAt text s bytes
-span_here text spans k s bytes is (span, got, stands) = subst (λ (x : Span). StandsAt text x bytes) (sym (is ∙ get_or_from_slice_get spans k span s got)) stands
+pub span_here : (text : List ℕ) (spans : List Span) (k : ℕ) (s : Span) (bytes : List ℕ) → s ≡ get_or spans k s → IsSpanAt text spans k bytes → StandsIn text s bytes
+span_here text spans k s bytes is (span, got, stands) = subst (λ (x : Span). StandsIn text x bytes) (sym (is ∙ get_or_from_slice_get spans k span s got)) stands

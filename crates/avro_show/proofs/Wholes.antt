@@ -21,14 +21,14 @@ use Rattle.avro_display.specs.DisplayTree.{display_entries, display_items, displ
 use Rattle.avro_display.specs.Displayed.{object_text}
 use Rattle.avro_display.specs.Table.{AreMembers, IsMember, field_id, field_tree, value_at}
 use Rattle.avro_display.specs.declared.member.Member.{Member}
-use Rattle.avro_show.specs.Spans.{AreFieldsAt, AreItemsAt, AreMembersAt, IsOf, IsPieceOf, IsSpanAt, StandsAt, field_id_at, item_id, text_of, value_id}
+use Rattle.avro_show.specs.Spans.{AreFieldsAt, AreItemsAt, AreMembersAt, IsOf, IsPieceOf, IsSpanAt, StandsIn, field_id_at, item_id, text_of, value_id}
 use Rattle.avro_show.specs.declared.spans.Span.{Span}
 use Rattle.avro_show.proofs.Objects.{members_shown}
 
 -- ---- One part more
 
 module _ (text : List ℕ) (nodes : List Node) where
-  pub items_push : (n : Node) (spans : List Span) (s : Span) (vs : List Value) (v : Value) → AreItemsAt text spans (display_items nodes n (values_from vs)) → StandsAt text s (display_text nodes n v)
+  pub items_push : (n : Node) (spans : List Span) (s : Span) (vs : List Value) (v : Value) → AreItemsAt text spans (display_items nodes n (values_from vs)) → StandsIn text s (display_text nodes n v)
       → AreItemsAt text (spans ++ s ∷ []) (display_items nodes n (values_from (vs ++ v ∷ [])))
   items_push n [] s [] v are here = (_, _, refl, here, refl)
   items_push n [] s (u ∷ us) v are here = absurd (cc (are))
@@ -39,7 +39,7 @@ module _ (text : List ℕ) (nodes : List Node) where
       (_, _, refl, rw tree at stands, items_push n xs s us v (rw left at more) here)
 
   pub fields_push : (fs : List FieldNode) (spans : List Span) (s : Span) (vs : List Value) (v : Value) (id : ℕ) → slice_get (field_ids fs) (length vs) ≡ Some id → AreFieldsAt nodes text fs spans vs
-      → StandsAt text s (display_text nodes (node_at nodes id) v) → AreFieldsAt nodes text fs (spans ++ s ∷ []) (vs ++ v ∷ [])
+      → StandsIn text s (display_text nodes (node_at nodes id) v) → AreFieldsAt nodes text fs (spans ++ s ∷ []) (vs ++ v ∷ [])
   fields_push [] spans s vs v id at are here = absurd (cc (at))
   fields_push (f ∷ fs) [] s [] v id at are here = let same : f.node ≡ id = cc (at) in (rw same here, refl)
   fields_push (f ∷ fs) [] s (u ∷ us) v id at are here = absurd (cc (are))
@@ -141,7 +141,7 @@ module _ (text : List ℕ) where
   members_match Equal a b c x y z less equal greater = equal
   members_match Greater a b c x y z less equal greater = greater
 
-  members_insert : (es : List (String Global × Span)) (k : String Global) (s : Span) (d : Data) (ms : Members) → AreMembersAt text es ms → StandsAt text s (compact_text d)
+  members_insert : (es : List (String Global × Span)) (k : String Global) (s : Span) (d : Data) (ms : Members) → AreMembersAt text es ms → StandsIn text s (compact_text d)
       → AreMembersAt text (insert_entry string_cmp es k s) (put (string_bytes k) d ms)
   members_insert [] k s d ms none here = (d, no_members, ap (put (string_bytes k) d) none, here, refl)
   members_insert (e ∷ es) k s d ms (d', rest, is, stands, more) here =
@@ -149,7 +149,7 @@ module _ (text : List ℕ) where
       (members_match (string_cmp k e.0) _ _ _ _ _ _ (d, _, refl, here, (d', rest, refl, stands, more)) (d, rest, refl, here, more) (d', _, refl, stands, members_insert es k s d rest more here))
 
   pub entry_push : (nodes : List Node) (n : Node) (spans new : List (String Global × Span)) (k : String Global) (s : Span) (key : List ℕ) (es : List (List ℕ × Value)) (v : Value) → string_bytes k ≡ key
-      → new ≡ insert_entry string_cmp spans k s → AreMembersAt text spans (display_entries nodes n (entries_from es) no_members) → StandsAt text s (display_text nodes n v)
+      → new ≡ insert_entry string_cmp spans k s → AreMembersAt text spans (display_entries nodes n (entries_from es) no_members) → StandsIn text s (display_text nodes n v)
       → AreMembersAt text new (display_entries nodes n (entries_from (es ++ (key, v) ∷ [])) no_members)
   entry_push nodes n spans new k s key es v named inserted are here =
       rw (inserted, display_push nodes n es key v no_members, ← named) (members_insert spans k s (display_tree nodes n v) _ are here)

@@ -1,5 +1,5 @@
 -- Where the displays of the parts of a datum stand in a text, while the datum is read.
-use Rattle.std.specs.Prelude.{◌≡◌, ℕ, ◌+◌, List, [], ◌∷◌, ◌++◌, length, Option, Some, String, true, option_and_then, option_map, slice_get, string_bytes}
+use Rattle.std.specs.Prelude.{◌≡◌, ℕ, List, [], ◌∷◌, ◌++◌, Option, Some, String, true, option_and_then, option_map, slice_get, string_bytes}
 use Rattle.std.specs.declared.alloc.Global.{Global}
 use Rattle.avro_schema.specs.Fits.{fits}
 use Rattle.avro_schema.specs.Node.{Node, FieldNode, branches_of, items_node, node_at, values_node}
@@ -9,6 +9,7 @@ use Rattle.avro_schema.specs.Value.{Value}
 use Rattle.avro_schema.specs.declared.schema.Schema.{Schema}
 use Rattle.serde_json.specs.Data.{Data, Items, no_items, item, Members, no_members, member}
 use Rattle.serde_json.specs.Written.{compact_text}
+use Rattle.avro_binary.specs.Outputs.{Grows, StandsAt}
 use Rattle.avro_binary.specs.Pieces.{piece}
 use Rattle.avro_cursor.specs.Encoding.{Spells}
 use Rattle.avro_display.specs.declared.member.Member.{Member}
@@ -17,43 +18,34 @@ use Rattle.avro_show.specs.declared.spans.Span.{Span}
 use Rattle.avro_show.specs.declared.spans.Spans.{Spans}
 use Rattle.avro_show.specs.declared.spans.KeyedSpans.{KeyedSpans}
 
--- a text has more after what it had
-pub record Grows (before after : List ℕ) : Type 0 where
-  pub more : List ℕ
-  pub grown : after ≡ before ++ more
-
 -- the schema that is displayed stays, and its text has more
 abbrev pub Keeps : Schema → List ℕ → Schema → List ℕ → Type 0
 Keeps t before u after = (u ≡ t) × Grows before after
 
 -- these bytes stand in a text
-pub record StandsAt (text : List ℕ) (span : Span) (bytes : List ℕ) : Type 0 where
-  pub before : List ℕ
-  pub rest : List ℕ
-  pub split : text ≡ before ++ bytes ++ rest
-  pub starts : span.start ≡ length before
-  pub ends : span.end ≡ span.start + length bytes
+abbrev pub StandsIn : List ℕ → Span → List ℕ → Type 0
+StandsIn text span bytes = StandsAt text span.start span.end bytes
 
 -- the items of an array, one after another
 abbrev pub AreItemsAt : List ℕ → List Span → Items → Type 0
 AreItemsAt text [] ds = ds ≡ no_items
-AreItemsAt text (s ∷ ss) ds = (d : Data) × (rest : Items) × (ds ≡ item d rest) × StandsAt text s (compact_text d) × AreItemsAt text ss rest
+AreItemsAt text (s ∷ ss) ds = (d : Data) × (rest : Items) × (ds ≡ item d rest) × StandsIn text s (compact_text d) × AreItemsAt text ss rest
 
 -- the values of an object's members, and their keys
 abbrev pub AreMembersAt : List ℕ → List (String Global × Span) → Members → Type 0
 AreMembersAt text [] ms = ms ≡ no_members
 AreMembersAt text (e ∷ es) ms =
-    (d : Data) × (rest : Members) × (ms ≡ member (string_bytes e.0) d rest) × StandsAt text e.1 (compact_text d) × AreMembersAt text es rest
+    (d : Data) × (rest : Members) × (ms ≡ member (string_bytes e.0) d rest) × StandsIn text e.1 (compact_text d) × AreMembersAt text es rest
 
 -- the values of the first fields of a record
 abbrev pub AreFieldsAt : List Node → List ℕ → List FieldNode → List Span → List Value → Type 0
 AreFieldsAt nodes text fs [] vs = vs ≡ []
-AreFieldsAt nodes text (f ∷ fs) (s ∷ ss) (v ∷ vs) = StandsAt text s (display_text nodes (node_at nodes f.node) v) × AreFieldsAt nodes text fs ss vs
+AreFieldsAt nodes text (f ∷ fs) (s ∷ ss) (v ∷ vs) = StandsIn text s (display_text nodes (node_at nodes f.node) v) × AreFieldsAt nodes text fs ss vs
 AreFieldsAt nodes text fs (s ∷ ss) vs = ⊥
 
 -- the bytes stand where the span at an index says
 abbrev pub IsSpanAt : List ℕ → List Span → ℕ → List ℕ → Type 0
-IsSpanAt text spans k bytes = (span : Span) × (slice_get spans k ≡ Some span) × StandsAt text span bytes
+IsSpanAt text spans k bytes = (span : Span) × (slice_get spans k ≡ Some span) × StandsIn text span bytes
 
 -- the value of a member is encoded in its piece
 abbrev pub IsPieceOf : List Node → List ℕ → List ℕ → (ℕ → Data) → Member → Type 0
@@ -84,7 +76,7 @@ field_id_at t at k = option_map (λ f. f.node) (slice_get (record_fields (part_a
 
 -- what is made of a datum, and of its parts so far, stands for it
 abbrev pub StandsFor : Schema → List ℕ → List Node → Node → Option ℕ → Span → Value → Type 0
-StandsFor t text nodes n at span v = IsOf t nodes n at → StandsAt text span (text_of t at v)
+StandsFor t text nodes n at span v = IsOf t nodes n at → StandsIn text span (text_of t at v)
 
 abbrev pub ItemsStandFor : Schema → List ℕ → List Node → ℕ → Option ℕ → Spans → List Value → Type 0
 ItemsStandFor t text nodes id at items vs = IsOf t nodes (Node.array id) at

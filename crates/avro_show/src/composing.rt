@@ -6,7 +6,8 @@ ghost use Rattle.serde_json.specs.Data.{Data, Items, Members, array, object};
 ghost use Rattle.serde_json.specs.Written.{compact_text};
 ghost use Rattle.avro_display.specs.Displayed.{object_text};
 ghost use Rattle.avro_schema.specs.SeenSchema.{schema_nodes};
-ghost use Rattle.avro_show.specs.Spans.{AreItemsAt, AreMembersAt, Grows, IsPieceOf, IsSpanAt, StandsAt};
+ghost use Rattle.avro_binary.specs.Outputs.{Grows};
+ghost use Rattle.avro_show.specs.Spans.{AreItemsAt, AreMembersAt, IsPieceOf, IsSpanAt, StandsIn};
 
 use crate::leaf::append_leaf;
 use crate::spans::Span;
@@ -18,7 +19,7 @@ use std::collections::BTreeMap;
 /// The bytes of a text where a span says.
 #[inline(always)]
 pub(crate) fn bytes_at(text: &[u8], span: Span) -> &[u8]
-    ensures { (bytes : List ℕ) → StandsAt text.now span bytes → result.now ≡ bytes }
+    ensures { (bytes : List ℕ) → StandsIn text.now span bytes → result.now ≡ bytes }
 {
     if span.start > span.end || span.end > text.len() {
         return &[];

@@ -59,7 +59,8 @@ impl<'a> Make for Displaying<'a> {
     ghost use Rattle.std.proofs.Common.{◌∙◌, ap, sym};
     ghost use Rattle.avro_schema.specs.declared.schema.Schema.{Schema};
     ghost use Rattle.avro_show.specs.Spans.{EntriesStandFor, FieldsStandFor, ItemsStandFor, Keeps, StandsFor, branch_id, field_id_at, item_id, value_id};
-    ghost use Rattle.avro_show.specs.inside.Later.{entries_later, fields_later, grows_none, grows_on, items_later};
+    ghost use Rattle.avro_binary.specs.Growing.{grows_none, grows_on};
+    ghost use Rattle.avro_show.specs.inside.Later.{entries_later, fields_later, items_later};
 
     /// The id of the node that a part is displayed as data of, if there is one.
     type At = Option<u32>;

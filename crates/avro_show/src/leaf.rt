@@ -11,7 +11,7 @@ ghost use Rattle.json.specs.Print.{quoted, token_text};
 ghost use Rattle.json.specs.Token.Token.{boolean};
 ghost use Rattle.serde_json.specs.Find.{of_integer};
 ghost use Rattle.serde_json.specs.Written.{number_text};
-ghost use Rattle.avro_show.specs.Spans.{Grows};
+ghost use Rattle.avro_binary.specs.Outputs.{Grows};
 ghost use Rattle.avro_display.specs.DisplayTree.{display_text, symbol_at};
 
 use avro_display::{Text, symbol_text};

@@ -8,7 +8,8 @@ ghost use Rattle.serde_json.specs.Data.{Data, Items, Members, array, object};
 ghost use Rattle.serde_json.specs.Find.{of_integer};
 ghost use Rattle.serde_json.specs.Written.{compact_text, number_text};
 ghost use Rattle.avro_display.specs.Displayed.{object_text};
-ghost use Rattle.avro_show.specs.Spans.{AreItemsAt, AreMembersAt, Grows, IsPieceOf, IsSpanAt, StandsAt};
+ghost use Rattle.avro_binary.specs.Outputs.{Grows};
+ghost use Rattle.avro_show.specs.Spans.{AreItemsAt, AreMembersAt, IsPieceOf, IsSpanAt, StandsIn};
 
 use crate::composing::{
     append_branch, append_entries, append_items, append_members, append_pieces, bytes_at,
@@ -67,7 +68,7 @@ impl Room {
     /// The text is too long.
     #[inline(always)]
     fn since(&self, start: usize) -> Result<Span, AllocError>
-        ensures { (before bytes : List ℕ) → self.now.text ≡ before ++ bytes → start ≡ length before → IfOk result (λ span. StandsAt self.now.text span bytes) }
+        ensures { (before bytes : List ℕ) → self.now.text ≡ before ++ bytes → start ≡ length before → IfOk result (λ span. StandsIn self.now.text span bytes) }
     {
         let end = self.text.len();
         if end > MOST {
@@ -87,7 +88,7 @@ impl Room {
     #[inline(always)]
     pub(crate) fn plain(&mut self, bytes: &[u8]) -> Result<Span, AllocError>
         ensures kept { OnOk result (Grows self.old.text self.new.text) }
-        ensures stands { IfOk result (λ span. StandsAt self.new.text span bytes.now) }
+        ensures stands { IfOk result (λ span. StandsIn self.new.text span bytes.now) }
     {
         let start = self.text.len();
         self.text.append(bytes)?;
@@ -98,7 +99,7 @@ impl Room {
     #[inline(always)]
     pub(crate) fn number(&mut self, value: i64) -> Result<Span, AllocError>
         ensures kept { OnOk result (Grows self.old.text self.new.text) }
-        ensures stands { IfOk result (λ span. StandsAt self.new.text span (number_text (of_integer value))) }
+        ensures stands { IfOk result (λ span. StandsIn self.new.text span (number_text (of_integer value))) }
     {
         let start = self.text.len();
         self.text.append_number(value)?;
@@ -108,7 +109,7 @@ impl Room {
     /// Makes a quoted text.
     pub(crate) fn quoted(&mut self, string: &str) -> Result<Span, AllocError>
         ensures kept { OnOk result (Grows self.old.text self.new.text) }
-        ensures stands { IfOk result (λ span. StandsAt self.new.text span (quoted string.now)) }
+        ensures stands { IfOk result (λ span. StandsIn self.new.text span (quoted string.now)) }
     {
         let start = self.text.len();
         self.text.append_quoted(string)?;
@@ -118,7 +119,7 @@ impl Room {
     /// Makes a quoted text of one character for each byte.
     pub(crate) fn characters(&mut self, bytes: &[u8]) -> Result<Span, AllocError>
         ensures kept { OnOk result (Grows self.old.text self.new.text) }
-        ensures stands { IfOk result (λ span. StandsAt self.new.text span (quoted (encode_utf8_all bytes.now))) }
+        ensures stands { IfOk result (λ span. StandsIn self.new.text span (quoted (encode_utf8_all bytes.now))) }
     {
         let start = self.text.len();
         self.text.append_characters(bytes)?;
@@ -128,7 +129,7 @@ impl Room {
     /// Makes the value of a union's branch, behind the text that opens it.
     pub(crate) fn branch(&mut self, opening: &[u8], value: Span) -> Result<Span, AllocError>
         ensures kept { OnOk result (Grows self.old.text self.new.text) }
-        ensures stands { (bytes : List ℕ) → StandsAt self.old.text value bytes → IfOk result (λ span. StandsAt self.new.text span (opening.now ++ (bytes ++ 125 ∷ []))) }
+        ensures stands { (bytes : List ℕ) → StandsIn self.old.text value bytes → IfOk result (λ span. StandsIn self.new.text span (opening.now ++ (bytes ++ 125 ∷ []))) }
     {
         self.whole.clear();
         append_branch(
@@ -142,7 +143,7 @@ impl Room {
     /// Makes an array of items.
     pub(crate) fn array(&mut self, items: &[Span]) -> Result<Span, AllocError>
         ensures kept { OnOk result (Grows self.old.text self.new.text) }
-        ensures stands { (ds : Items) → AreItemsAt self.old.text items.now ds → IfOk result (λ span. StandsAt self.new.text span (compact_text (array ds))) }
+        ensures stands { (ds : Items) → AreItemsAt self.old.text items.now ds → IfOk result (λ span. StandsIn self.new.text span (compact_text (array ds))) }
     {
         self.whole.clear();
         append_items(&mut self.whole, self.text.as_slice(), items)?;
@@ -152,7 +153,7 @@ impl Room {
     /// Makes an object of entries.
     pub(crate) fn object(&mut self, entries: &BTreeMap<String, Span>) -> Result<Span, AllocError>
         ensures kept { OnOk result (Grows self.old.text self.new.text) }
-        ensures stands { (ms : Members) → AreMembersAt self.old.text entries.now.entries ms → IfOk result (λ span. StandsAt self.new.text span (compact_text (object ms))) }
+        ensures stands { (ms : Members) → AreMembersAt self.old.text entries.now.entries ms → IfOk result (λ span. StandsIn self.new.text span (compact_text (object ms))) }
     {
         self.whole.clear();
         append_entries(&mut self.whole, self.text.as_slice(), entries)?;
@@ -163,7 +164,7 @@ impl Room {
     pub(crate) fn record(&mut self, members: &[Member], values: &[Span]) -> Result<Span, AllocError>
         ensures kept { OnOk result (Grows self.old.text self.new.text) }
         ensures stands { (tree : ℕ → Data) → AllByRecursion (λ m. IsSpanAt self.old.text values.now m.field (compact_text (tree m.field))) members.now
-            → IfOk result (λ span. StandsAt self.new.text span (object_text tree members.now)) }
+            → IfOk result (λ span. StandsIn self.new.text span (object_text tree members.now)) }
     {
         self.whole.clear();
         append_members(&mut self.whole, self.text.as_slice(), members, values)?;
@@ -179,7 +180,7 @@ impl Room {
     ) -> Result<Span, AllocError>
         ensures kept { OnOk result (Grows self.old.text self.new.text) }
         ensures stands { (tree : ℕ → Data) → AllByRecursion (IsPieceOf (schema_nodes table.now) pieces.entry.bytes.now pieces.entry.ends.now tree) members.now
-            → IfOk result (λ span. StandsAt self.new.text span (object_text tree members.now)) }
+            → IfOk result (λ span. StandsIn self.new.text span (object_text tree members.now)) }
     {
         let start = self.text.len();
         append_pieces(&mut self.text, table, members, pieces)?;
@@ -189,7 +190,7 @@ impl Room {
     /// Makes the whole that was put together.
     fn composed(&mut self) -> Result<Span, AllocError>
         ensures kept { OnOk result (Grows self.old.text self.new.text) }
-        ensures stands { IfOk result (λ span. StandsAt self.new.text span self.old.whole) }
+        ensures stands { IfOk result (λ span. StandsIn self.new.text span self.old.whole) }
     {
         let start = self.text.len();
         self.text.append(self.whole.as_slice())?;

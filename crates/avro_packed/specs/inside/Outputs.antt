@@ -1,26 +1,10 @@
--- Outputs that grow, and what stands in them.
-use Rattle.std.proofs.Common.{◌≡◌, ℕ, List, [], ◌++◌, length, take, refl, sym, ap, ◌∙◌, append_assoc, length-append, arith}
-use Rattle.std.proofs.lemmas.List.{append-nil, take_at}
-use Rattle.avro_packed.specs.Appended.{Grows, StandsAt, Holds}
+-- What was written into an output that grows.
+use Rattle.std.proofs.Common.{◌≡◌, ℕ, List, ◌++◌, length, take, refl, sym, ap, ◌∙◌, append_assoc, length-append, arith}
+use Rattle.std.proofs.lemmas.List.{take_at}
+use Rattle.avro_binary.specs.Growing.{stands_still}
+use Rattle.avro_binary.specs.Outputs.{Grows, StandsAt}
+use Rattle.avro_packed.specs.Appended.{Holds}
 use Rattle.avro_packed.specs.declared.written.Written.{Written}
-
-pub grows_none : (s : List ℕ) → Grows s s
-grows_none s = record { more = []; grown = sym (append-nil s) }
-
-pub grows_on : (s t u : List ℕ) → Grows s t → Grows t u → Grows s u
-grows_on s t u before after = record {
-  more = before.more ++ after.more;
-  grown = after.grown ∙ ap (λ (l : List ℕ). l ++ after.more) before.grown ∙ append_assoc s before.more after.more;
-}
-
-pub stands_still : (s t : List ℕ) (start end : ℕ) (bytes : List ℕ) → Grows s t → StandsAt s start end bytes → StandsAt t start end bytes
-stands_still s t start end bytes kept stand = record {
-  before = stand.before;
-  rest = stand.rest ++ kept.more;
-  split = kept.grown ∙ ap (λ (l : List ℕ). l ++ kept.more) stand.split ∙ append_assoc (stand.before ++ bytes) stand.rest kept.more;
-  starts = stand.starts;
-  ends = stand.ends;
-}
 
 pub still_holds : (s t : List ℕ) (w : Written) (bytes : List ℕ) → Grows s t → Holds s w bytes → Holds t w bytes
 still_holds s t (Written.Range start end) bytes kept holds = stands_still s t start end bytes kept holds

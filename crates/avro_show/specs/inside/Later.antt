@@ -1,35 +1,21 @@
 -- What stands in a text stands in it for good.
-use Rattle.std.proofs.Common.{◌≡◌, ℕ, List, [], ◌∷◌, ◌++◌, Option, sym, ap, subst, ◌∙◌, append_assoc}
-use Rattle.std.proofs.lemmas.List.{append-nil}
+use Rattle.std.proofs.Common.{◌≡◌, ℕ, List, [], ◌∷◌, Option, sym, subst}
 use Rattle.std.specs.Prelude.{String}
 use Rattle.std.specs.declared.alloc.Global.{Global}
 use Rattle.avro_schema.specs.Node.{Node, FieldNode}
 use Rattle.avro_schema.specs.Value.{Value}
 use Rattle.avro_schema.specs.declared.schema.Schema.{Schema}
 use Rattle.serde_json.specs.Data.{Items, Members}
-use Rattle.avro_show.specs.Spans.{AreFieldsAt, AreItemsAt, AreMembersAt, EntriesStandFor, FieldsStandFor, Grows, ItemsStandFor, StandsAt}
+use Rattle.avro_binary.specs.Growing.{stands_still}
+use Rattle.avro_binary.specs.Outputs.{Grows}
+use Rattle.avro_show.specs.Spans.{AreFieldsAt, AreItemsAt, AreMembersAt, EntriesStandFor, FieldsStandFor, ItemsStandFor, StandsIn}
 use Rattle.avro_show.specs.declared.spans.KeyedSpans.{KeyedSpans}
 use Rattle.avro_show.specs.declared.spans.Span.{Span}
 use Rattle.avro_show.specs.declared.spans.Spans.{Spans}
 
-pub grows_none : (s : List ℕ) → Grows s s
-grows_none s = record { more = []; grown = sym (append-nil s) }
-
-pub grows_on : (s t u : List ℕ) → Grows s t → Grows t u → Grows s u
-grows_on s t u before after = record {
-  more = before.more ++ after.more;
-  grown = after.grown ∙ ap (λ (l : List ℕ). l ++ after.more) before.grown ∙ append_assoc s before.more after.more;
-}
-
 module _ (s t : List ℕ) (kept : Grows s t) where
-  pub still_stands : (span : Span) (bytes : List ℕ) → StandsAt s span bytes → StandsAt t span bytes
-  still_stands span bytes stand = record {
-    before = stand.before;
-    rest = stand.rest ++ kept.more;
-    split = kept.grown ∙ ap (λ (l : List ℕ). l ++ kept.more) stand.split ∙ append_assoc (stand.before ++ bytes) stand.rest kept.more;
-    starts = stand.starts;
-    ends = stand.ends;
-  }
+  pub still_stands : (span : Span) (bytes : List ℕ) → StandsIn s span bytes → StandsIn t span bytes
+  still_stands span bytes stand = stands_still s t span.start span.end bytes kept stand
 
   pub items_still : (spans : List Span) (ds : Items) → AreItemsAt s spans ds → AreItemsAt t spans ds
   items_still [] ds are = are

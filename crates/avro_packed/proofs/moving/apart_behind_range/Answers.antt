@@ -1,5 +1,6 @@
 use Rattle.std.proofs.Common.{◌≡◌, ◌++◌, ◌∙◌, List, [], ℕ, ap, subst, sym, append_assoc}
-use Rattle.avro_packed.specs.Appended.{Holds, StandsAt}
+use Rattle.avro_binary.specs.Outputs.{StandsAt}
+use Rattle.avro_packed.specs.Appended.{Holds}
 use Rattle.avro_packed.specs.inside.Outputs.{stands_joined}
 use Rattle.avro_packed.specs.declared.written.Apart.{Apart}
 use Rattle.avro_packed.proofs.moving.apart_behind_range.Goals as goal

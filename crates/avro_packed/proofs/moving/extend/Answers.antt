@@ -1,5 +1,6 @@
 use Rattle.std.proofs.Common.{subst}
-use Rattle.avro_packed.specs.Appended.{Holds, StandsAt}
+use Rattle.avro_binary.specs.Outputs.{StandsAt}
+use Rattle.avro_packed.specs.Appended.{Holds}
 use Rattle.avro_packed.specs.inside.Outputs.{stands_joined}
 use Rattle.avro_packed.proofs.moving.extend.Goals as goal
 

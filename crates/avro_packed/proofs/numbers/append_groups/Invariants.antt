@@ -1,6 +1,6 @@
 -- what spells the rest spells the number behind the groups so far
 use Rattle.std.proofs.Common.{List, ℕ}
-use Rattle.avro_packed.specs.Appended.{Grows}
+use Rattle.avro_binary.specs.Outputs.{Grows}
 use Rattle.avro_packed.specs.inside.Groups.{GroupsSoFar}
 use Rattle.avro_packed.proofs.numbers.append_groups.Given as goal
 

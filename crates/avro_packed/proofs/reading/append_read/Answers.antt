@@ -1,8 +1,9 @@
 use Rattle.std.proofs.Common.{◌≡◌, List, ℕ, length, ◌∙◌, subst, sym, rules}
 use Rattle.std.specs.Prelude.{Result, Ok, Err, OnErr}
 use Rattle.avro_cursor.specs.Encoding.{plain}
-use Rattle.avro_packed.specs.Appended.{Grows, Holds}
-use Rattle.avro_packed.specs.inside.Outputs.{grows_none}
+use Rattle.avro_binary.specs.Outputs.{Grows}
+use Rattle.avro_packed.specs.Appended.{Holds}
+use Rattle.avro_binary.specs.Growing.{grows_none}
 use Rattle.avro_packed.proofs.Left.{front_left}
 use Rattle.avro_packed.proofs.reading.append_read.Goals as goal
 

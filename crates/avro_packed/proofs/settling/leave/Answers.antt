@@ -1,6 +1,7 @@
 use Rattle.std.proofs.Common.{◌≡◌, ◌++◌, ◌∙◌, List, ℕ, ap, subst, sym, append_assoc}
 use Rattle.std.specs.Prelude.{OnOk}
-use Rattle.avro_packed.specs.Appended.{Holds, StandsAt}
+use Rattle.avro_binary.specs.Outputs.{StandsAt}
+use Rattle.avro_packed.specs.Appended.{Holds}
 use Rattle.avro_packed.specs.declared.written.Apart.{Apart}
 use Rattle.avro_packed.proofs.settling.leave.Goals as goal
 

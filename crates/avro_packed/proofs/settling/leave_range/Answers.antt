@@ -1,5 +1,5 @@
 use Rattle.std.proofs.Common.{◌∙◌, subst}
-use Rattle.avro_packed.specs.Appended.{StandsAt}
+use Rattle.avro_binary.specs.Outputs.{StandsAt}
 use Rattle.avro_packed.proofs.Left.{grows_by, kept_by, left_behind}
 use Rattle.avro_packed.proofs.settling.leave_range.Goals as goal
 

@@ -3,7 +3,7 @@ use Rattle.avro_schema.specs.SeenSchema.{schema_nodes}
 use Rattle.avro_display.proofs.public.Putting.{on_ok}
 use Rattle.avro_display.specs.Displayed.{members_left}
 use Rattle.avro_show.specs.Spans.{IsPieceOf}
-use Rattle.avro_show.specs.inside.Later.{grows_on}
+use Rattle.avro_binary.specs.Growing.{grows_on}
 use Rattle.avro_show.proofs.Composed.{members_last, members_more}
 use Rattle.avro_show.proofs.composing.append_pieces.Goals as goal
 

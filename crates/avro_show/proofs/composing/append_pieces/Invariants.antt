@@ -3,7 +3,8 @@ use Rattle.std.specs.List.{AllByRecursion}
 use Rattle.avro_schema.specs.SeenSchema.{schema_nodes}
 use Rattle.serde_json.specs.Data.{Data}
 use Rattle.avro_display.specs.Displayed.{members_left}
-use Rattle.avro_show.specs.Spans.{Grows, IsPieceOf}
+use Rattle.avro_binary.specs.Outputs.{Grows}
+use Rattle.avro_show.specs.Spans.{IsPieceOf}
 use Rattle.avro_show.proofs.composing.append_pieces.Given as goal
 
 abbrev pub invariant-loop-member : goal.invariant-loop-member

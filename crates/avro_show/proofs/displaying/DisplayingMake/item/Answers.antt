@@ -2,7 +2,7 @@ use Rattle.std.proofs.Common.{◌++◌, ◌∷◌, [], ℕ, List, Option, subst,
 use Rattle.avro_schema.specs.Seen.{values_from}
 use Rattle.avro_schema.specs.SeenSchema.{schema_nodes}
 use Rattle.avro_display.specs.DisplayTree.{display_items, part_at}
-use Rattle.avro_show.specs.Spans.{AreItemsAt, StandsAt, item_id, text_of}
+use Rattle.avro_show.specs.Spans.{AreItemsAt, StandsIn, item_id, text_of}
 use Rattle.avro_show.specs.declared.spans.Span.{Span}
 use Rattle.avro_show.proofs.Wholes.{item_of, items_push}
 use Rattle.avro_show.proofs.displaying.DisplayingMake.item.Goals as goal
@@ -14,7 +14,7 @@ returns-clause-stands c = λ nodes id at vs v items is of.
     let owner = c.args.items.now.owner in
     let n = part_at (schema_nodes t) (item_id t at) in
     let (own, are) = items of in
-    let here = subst (λ (o : Option ℕ). StandsAt text c.args.value (text_of t (item_id t o) v)) own (is (item_of t nodes id at owner of own)) in (
+    let here = subst (λ (o : Option ℕ). StandsIn text c.args.value (text_of t (item_id t o) v)) own (is (item_of t nodes id at owner of own)) in (
       own,
       subst (λ (l : List Span). AreItemsAt text l (display_items (schema_nodes t) n (values_from (vs ++ v ∷ [])))) (sym c.in_ok-push.ensures.items)
           (items_push text (schema_nodes t) n c.args.items.now.parts.items c.args.value vs v are here),

@@ -3,7 +3,7 @@ use Rattle.std.specs.Prelude.{IfOk}
 use Rattle.avro_schema.specs.Seen.{values_from}
 use Rattle.avro_display.specs.DisplayTree.{record_fields}
 use Rattle.avro_display.specs.Table.{field_tree}
-use Rattle.avro_show.specs.Spans.{StandsAt}
+use Rattle.avro_show.specs.Spans.{StandsIn}
 use Rattle.avro_show.proofs.Wholes.{given, record_members, record_shown, spans_there}
 use Rattle.avro_show.proofs.displaying.DisplayingMake.record.Goals as goal
 
@@ -14,5 +14,5 @@ returns-clause-stands c = λ nodes name aliases fs at vs fields fit. given _ c.�
     let (own, are) = fields of.0 (ap record_fields of.1) in
     let members = record_members t nodes name aliases fs at _ ms of (c.id_of.ensures ∙ own) c.part_members-members.ensures in
     let spans = spans_there nodes c.args.self.now.room.now.text fs c.args.fields.parts.items vs fit are ms members.each in
-    subst (λ (b : List ℕ). IfOk c.«record».result (λ out. StandsAt c.«record».new.self.text out b)) (record_shown t nodes name aliases fs at vs ms of fit members)
+    subst (λ (b : List ℕ). IfOk c.«record».result (λ out. StandsIn c.«record».new.self.text out b)) (record_shown t nodes name aliases fs at vs ms of fit members)
     (c.«record».ensures.stands (field_tree nodes fs (values_from vs)) (rw c.deref.ensures.value spans)))
