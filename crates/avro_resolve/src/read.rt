@@ -1,3 +1,4 @@
+ghost use Rattle.std.specs.Prelude.{OnOk};
 ghost use Rattle.avro_schema.specs.SeenSchema.{schema_nodes};
 ghost use Rattle.avro_resolve.specs.Reading.{BuildsResolved, ReadsResolved};
 
@@ -76,7 +77,8 @@ pub(crate) fn put_planned<P: Put>(
     limits: &Limits,
     builder: &mut P,
 ) -> Result<(P::Out, usize), ReadResolveError>
-    ensures { BuildsResolved (P.stands_for builder.new) (schema_nodes plan.now.0) (schema_nodes plan.now.1) limits.now bytes.now result }
+    ensures reads { BuildsResolved (P.stands_for builder.new) (schema_nodes plan.now.0) (schema_nodes plan.now.1) limits.now bytes.now result }
+    ensures kept { OnOk result (P.keeps builder.old builder.new) }
 {
     let writer = plan.writer();
     let w = writer.root();

@@ -36,6 +36,7 @@ impl<'p, 'a, 'b, P> Resolving<'p, 'a, 'b, P> {
     pub fn new(plan: &'p PlanRef<'a>, builder: &'b mut P) -> Self
         ensures plan { result.plan.now ≡ plan.now }
         ensures lent { result.builder.ghost_name ≡ builder.entry.ghost_name }
+        ensures starts { result.builder.now ≡ builder.old }
     {
         Resolving { plan, builder }
     }

@@ -47,7 +47,7 @@ impl<'a> Model for PlanRef<'a> {
 }
 
 impl<'a> PlanRef<'a> {
-    ghost use Rattle.std.specs.Prelude.{◌≡◌, true, IfOk, IfSome};
+    ghost use Rattle.std.specs.Prelude.{◌≡◌, true, IfOk, IfSome, OnOk};
     ghost use Rattle.avro_schema.specs.Fits.{fits};
     ghost use Rattle.avro_schema.specs.Node.{node_at, root_of};
     ghost use Rattle.avro_schema.specs.Seen.{value_of};
@@ -110,7 +110,8 @@ impl<'a> PlanRef<'a> {
     }
 
     /// Reads a writer's datum once, as [`read`](PlanRef::read) does, and returns what a
-    /// [`Put`](crate::Put) makes of what it is for the reader, with the length of its encoding.
+    /// [`Put`](crate::Put) makes of what it is for the reader, with the length of its encoding. Where
+    /// that is `Ok`, the [`Put`](crate::Put) keeps what it had made.
     ///
     /// # Errors
     ///
@@ -122,7 +123,8 @@ impl<'a> PlanRef<'a> {
         limits: &Limits,
         builder: &mut P,
     ) -> Result<(P::Out, usize), ReadResolveError>
-        ensures { BuildsResolved (P.stands_for builder.new) (schema_nodes self.now.0) (schema_nodes self.now.1) limits.now bytes.now result }
+        ensures reads { BuildsResolved (P.stands_for builder.new) (schema_nodes self.now.0) (schema_nodes self.now.1) limits.now bytes.now result }
+        ensures kept { OnOk result (P.keeps builder.old builder.new) }
     {
         put_planned(alloc, self, bytes, limits, builder)
     }

@@ -6,8 +6,8 @@ use Rattle.avro_resolve.specs.inside.Guided.{MadeAs}
 use Rattle.avro_resolve.proofs.OnePass.{at_roots, guide_is, resolved, unresolved, unread}
 use Rattle.avro_resolve.proofs.read.put_planned.Goals as goal
 
-pub returns-in-Good : goal.returns-in-Good
-returns-in-Good g c =
+pub returns-in-Good-clause-reads : goal.returns-in-Good-clause-reads
+returns-in-Good-clause-reads g c =
     let writer = schema_nodes c.args.plan.now.0 in
     let reader = schema_nodes c.args.plan.now.1 in
     let last = c.read_made.new.maker in
@@ -18,8 +18,14 @@ returns-in-Good g c =
     (at_roots (g.P.Put.stands_for last.builder.now) writer reader (schema_nodes last.plan.now.0) (schema_nodes last.plan.now.1) (node_at writer c.root-w.result.0) c.root_part-part.result.at made v
     (guide_is writer reader _ _ _ _ (ap (λ p. schema_nodes p.0) (sym c.new-maker.ensures.plan)) (ap (λ p. schema_nodes p.1) (sym c.new-maker.ensures.plan)) h.0.1) (ap (node_at writer) c.root-w.ensures.root) c.root_part-part.ensures h.1))
 
-pub returns-in-Faulty : goal.returns-in-Faulty
-returns-in-Faulty g c =
+pub returns-in-Good-clause-kept : goal.returns-in-Good-clause-kept
+returns-in-Good-clause-kept g c =
+    let kept = c.in-Ok.ensures.reads.found.1.0.0 in
+    subst (g.P.Put.keeps c.args.builder.now) (sym (c.builder-1.given.1 (sym (kept.1 ∙ c.new-maker.ensures.lent))))
+    (subst (λ m. g.P.Put.keeps m c.read_made.new.maker.builder.now) c.new-maker.ensures.starts kept.0)
+
+pub returns-in-Faulty-clause-reads : goal.returns-in-Faulty-clause-reads
+returns-in-Faulty-clause-reads g c =
     let writer = schema_nodes c.args.plan.now.0 in
     let reader = schema_nodes c.args.plan.now.1 in
     let last = c.read_made.new.maker in
@@ -31,8 +37,8 @@ returns-in-Faulty g c =
     (guide_is writer reader _ _ _ _ (ap (λ p. schema_nodes p.0) (sym c.new-maker.ensures.plan)) (ap (λ p. schema_nodes p.1) (sym c.new-maker.ensures.plan)) h.0.1) (ap (node_at writer) c.root-w.ensures.root) c.root_part-part.ensures h.1))
     c.turn_apart.ensures
 
-pub returns-in-Err : goal.returns-in-Err
-returns-in-Err g c =
+pub returns-in-Err-clause-reads : goal.returns-in-Err-clause-reads
+returns-in-Err-clause-reads g c =
     unread _ (schema_nodes c.args.plan.now.0) (schema_nodes c.args.plan.now.1) c.args.limits.now c.args.bytes.now
     (node_at (schema_nodes c.args.plan.now.0) c.root-w.result.0) (ap (node_at (schema_nodes c.args.plan.now.0)) c.root-w.ensures.root)
     c.in-Err.error (rw c.writer-writer.ensures at c.in-Err.ensures.reads)
