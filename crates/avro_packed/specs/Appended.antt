@@ -1,12 +1,22 @@
--- Where the bytes of a part of an encoding stand, while data are read into an output.
-use Rattle.std.specs.Prelude.{◌≡◌, ℕ, ◌+◌, ◌<◌, ◌≤◌, List, [], ◌++◌, length, Bool, true, false, Option, None, Some, pos}
+-- Where the bytes of a part of an encoding stand, while data are read into an output, and how many are kept.
+use Rattle.std.specs.Prelude.{◌≡◌, ℕ, ◌+◌, ◌<◌, ◌≤◌, List, [], ◌++◌, length, max, Bool, true, false, Option, None, Some, pos}
 use Rattle.avro_zigzag.specs.Number.{number_bytes}
 use Rattle.avro_schema.specs.Value.{Value}
 use Rattle.avro_schema.specs.Seen.{values_from, entries_from}
 use Rattle.avro_cursor.specs.Encoding.{plain_values, plain_entries}
-use Rattle.avro_binary.specs.Outputs.{StandsAt}
+use Rattle.avro_binary.specs.Outputs.{Grows, StandsAt}
 use Rattle.avro_packed.specs.declared.gathered.Gathered.{Gathered}
 use Rattle.avro_packed.specs.declared.written.Written.{Written}
+
+-- an output, and how many bytes of it are kept at most
+pub record Output : Type 0 where
+  pub bytes : List ℕ
+  pub most : ℕ
+
+-- what an output had stays, and it gets no longer than its limit
+abbrev pub Keeps : Output → Output → Type 0
+Keeps before after =
+    (after.most ≡ before.most) × Grows before.bytes after.bytes × (length after.bytes ≤ max before.most (length before.bytes))
 
 -- what was written are these bytes, or so many
 abbrev pub Holds : List ℕ → Written → List ℕ → Type 0

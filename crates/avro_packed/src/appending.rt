@@ -1,13 +1,14 @@
 //! The maker that appends the plain encoding of what is read.
 
-ghost use Rattle.std.specs.Prelude.{◌≡◌, ◌++◌, [], ◌<◌, List, ℕ, IfNone, IfOk, OnOk, OnErr, length};
+ghost use Rattle.std.specs.Prelude.{◌≡◌, ◌++◌, [], ◌≤◌, List, ℕ, IfNone, IfOk, OnOk, OnErr, length, max};
 ghost use Rattle.std.specs.Option.{IfSome};
 ghost use Rattle.avro_zigzag.specs.Number.{number_bytes};
 ghost use Rattle.avro_cursor.specs.Encoding.{plain_bytes, plain_blocks};
 ghost use Rattle.avro_binary.specs.Outputs.{Grows};
-ghost use Rattle.avro_packed.specs.Appended.{AppendsWithin, Holds, branch_bytes};
+ghost use Rattle.avro_packed.specs.Appended.{AppendsWithin, Holds, Keeps, branch_bytes};
 
 use crate::gathered::Gathered;
+use crate::limit::Limit;
 use crate::moving::{append_written, closed, give_back, is_past, keep_within, only_counted};
 use crate::numbers::{append_byte, append_number};
 use crate::written::{Apart, Written};
@@ -18,51 +19,58 @@ use std::marker::Model;
 /// the index of the branch in front.
 ///
 /// Items of arrays and entries of maps are moved into a room of their own, since their number comes
-/// before them. Rooms are kept for later. Once the output is longer than a limit, bytes are only counted.
+/// before them. Rooms are kept for later. What would make the output longer than a limit is taken back, and only counted.
 #[derive(Drop)]
 pub struct Appending {
     pub(crate) out: Vec<u8>,
-    pub(crate) most: usize,
+    pub(crate) limit: Limit,
     pub(crate) spares: Vec<Box<Apart>>,
     pub(crate) slots: Vec<Vec<Option<Written>>>,
     pub(crate) ends: Vec<Vec<usize>>,
 }
 
 impl Model for Appending {
-    ghost use Rattle.std.specs.Prelude.{ℕ, List};
+    ghost use Rattle.avro_packed.specs.Appended.{Output};
 
-    ghost Value = { List ℕ };
+    ghost Value = { Output };
 
-    ghost view = { λ a. a.out.items };
+    ghost view = { λ a. record { bytes = a.out.items; most = a.limit.most } };
 }
 
 impl Appending {
     /// A maker whose output is empty and has no limit.
     pub fn new(alloc: Global) -> Appending
-        ensures { result ≡ [] }
+        ensures { result.bytes ≡ [] }
     {
         Appending {
             out: Vec::new(alloc),
-            most: usize::MAX,
+            limit: Limit {
+                most: usize::MAX,
+                sparing: false,
+            },
             spares: Vec::new(alloc),
             slots: Vec::new(alloc),
             ends: Vec::new(alloc),
         }
     }
 
-    /// Empties the output.
-    pub(crate) fn clear(&mut self)
-        ensures { self.new ≡ [] }
+    /// Empties the output, and sets how many bytes of it are kept at most, and whether nothing is put that may be in no datum.
+    #[inline(always)]
+    pub(crate) fn restart(&mut self, most: usize, sparing: bool)
+        ensures bytes { self.new.bytes ≡ [] }
+        ensures limit { self.new.most ≡ most }
     {
         self.out.clear();
+        self.limit = Limit { most, sparing };
     }
 
-    /// Sets after how many bytes of output further ones are only counted.
+    /// Sets how many bytes of the output are kept at most.
     #[inline(always)]
     pub(crate) fn keep_at_most(&mut self, most: usize)
-        ensures { self.new ≡ self.old }
+        ensures bytes { self.new.bytes ≡ self.old.bytes }
+        ensures limit { self.new.most ≡ most }
     {
-        self.most = most;
+        self.limit.most = most;
     }
 
     /// Appends to other bytes what was written, unless they would be more than `most`. Returns whether they were not, or `None`
@@ -77,7 +85,7 @@ impl Appending {
         most: usize,
         to: &mut Vec<u8>,
     ) -> Result<Option<bool>, AllocError>
-        ensures appended { (bytes : List ℕ) → Holds self.now written.now bytes → IfOk result (λ told. IfSome told (λ fits. AppendsWithin most to.old.items to.new.items bytes fits)) }
+        ensures appended { (bytes : List ℕ) → Holds self.now.bytes written.now bytes → IfOk result (λ told. IfSome told (λ fits. AppendsWithin most to.old.items to.new.items bytes fits)) }
         ensures none { IfOk result (λ told. IfNone told (to.new.items ≡ to.old.items)) }
         ensures unchanged { OnErr result (to.new.items ≡ to.old.items) }
     {
@@ -104,9 +112,10 @@ impl Appending {
     /// Writes the index of a branch, if there is one, and returns where.
     #[inline(always)]
     pub(crate) fn begin(&mut self, branch: Option<u32>) -> Result<usize, AllocError>
-        ensures begun { OnOk result (self.new ≡ self.old ++ branch_bytes branch) }
-        ensures start { IfOk result (λ start. start ≡ length self.old) }
-        ensures stays { (front : List ℕ) → Grows front self.old → Grows front self.new }
+        ensures begun { OnOk result (self.new.bytes ≡ self.old.bytes ++ branch_bytes branch) }
+        ensures limit { self.new.most ≡ self.old.most }
+        ensures start { IfOk result (λ start. start ≡ length self.old.bytes) }
+        ensures stays { (front : List ℕ) → Grows front self.old.bytes → Grows front self.new.bytes }
     {
         let start = self.out.len();
         match branch {
@@ -119,18 +128,21 @@ impl Appending {
     /// What was written from an offset on, where it is kept.
     #[inline(always)]
     pub(crate) fn since(&mut self, start: usize) -> Written
-        ensures holds { (before bytes : List ℕ) → self.old ≡ before ++ bytes → start ≡ length before → Holds self.new result bytes }
-        ensures kept { (before bytes : List ℕ) → self.old ≡ before ++ bytes → start ≡ length before → Grows before self.new }
+        ensures holds { (before bytes : List ℕ) → self.old.bytes ≡ before ++ bytes → start ≡ length before → Holds self.new.bytes result bytes }
+        ensures kept { (before bytes : List ℕ) → self.old.bytes ≡ before ++ bytes → start ≡ length before → Grows before self.new.bytes }
+        ensures within { (before bytes : List ℕ) → self.old.bytes ≡ before ++ bytes → start ≡ length before
+            → length self.new.bytes ≤ max self.old.most (length before) }
+        ensures limit { self.new.most ≡ self.old.most }
     {
-        written_since(&mut self.out, start, self.most)
+        written_since(&mut self.out, start, self.limit.most)
     }
 
     /// Writes a number.
     #[inline(always)]
     pub(crate) fn number(&mut self, branch: Option<u32>, value: i64) -> Result<Written, AllocError>
-        ensures kept { OnOk result (Grows self.old self.new) }
-        ensures holds { IfOk result (λ out. Holds self.new out (branch_bytes branch ++ number_bytes value)) }
-        ensures stays { (front : List ℕ) → Grows front self.old → Grows front self.new }
+        ensures kept { OnOk result (Keeps self.old self.new) }
+        ensures holds { IfOk result (λ out. Holds self.new.bytes out (branch_bytes branch ++ number_bytes value)) }
+        ensures stays { (front : List ℕ) → Grows front self.old.bytes → Grows front self.new.bytes }
     {
         let start = self.begin(branch)?;
         append_number(value, &mut self.out)?;
@@ -144,9 +156,9 @@ impl Appending {
         branch: Option<u32>,
         content: &[u8],
     ) -> Result<Written, AllocError>
-        ensures kept { OnOk result (Grows self.old self.new) }
-        ensures holds { IfOk result (λ out. Holds self.new out (branch_bytes branch ++ plain_bytes content.now)) }
-        ensures stays { (front : List ℕ) → Grows front self.old → Grows front self.new }
+        ensures kept { OnOk result (Keeps self.old self.new) }
+        ensures holds { IfOk result (λ out. Holds self.new.bytes out (branch_bytes branch ++ plain_bytes content.now)) }
+        ensures stays { (front : List ℕ) → Grows front self.old.bytes → Grows front self.new.bytes }
     {
         let start = self.begin(branch)?;
         append_number(content.len() as i64, &mut self.out)?;
@@ -157,7 +169,7 @@ impl Appending {
     /// Nothing, at the end of the output.
     #[inline(always)]
     pub(crate) fn here(&self) -> Written
-        ensures { Holds self.now result [] }
+        ensures { Holds self.now.bytes result [] }
     {
         let end = self.out.len();
         Written::Range(end, end)
@@ -167,7 +179,7 @@ impl Appending {
     #[inline(always)]
     pub(crate) fn gather(&self) -> Gathered
         ensures count { result.count ≡ 0 }
-        ensures written { Holds self.now result.written [] }
+        ensures written { Holds self.now.bytes result.written [] }
     {
         Gathered {
             count: 0,
@@ -182,10 +194,10 @@ impl Appending {
         branch: Option<u32>,
         gathered: Gathered,
     ) -> Result<Written, AllocError>
-        ensures kept { OnOk result (Grows self.old self.new) }
-        ensures holds { (bytes : List ℕ) → Holds self.old gathered.written bytes
-            → IfOk result (λ out. Holds self.new out (branch_bytes branch ++ plain_blocks gathered.count bytes)) }
-        ensures stays { (front : List ℕ) → Grows front self.old → Grows front self.new }
+        ensures kept { OnOk result (Keeps self.old self.new) }
+        ensures holds { (bytes : List ℕ) → Holds self.old.bytes gathered.written bytes
+            → IfOk result (λ out. Holds self.new.bytes out (branch_bytes branch ++ plain_blocks gathered.count bytes)) }
+        ensures stays { (front : List ℕ) → Grows front self.old.bytes → Grows front self.new.bytes }
     {
         if gathered.count == 0 {
             let start = self.begin(branch)?;
@@ -202,14 +214,14 @@ impl Appending {
     }
 }
 
-/// What was written from an offset on. Behind the limit it is taken back, and counted.
+/// What was written from an offset on. Where the output is longer than `most`, it is taken back, and counted.
 #[inline(always)]
 fn written_since(out: &mut Vec<u8>, start: usize, most: usize) -> Written
     ensures holds { (before bytes : List ℕ) → out.old.items ≡ before ++ bytes → start ≡ length before → Holds out.new.items result bytes }
     ensures kept { (before bytes : List ℕ) → out.old.items ≡ before ++ bytes → start ≡ length before → Grows before out.new.items }
-    ensures back { (before bytes : List ℕ) → out.old.items ≡ before ++ bytes → start ≡ length before → most < start → out.new.items ≡ before }
+    ensures within { (before bytes : List ℕ) → out.old.items ≡ before ++ bytes → start ≡ length before → length out.new.items ≤ max most (length before) }
 {
-    if start > most {
+    if out.len() > most {
         return count_since(out, start);
     }
     Written::Range(start, out.len())

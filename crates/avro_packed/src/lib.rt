@@ -6,6 +6,7 @@
 
 mod appending;
 mod gathered;
+mod limit;
 mod moving;
 mod numbers;
 mod packed;

@@ -1,11 +1,12 @@
 //! Moving what was written.
 
-ghost use Rattle.std.specs.Prelude.{◌≡◌, ◌++◌, ◌+◌, ◌<◌, ◌≤◌, [], ◌∷◌, List, ℕ, true, false, length, IfOk, OnOk};
+ghost use Rattle.std.specs.Prelude.{◌≡◌, ◌++◌, ◌+◌, ◌<◌, ◌≤◌, [], ◌∷◌, List, ℕ, true, false, length, max, IfOk, OnOk};
 ghost use Rattle.std.specs.Option.{IfSome};
 ghost use Rattle.avro_cursor.specs.Encoding.{plain_bytes};
 ghost use Rattle.avro_binary.specs.Outputs.{Grows, StandsAt};
 ghost use Rattle.avro_packed.specs.Appended.{AppendsWithin, Holds};
 
+use crate::limit::Limit;
 use crate::numbers::{append_byte, append_number};
 use crate::spares::{give, room};
 use crate::written::{Apart, Written};
@@ -282,31 +283,31 @@ fn with_room(start: usize, end: usize, room: Box<Apart>) -> Written
     Written::Apart(room)
 }
 
-/// How many bytes of a part are copied to the end of an output at most: no field makes an output longer by more than these.
+/// How many bytes of a part are copied to the end of the output at most.
 const FEW: usize = 8;
 
 /// What was written, at the end of the output where this ends with what was written before: a few bytes are copied there, so that the
-/// two need no room of their own. An output that is longer than `most` gets no longer.
+/// two need no room of their own, unless the output would get longer than its limit.
 #[inline(always)]
 fn brought(
     out: &mut Vec<u8>,
-    most: usize,
+    limit: &Limit,
     before: &Written,
     written: Written,
 ) -> Result<Written, AllocError>
     ensures kept { OnOk result (Grows out.old.items out.new.items) }
+    ensures within { OnOk result (length out.new.items ≤ max limit.now.most (length out.old.items)) }
     ensures stays { (front : List ℕ) → Grows front out.old.items → Grows front out.new.items }
     ensures holds { (bytes : List ℕ) → Holds out.old.items written bytes → IfOk result (λ it. Holds out.new.items it bytes) }
-    ensures past { most < length out.old.items → out.new.items ≡ out.old.items }
 {
     let len = out.len();
-    if len > most || !ends_at(before, len) {
+    if !ends_at(before, len) {
         return Ok(written);
     }
     match written {
         Written::Range(start, end) => {
             if start <= end && end < len && end - start <= FEW {
-                return copied(out, start, end);
+                return copied(out, limit.near(), start, end);
             }
             Ok(Written::Range(start, end))
         }
@@ -325,39 +326,44 @@ fn ends_at(written: &Written, len: usize) -> bool {
     }
 }
 
-/// A copy, at the end of an output, of its bytes between two offsets.
+/// A copy, at the end of an output, of its bytes between two offsets, or these where the output would get longer than `most`.
 #[inline(always)]
-fn copied(out: &mut Vec<u8>, start: usize, end: usize) -> Result<Written, AllocError>
+fn copied(out: &mut Vec<u8>, most: usize, start: usize, end: usize) -> Result<Written, AllocError>
     requires order { start ≤ end }
     requires inside { end ≤ length out.old.items }
     ensures kept { OnOk result (Grows out.old.items out.new.items) }
+    ensures within { OnOk result (length out.new.items ≤ max most (length out.old.items)) }
     ensures stays { (front : List ℕ) → Grows front out.old.items → Grows front out.new.items }
     ensures holds { (bytes : List ℕ) → StandsAt out.old.items start end bytes → IfOk result (λ it. Holds out.new.items it bytes) }
 {
     let len = out.len();
+    if end - start > most.saturating_sub(len) {
+        return Ok(Written::Range(start, end));
+    }
     out.extend_from_within(start..end)?;
     Ok(Written::Range(len, out.len()))
 }
 
-/// Puts what was written after what was written before, and a few bytes of it at the end of the output, where they need no room.
+/// Puts what was written after what was written before, and a few bytes of it at the end of the output, where they need no room,
+/// unless the output would get longer than its limit.
 #[inline(always)]
 pub(crate) fn join_near(
     alloc: Global,
     out: &mut Vec<u8>,
-    most: usize,
+    limit: &Limit,
     spares: &mut Vec<Box<Apart>>,
     first: &mut Written,
     second: Written,
 ) -> Result<(), AllocError>
     ensures kept { OnOk result (Grows out.old.items out.new.items) }
+    ensures within { OnOk result (length out.new.items ≤ max limit.now.most (length out.old.items)) }
     ensures stays { (front : List ℕ) → Grows front out.old.items → Grows front out.new.items }
     ensures joined { (a b : List ℕ) → Holds out.old.items first.old a → Holds out.old.items second b → OnOk result (Holds out.new.items first.new (a ++ b)) }
-    ensures past { most < length out.old.items → out.new.items ≡ out.old.items }
 {
     if extend(first, &second) {
         return Ok(());
     }
-    let near = brought(out, most, first, second)?;
+    let near = brought(out, limit, first, second)?;
     join(alloc, out, spares, first, near)
 }
 

@@ -15,14 +15,13 @@ impl Appending {
     ghost use Rattle.avro_schema.specs.Seen.{value_of};
     ghost use Rattle.avro_cursor.specs.Encoding.{plain};
     ghost use Rattle.avro_zigzag.specs.Number.{number_bytes};
-    ghost use Rattle.avro_binary.specs.Outputs.{Grows};
-    ghost use Rattle.avro_packed.specs.Appended.{Holds};
+    ghost use Rattle.avro_packed.specs.Appended.{Holds, Keeps};
 
     /// Writes an int at hand.
     #[inline(always)]
     fn int_at(&mut self, value: &i32) -> Result<Written, AllocError>
-        ensures kept { OnOk result (Grows self.old self.new) }
-        ensures holds { IfOk result (λ out. Holds self.new out (number_bytes value.now)) }
+        ensures kept { OnOk result (Keeps self.old self.new) }
+        ensures holds { IfOk result (λ out. Holds self.new.bytes out (number_bytes value.now)) }
     {
         self.number(None, i64::from(*value))
     }
@@ -30,16 +29,16 @@ impl Appending {
     /// Writes a long at hand.
     #[inline(always)]
     fn long_at(&mut self, value: &i64) -> Result<Written, AllocError>
-        ensures kept { OnOk result (Grows self.old self.new) }
-        ensures holds { IfOk result (λ out. Holds self.new out (number_bytes value.now)) }
+        ensures kept { OnOk result (Keeps self.old self.new) }
+        ensures holds { IfOk result (λ out. Holds self.new.bytes out (number_bytes value.now)) }
     {
         self.number(None, *value)
     }
 
     /// Writes a datum at hand.
     fn whole(&mut self, datum: &Datum) -> Result<Written, AllocError>
-        ensures kept { OnOk result (Grows self.old self.new) }
-        ensures holds { IfOk result (λ out. Holds self.new out (plain (value_of datum.now))) }
+        ensures kept { OnOk result (Keeps self.old self.new) }
+        ensures holds { IfOk result (λ out. Holds self.new.bytes out (plain (value_of datum.now))) }
     {
         let start = self.out.len();
         append_plain(datum, &mut self.out)?;
@@ -49,8 +48,8 @@ impl Appending {
     /// Writes bytes at hand.
     #[inline(always)]
     fn copy_of(&mut self, content: &[u8]) -> Result<Written, AllocError>
-        ensures kept { OnOk result (Grows self.old self.new) }
-        ensures holds { IfOk result (λ out. Holds self.new out content.now) }
+        ensures kept { OnOk result (Keeps self.old self.new) }
+        ensures holds { IfOk result (λ out. Holds self.new.bytes out content.now) }
     {
         let start = self.out.len();
         self.out.extend_from_slice(content)?;
@@ -63,9 +62,8 @@ impl Put for Appending {
     ghost use Rattle.avro_schema.specs.Seen.{values_from, entries_from};
     ghost use Rattle.avro_cursor.specs.Encoding.{plain, plain_values, plain_entries};
     ghost use Rattle.avro_binary.specs.Outputs.{Grows};
-    ghost use Rattle.avro_packed.specs.Appended.{Holds, branch_bytes, AreItems, AreEntries};
-    ghost use Rattle.avro_binary.specs.Growing.{grows_none, grows_on};
-    ghost use Rattle.avro_packed.specs.inside.Outputs.{still_holds};
+    ghost use Rattle.avro_packed.specs.Appended.{Holds, Keeps, branch_bytes, AreItems, AreEntries};
+    ghost use Rattle.avro_packed.specs.inside.Outputs.{keeps_none, keeps_on, still_holds};
 
     type Out = Written;
 
@@ -75,29 +73,29 @@ impl Put for Appending {
 
     type Fields = Written;
 
-    ghost keeps = { Grows };
+    ghost keeps = { Keeps };
 
-    ghost begins = { λ m front. Grows front m };
+    ghost begins = { λ m front. Grows front m.bytes };
 
-    ghost stands_for = { λ m out v. Holds m out (plain v) };
+    ghost stands_for = { λ m out v. Holds m.bytes out (plain v) };
 
-    ghost items_stand_for = { AreItems };
+    ghost items_stand_for = { λ m items vs. AreItems m.bytes items vs };
 
-    ghost entries_stand_for = { AreEntries };
+    ghost entries_stand_for = { λ m entries es. AreEntries m.bytes entries es };
 
-    ghost fields_stand_for = { λ m into fields vs. Holds m fields (branch_bytes into ++ plain_values (values_from vs)) };
+    ghost fields_stand_for = { λ m into fields vs. Holds m.bytes fields (branch_bytes into ++ plain_values (values_from vs)) };
 
-    ghost keeps_itself = { grows_none };
+    ghost keeps_itself = { keeps_none };
 
-    ghost keeps_on = { grows_on };
+    ghost keeps_on = { keeps_on };
 
-    ghost still_stands = { λ s t out v kept stand. still_holds s t out (plain v) kept stand };
+    ghost still_stands = { λ s t out v kept stand. still_holds s.bytes t.bytes out (plain v) kept.1 stand };
 
-    ghost items_kept = { λ s t items vs kept stand. (stand.0, still_holds s t items.written (plain_values (values_from vs)) kept stand.1) };
+    ghost items_kept = { λ s t items vs kept stand. (stand.0, still_holds s.bytes t.bytes items.written (plain_values (values_from vs)) kept.1 stand.1) };
 
-    ghost entries_kept = { λ s t entries es kept stand. (stand.0, still_holds s t entries.written (plain_entries (entries_from es)) kept stand.1) };
+    ghost entries_kept = { λ s t entries es kept stand. (stand.0, still_holds s.bytes t.bytes entries.written (plain_entries (entries_from es)) kept.1 stand.1) };
 
-    ghost fields_kept = { λ s t into fields vs kept stand. still_holds s t fields (branch_bytes into ++ plain_values (values_from vs)) kept stand };
+    ghost fields_kept = { λ s t into fields vs kept stand. still_holds s.bytes t.bytes fields (branch_bytes into ++ plain_values (values_from vs)) kept.1 stand };
 
     #[inline(always)]
     fn empty(&mut self, _alloc: Global, into: Option<u32>) -> Result<Option<Written>, AllocError> {
@@ -312,7 +310,7 @@ impl Put for Appending {
         join_near(
             alloc,
             &mut self.out,
-            self.most,
+            &self.limit,
             &mut self.spares,
             fields,
             value,
@@ -330,7 +328,7 @@ impl Put for Appending {
 
     #[inline(always)]
     fn slots(&mut self, alloc: Global) -> Vec<Option<Written>>
-        ensures kept { Grows self.old self.new }
+        ensures kept { Keeps self.old self.new }
         ensures none { result.items ≡ [] }
     {
         slots(alloc, &mut self.slots)
@@ -338,13 +336,16 @@ impl Put for Appending {
 
     #[inline(always)]
     fn keep_slots(&mut self, slots: Vec<Option<Written>>)
-        ensures kept { Grows self.old self.new }
+        ensures kept { Keeps self.old self.new }
     {
         give_slots(&mut self.slots, slots);
     }
 
     #[inline(always)]
     fn ends(&mut self, alloc: Global) -> Option<Vec<usize>> {
+        if self.limit.sparing {
+            return None;
+        }
         Some(ends(alloc, &mut self.ends))
     }
 

@@ -1,6 +1,6 @@
 //! Reading a datum for a reader, and appending its plain encoding.
 
-ghost use Rattle.std.specs.Prelude.{◌≡◌, ℕ, Ok, Err, IfNone, IfOk, OnErr};
+ghost use Rattle.std.specs.Prelude.{◌≡◌, ◌≤◌, ℕ, Ok, Err, IfNone, IfOk, OnErr, OnOk, length};
 ghost use Rattle.std.specs.Option.{IfSome};
 ghost use Rattle.avro_schema.specs.Node.{root_of};
 ghost use Rattle.avro_schema.specs.SeenSchema.{schema_nodes};
@@ -9,7 +9,7 @@ ghost use Rattle.avro_cursor.specs.Breaks.{Breaks};
 ghost use Rattle.avro_cursor.specs.Encoding.{plain};
 ghost use Rattle.avro_cursor.specs.Seen.{read_fault};
 ghost use Rattle.avro_resolve.specs.Reading.{ReadsAs};
-ghost use Rattle.avro_packed.specs.Appended.{AppendsWithin};
+ghost use Rattle.avro_packed.specs.Appended.{AppendsWithin, Keeps};
 ghost use Rattle.avro_compare.specs.Seen.{fault_of};
 ghost use Rattle.avro_resolve.specs.Seen.{IfUnread, IfUnresolved};
 
@@ -40,11 +40,11 @@ pub fn append_resolved(
     ensures unchanged { OnErr result (out.new.items ≡ out.old.items) }
     ensures faulty { IfUnresolved result (λ f. (len : ℕ) × ReadsAs (schema_nodes plan.now.0) (schema_nodes plan.now.1) limits.now bytes.now len (Err (fault_of f))) }
     ensures refused { IfUnread result (λ e. IfSome (read_fault e) (Breaks (schema_nodes plan.now.0) limits.now (root_of (schema_nodes plan.now.0)) bytes.now)) }
+    ensures kept { OnOk result (length room.new.bytes ≤ most) }
 {
-    // Bytes that are in no result may pass the limit alone: then the datum is put again, and all of them are kept.
-    let kept = [most.saturating_sub(out.len()), usize::MAX];
-    for keep in &kept {
-        room.keep_at_most(*keep);
+    // Bytes that are in no datum may pass the limit: then the datum is put again, without any that may be in none.
+    for sparing in [false, true] {
+        room.restart(most.saturating_sub(out.len()), sparing);
         match append_put(alloc, plan, bytes, limits, most, room, out) {
             Ok((Some(fits), len)) => return Ok((fits, len)),
             Ok((None, _)) => {}
@@ -54,7 +54,7 @@ pub fn append_resolved(
     Err(ReadResolveError::Read(ReadError::OutOfMemory))
 }
 
-/// The same, where the room says how many bytes are kept; `None` where what was only counted would fit.
+/// The same, where the room is empty and says how many bytes are kept; `None` where what was only counted would fit.
 fn append_put(
     alloc: Global,
     plan: &PlanRef<'_>,
@@ -70,8 +70,8 @@ fn append_put(
     ensures unchanged { OnErr result (out.new.items ≡ out.old.items) }
     ensures faulty { IfUnresolved result (λ f. (len : ℕ) × ReadsAs (schema_nodes plan.now.0) (schema_nodes plan.now.1) limits.now bytes.now len (Err (fault_of f))) }
     ensures refused { IfUnread result (λ e. IfSome (read_fault e) (Breaks (schema_nodes plan.now.0) limits.now (root_of (schema_nodes plan.now.0)) bytes.now)) }
+    ensures kept { OnOk result (Keeps room.old room.new) }
 {
-    room.clear();
     match plan.put(alloc, bytes, limits, room) {
         Ok((written, len)) => match room.append(&written, most, out) {
             Ok(told) => {

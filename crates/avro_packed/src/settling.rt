@@ -16,8 +16,9 @@ impl Appending {
     /// Exchanges the output for another.
     #[inline(always)]
     pub(crate) fn exchange(&mut self, out: &mut Vec<u8>)
-        ensures taken { self.new ≡ out.old.items }
-        ensures given { out.new.items ≡ self.old }
+        ensures taken { self.new.bytes ≡ out.old.items }
+        ensures given { out.new.items ≡ self.old.bytes }
+        ensures limit { self.new.most ≡ self.old.most }
     {
         swap(&mut self.out, out);
     }

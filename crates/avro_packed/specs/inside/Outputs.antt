@@ -1,10 +1,17 @@
 -- What was written into an output that grows.
 use Rattle.std.proofs.Common.{◌≡◌, ℕ, List, ◌++◌, length, take, refl, sym, ap, ◌∙◌, append_assoc, length-append, arith}
 use Rattle.std.proofs.lemmas.List.{take_at}
-use Rattle.avro_binary.specs.Growing.{stands_still}
+use Rattle.avro_binary.specs.Growing.{grows_none, grows_on, stands_still}
 use Rattle.avro_binary.specs.Outputs.{Grows, StandsAt}
-use Rattle.avro_packed.specs.Appended.{Holds}
+use Rattle.avro_packed.specs.Appended.{Holds, Keeps, Output}
 use Rattle.avro_packed.specs.declared.written.Written.{Written}
+
+pub keeps_none : (s : Output) → Keeps s s
+keeps_none s = (refl, grows_none s.bytes, omega arith)
+
+pub keeps_on : (s t u : Output) → Keeps s t → Keeps t u → Keeps s u
+keeps_on s t u before after =
+    (after.0 ∙ before.0, grows_on s.bytes t.bytes u.bytes before.1 after.1, omega (arith, before.0, before.2, after.2))
 
 pub still_holds : (s t : List ℕ) (w : Written) (bytes : List ℕ) → Grows s t → Holds s w bytes → Holds t w bytes
 still_holds s t (Written.Range start end) bytes kept holds = stands_still s t start end bytes kept holds

@@ -10,6 +10,6 @@ use Rattle.avro_packed.proofs.putting.AppendingPut.array.Goals as goal
 
 pub returns-clause-stands : goal.returns-clause-stands
 returns-clause-stands c = λ vs are.
-    holds_in c.block.result c.block.new.self c.args.into (Value.array (values_from vs))
-    (subst (λ (bytes : List ℕ). IfOk c.block.result (λ out. Holds c.block.new.self out bytes)) (block_of_items c.args.self.now c.args.into c.args.items vs are)
+    holds_in c.block.result c.block.new.self.bytes c.args.into (Value.array (values_from vs))
+    (subst (λ (bytes : List ℕ). IfOk c.block.result (λ out. Holds c.block.new.self.bytes out bytes)) (block_of_items c.args.self.now.bytes c.args.into c.args.items vs are)
     (c.block.ensures.holds (plain_values (values_from vs)) are.1))

@@ -5,4 +5,4 @@ use Rattle.avro_packed.proofs.putting.AppendingPut.empty_fields.Goals as goal
 
 pub returns-clause-added : goal.returns-clause-added
 returns-clause-added c = λ into vs ws all counted none stands.
-    subst (λ (bytes : List ℕ). Holds c.args.self.now c.args._fields.now (branch_bytes into ++ bytes)) (sym (plain-others vs ws none)) stands
+    subst (λ (bytes : List ℕ). Holds c.args.self.now.bytes c.args._fields.now (branch_bytes into ++ bytes)) (sym (plain-others vs ws none)) stands

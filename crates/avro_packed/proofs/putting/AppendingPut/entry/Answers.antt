@@ -9,7 +9,7 @@ use Rattle.avro_packed.proofs.putting.AppendingPut.entry.Goals as goal
 pub returns-clause-stands : goal.returns-clause-stands
 returns-clause-stands c = λ es v are is.
     let out = c.self.inside.out.items in
-    let here : c.args.self.now ≡ out = search rules in
+    let here : c.args.self.now.bytes ≡ out = search rules in
     let are = subst (λ (o : List ℕ). AreEntries o c.args.entries.now es) here are in
     let is = subst (λ (o : List ℕ). Holds o c.args.value (plain v)) here is in
     let counted = c.count_one.new.self in

@@ -8,7 +8,7 @@ use Rattle.avro_packed.proofs.putting.AppendingPut.field.Goals as goal
 pub returns-clause-stands : goal.returns-clause-stands
 returns-clause-stands c = λ into vs v before is.
     let out = c.self.inside.out.items in
-    let here : c.args.self.now ≡ out = search rules in
+    let here : c.args.self.now.bytes ≡ out = search rules in
     let front = branch_bytes into ++ plain_values (values_from vs) in
     let joined = c.join_near.ensures.joined front (plain v) (subst (λ (o : List ℕ). Holds o c.args.fields.now front) here before) (subst (λ (o : List ℕ). Holds o c.args.value (plain v)) here is) in
     field_behind c.join_near.result (branch_bytes into) vs v (λ (l : List ℕ). Holds c.join_near.new.out.items c.join_near.new.first l) joined

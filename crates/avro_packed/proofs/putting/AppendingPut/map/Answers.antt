@@ -10,6 +10,6 @@ use Rattle.avro_packed.proofs.putting.AppendingPut.map.Goals as goal
 
 pub returns-clause-stands : goal.returns-clause-stands
 returns-clause-stands c = λ es are.
-    holds_in c.block.result c.block.new.self c.args.into (Value.map_of (entries_from es))
-    (subst (λ (bytes : List ℕ). IfOk c.block.result (λ out. Holds c.block.new.self out bytes)) (block_of_entries c.args.self.now c.args.into c.args.entries es are)
+    holds_in c.block.result c.block.new.self.bytes c.args.into (Value.map_of (entries_from es))
+    (subst (λ (bytes : List ℕ). IfOk c.block.result (λ out. Holds c.block.new.self.bytes out bytes)) (block_of_entries c.args.self.now.bytes c.args.into c.args.entries es are)
     (c.block.ensures.holds (plain_entries (entries_from es)) are.1))
