@@ -1,7 +1,7 @@
 //! Devices that move few bytes a call, and that fail.
 
-use avro_container::{CopyError, FileLimits};
-use avro_copy::{Copier, copy};
+use avro_file::{CopyError, FileLimits};
+use avro_container::{Copier, copy};
 use avro_device::{Input, Output, ReadInput, WriteOutput};
 use avro_samples::{FIVE, FIVE_COPIED, LONG_OR_INT};
 use avro_schema_json::{ReaderText, SchemaError};

@@ -1,8 +1,8 @@
 //! What reading and copying a container file returns.
 
 use avro_binary::Nothing;
-use avro_container::{Block, Blocks, CopyError, FileLimits, Header};
-use avro_copy::{Counts, copy};
+use avro_file::{Block, Blocks, CopyError, FileLimits, Header};
+use avro_container::{Counts, copy};
 use avro_device::{Input, ReadInput, WriteOutput};
 use avro_schema_json::{ReaderText, SchemaError};
 use std::alloc::{AllocError, Global};

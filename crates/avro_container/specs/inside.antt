@@ -1,4 +1,5 @@
 -- What only proofs and private contracts need.
-pub mod HeaderEnds
-pub mod HeaderParts
-pub mod MetadataParts
+pub mod BlockCopied
+pub mod BlockSeen
+pub mod DataPacked
+pub mod HeaderCopied

@@ -1,31 +1,25 @@
-//! Object container files (Avro 1.11, "Object Container Files").
+//! Copies of object container files (Avro 1.11, "Object Container Files").
 //!
-//! A file is read part by part from an `Input` of `avro_device`: [`Header::read`] takes its header, [`Blocks::next`] takes a
-//! block, and [`Block::read`] reads the data of a block. A caller that keeps its own [`Buffer`] and may take ahead of the
-//! part at hand uses [`take_header`] and [`take_block`].
+//! A [`Sink`] puts a header and blocks. [`copy`] takes a whole file and puts its copy; a [`Copier`] does the same one part
+//! per step.
 //!
-//! A [`Buffer`] holds the bytes that were taken but belong to no part yet. The header is taken part by part: the magic, the
-//! blocks of the metadata, the marker. What is missing is asked for, and not a byte more unless the caller may take ahead.
-//! A block is taken whole: its count and size, then as many bytes as they say, allocated 65,536 at a time, and its marker.
+//! # How a file is copied
+//!
+//! Each block is taken whole, its data are read from the buffer and packed without building a datum, and the packed data
+//! are put as one block. Without a reader, a datum's bytes are appended right after those of the previous datum; for a
+//! reader they are gathered first. All data after one without bytes are the same datum, in this block and in later ones,
+//! and are not read again. The names of two schemas are compared once per file: the copier keeps the plan table beside the
+//! header, and its invariant is that the table is of the header's schema and the reader's.
+//!
+//! The contract of a step says what was held and taken before it, and what is put and held after it. A run of such steps
+//! takes the start of a file and puts its copy: that is a law about the definitions alone (`laws.rt`), on which the loop of
+//! `copy` rests.
 #![tactic(auto)]
 
-mod block;
-mod error;
-mod header;
-mod input;
-mod limits;
+mod copying;
+pub mod laws;
+mod sink;
 
-pub use block::Block;
-pub use block::blocks::Blocks;
-pub use block::checker::Checker;
-pub use block::datum::datum_error;
-pub use block::frame::take_block;
-pub use block::head::BlockHead;
-pub use error::{CopyError, CountError, LimitPlace};
-pub use header::frame::MAGIC;
-pub use header::metadata::read_metadata;
-pub use header::schema_and_codec::schema_text;
-pub use header::{Header, take_header};
-pub use input::Reach;
-pub use input::buffer::Buffer;
-pub use limits::FileLimits;
+pub use copying::copier::Copier;
+pub use copying::{Counts, Step, copy};
+pub use sink::Sink;

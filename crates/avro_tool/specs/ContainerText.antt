@@ -5,10 +5,10 @@ use Rattle.avro_compare.specs.Seen.{fault_of}
 use Rattle.avro_certificate.specs.CertificateText.{decimal}
 use Rattle.avro_answer.specs.RefusalText.{schema_code}
 use Rattle.avro_answer.specs.Texts.{fault_text, reading_text}
-use Rattle.avro_container.specs.declared.error.CopyError.{CopyError}
-use Rattle.avro_container.specs.declared.error.CountError.{CountError}
-use Rattle.avro_container.specs.declared.error.LimitPlace.{LimitPlace}
-use Rattle.avro_container.specs.ErrorText.{error_code, place_of}
+use Rattle.avro_file.specs.declared.error.CopyError.{CopyError}
+use Rattle.avro_file.specs.declared.error.CountError.{CountError}
+use Rattle.avro_file.specs.declared.error.LimitPlace.{LimitPlace}
+use Rattle.avro_file.specs.ErrorText.{error_code, place_of}
 
 -- a block, or a datum of a block; nothing outside the blocks; both are counted from 0
 abbrev pub block_text : ℕ → List ℕ

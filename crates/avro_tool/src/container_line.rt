@@ -6,7 +6,7 @@ ghost use Rattle.avro_tool.specs.ContainerText.{block_text, datum_text, place_te
 
 use avro_answer::{append_fault, append_reading, schema_code};
 use avro_certificate::append_decimal;
-use avro_container::{CopyError, CountError, LimitPlace};
+use avro_file::{CopyError, CountError, LimitPlace};
 use avro_zigzag::VarError;
 use std::alloc::{AllocError, Global};
 

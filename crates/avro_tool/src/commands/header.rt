@@ -4,7 +4,7 @@ use crate::Finding;
 use crate::failure::Failure;
 use crate::files::container::open_container;
 use crate::printing::print_bytes;
-use avro_container::{CopyError, FileLimits, read_metadata, schema_text};
+use avro_file::{CopyError, FileLimits, read_metadata, schema_text};
 use avro_device::Input;
 use serde_json::{Map, Value};
 use std::alloc::{AllocError, Global};

@@ -6,7 +6,7 @@ use crate::files::container::{ROOM, open_container};
 use crate::files::kept::is_output;
 use crate::files::schema::read_reader;
 use avro_binary::{Nothing, decode};
-use avro_container::{Block, Blocks, CopyError, FileLimits, Header};
+use avro_file::{Block, Blocks, CopyError, FileLimits, Header};
 use avro_device::{Input, Output, WriteOutput, put_all};
 use avro_display::{DisplayTable, PutError, Text, put_line};
 use avro_resolve::Plan;

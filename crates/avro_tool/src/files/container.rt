@@ -3,7 +3,7 @@ use crate::failure::Failure;
 use crate::printing::print;
 use crate::progress::Watched;
 use avro_answer::{Form, counts_line};
-use avro_copy::Counts;
+use avro_container::Counts;
 use avro_device::ReadInput;
 use std::alloc::Global;
 use std::io::{BufReader, Cursor, Write};

@@ -1,11 +1,11 @@
 ghost use Rattle.std.specs.Prelude.{◌++◌, OnOk};
-ghost use Rattle.avro_container.specs.Parts.{header_part, block_part, properties_of};
+ghost use Rattle.avro_file.specs.Parts.{header_part, block_part, properties_of};
 
 use crate::failure::Failure;
 use avro_binary::append_plain;
 use avro_canonical::fingerprint;
-use avro_container::CopyError;
-use avro_copy::Sink;
+use avro_file::CopyError;
+use avro_container::Sink;
 use avro_device::{Output, WriteOutput};
 use avro_schema::Datum;
 use avro_schema_json::ReaderText;

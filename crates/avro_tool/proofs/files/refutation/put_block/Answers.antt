@@ -1,5 +1,5 @@
 use Rattle.std.proofs.Common.{ℕ, List, [], ◌++◌, append-nil, subst}
-use Rattle.avro_container.specs.Parts.{header_part, block_part, properties_of}
+use Rattle.avro_file.specs.Parts.{header_part, block_part, properties_of}
 use Rattle.avro_tool.proofs.files.refutation.put_block.Goals as goal
 
 pub returns-in-Ok : goal.returns-in-Ok

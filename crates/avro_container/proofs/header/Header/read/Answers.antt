@@ -1,9 +1,0 @@
--- What stops a header.
-use Rattle.std.proofs.Common.{arith}
-use Rattle.std.proofs.lemmas.Result.{err_from_is_err_and}
-use Rattle.avro_container.proofs.public.Small.{not_failed}
-use Rattle.avro_container.proofs.HeaderEnds.{fault_taken}
-use Rattle.avro_container.proofs.header.Header.read.Goals as goal
-
-pub returns-in_err-header-clause-refused : goal.returns-in_err-header-clause-refused
-returns-in_err-header-clause-refused g c = grind (arith, err_from_is_err_and, fault_taken, not_failed)

@@ -1,8 +1,0 @@
--- What an error can be.
-use Rattle.std.specs.Prelude.{◌≡◌, ◌⊎◌, IfNone}
-use Rattle.avro_container.specs.declared.error.CopyError.{CopyError}
-use Rattle.avro_container.specs.FileSeen.{file_fault}
-
--- It reports a fault of the file, or else a device failed, memory ran out, or a call before this one failed.
-abbrev pub IsNamed : CopyError → Type 0
-IsNamed e = IfNone (file_fault e) ((e ≡ CopyError.InputFailed) ⊎ (e ≡ CopyError.OutputFailed) ⊎ (e ≡ CopyError.OutOfMemory) ⊎ (e ≡ CopyError.FailedBefore))

@@ -1,5 +1,0 @@
-use Rattle.avro_copy.proofs.StepLaws.{run_bounded_lem}
-use Rattle.avro_copy.proofs.laws.run_bounded.Goals as goal
-
-pub returns : goal.returns
-returns g c = λ input job limits. run_bounded_lem job limits (g.I.Input.ended input)

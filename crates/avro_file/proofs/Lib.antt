@@ -1,0 +1,20 @@
+pub mod Rooms
+pub mod Taking
+pub mod Cut
+pub mod Stopping
+pub mod Heads
+pub mod Bodies
+pub mod Standing
+pub mod Places
+pub mod Behind
+pub mod PropertyRuns
+pub mod Taken
+pub mod Texts
+pub mod HeadStops
+pub mod MetadataRuns
+pub mod MetadataTaken
+pub mod HeaderStops
+pub mod HeaderEnds
+pub mod Framed
+mod RowsFile
+pub mod public

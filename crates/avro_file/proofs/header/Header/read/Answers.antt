@@ -1,0 +1,9 @@
+-- What stops a header.
+use Rattle.std.proofs.Common.{arith}
+use Rattle.std.proofs.lemmas.Result.{err_from_is_err_and}
+use Rattle.avro_file.proofs.public.Small.{not_failed}
+use Rattle.avro_file.proofs.HeaderEnds.{fault_taken}
+use Rattle.avro_file.proofs.header.Header.read.Goals as goal
+
+pub returns-in_err-header-clause-refused : goal.returns-in_err-header-clause-refused
+returns-in_err-header-clause-refused g c = grind (arith, err_from_is_err_and, fault_taken, not_failed)

@@ -1,0 +1,9 @@
+-- What a buffer holds, and for how many bytes more there is room.
+use Rattle.std.specs.Prelude.{ℕ, ◌-◌, List, length, slice_range}
+use Rattle.avro_file.specs.declared.input.buffer.Buffer.{Buffer}
+
+abbrev pub held : Buffer → List ℕ
+held b = slice_range b.room.items b.start b.end
+
+abbrev pub free : Buffer → ℕ
+free b = length b.room.items - b.end
