@@ -7,3 +7,4 @@ pub mod Pieces
 pub mod Reading
 pub mod CursorReads
 pub mod inside
+pub mod EncodeCode

@@ -6,13 +6,26 @@ use thiserror::Error;
 
 /// Why a datum was not encoded.
 #[derive(Clone, Copy, Debug, PartialEq, Eq, Error)]
+#[error("{}", self.code())]
 pub enum EncodeError {
     /// The datum is not one of the node's.
-    #[error("E1")]
     DoesNotFit,
     /// Memory ran out.
-    #[error("E2")]
     OutOfMemory,
+}
+
+impl EncodeError {
+    ghost use Rattle.avro_binary.specs.EncodeCode.{encode_code};
+
+    /// The error's code: E1 or E2.
+    pub fn code(self) -> &'static str
+        ensures { result.now ≡ encode_code self }
+    {
+        match self {
+            EncodeError::DoesNotFit => "E1",
+            EncodeError::OutOfMemory => "E2",
+        }
+    }
 }
 
 impl From<AllocError> for EncodeError {

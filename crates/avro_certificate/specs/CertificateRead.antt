@@ -1,5 +1,5 @@
 -- What a refusal of a certificate's text says of it.
-use Rattle.std.specs.Prelude.{◌≡◌, ℕ, ◌<◌, ◌⊎◌, false, List, length, Ok, Err}
+use Rattle.std.specs.Prelude.{◌≡◌, ℕ, ◌<◌, ◌⊎◌, false, List, length, codes, Ok, Err}
 use Rattle.std.specs.declared.result.Result.{Result}
 use Rattle.avro_compare.specs.Children.{Pair}
 use Rattle.avro_certificate.specs.CertificateText.{CertText, certificate_text, are_small}
@@ -28,3 +28,9 @@ abbrev pub UnlessOutOfMemory : Result Certificate CertError → (Certificate →
 UnlessOutOfMemory (Ok certificate) P = P certificate
 UnlessOutOfMemory (Err CertError.OutOfMemory) P = Unit {0}
 UnlessOutOfMemory (Err e) P = ⊥
+
+-- the code of an error
+abbrev pub certificate_code : CertError → List ℕ
+certificate_code CertError.Malformed = codes "G1"
+certificate_code CertError.NumberTooLarge = codes "G2"
+certificate_code CertError.OutOfMemory = codes "G3"

@@ -2,11 +2,11 @@ ghost use Rattle.std.specs.Prelude.{◌≡◌};
 ghost use Rattle.avro_certificate.specs.declared.error.CertError.TheVariants.{OutOfMemory};
 
 use std::alloc::AllocFailed;
-use std::error::Error;
-use std::fmt;
+use thiserror::Error;
 
 /// Why a text cannot be read as a certificate.
-#[derive(Clone, Copy, Debug, PartialEq, Eq)]
+#[derive(Clone, Copy, Debug, PartialEq, Eq, Error)]
+#[error("{}", self.code())]
 pub enum CertError {
     /// It is not the text of a certificate, or longer than any.
     Malformed,
@@ -17,8 +17,12 @@ pub enum CertError {
 }
 
 impl CertError {
-    /// The error's code.
-    fn code(self) -> &'static str {
+    ghost use Rattle.avro_certificate.specs.CertificateRead.{certificate_code};
+
+    /// The error's code: G1 to G3.
+    pub fn code(self) -> &'static str
+        ensures { result.now ≡ certificate_code self }
+    {
         match self {
             CertError::Malformed => "G1",
             CertError::NumberTooLarge => "G2",
@@ -26,14 +30,6 @@ impl CertError {
         }
     }
 }
-
-impl fmt::Display for CertError {
-    fn fmt<W: fmt::Write>(&self, f: &mut fmt::Formatter<W>) -> fmt::Result {
-        f.write_str(self.code())
-    }
-}
-
-impl Error for CertError {}
 
 impl<T: Drop> From<AllocFailed<T>> for CertError {
     ghost from_gives = { λ _ e. e ≡ OutOfMemory };

@@ -1,6 +1,7 @@
 pub mod Match
 pub mod Source
 pub mod Fault
+pub mod FaultText
 pub mod Fields
 pub mod Resolve
 pub mod Seen

@@ -1,14 +1,16 @@
-use std::error::Error;
 use std::fmt;
+use thiserror::Error;
 
 /// Why a datum does not resolve.
-#[derive(Clone, Copy, Debug, PartialEq, Eq)]
+#[derive(Clone, Copy, Debug, PartialEq, Eq, Error)]
+#[error("{}", self.name())]
 pub enum FaultKind {
     /// The nodes do not match.
     NoMatch,
     /// No branch of the reader's union matches.
     NoBranch,
     /// The reader's field at this index has no source in the writer's record, and no default.
+    #[error("{name} {0}", name = self.name())]
     MissingField(usize),
     /// The reader's enum has no such symbol, and no default.
     NoSymbol,
@@ -17,8 +19,26 @@ pub enum FaultKind {
 }
 
 impl FaultKind {
-    /// Its name.
-    fn name(self) -> &'static str {
+    ghost use Rattle.std.specs.Prelude.{◌≡◌};
+    ghost use Rattle.avro_compare.specs.FaultText.{kind_code, kind_name};
+
+    /// The fault's code: V1 to V5.
+    pub fn code(self) -> &'static str
+        ensures { result.now ≡ kind_code self }
+    {
+        match self {
+            FaultKind::NoMatch => "V1",
+            FaultKind::NoBranch => "V2",
+            FaultKind::MissingField(_) => "V3",
+            FaultKind::NoSymbol => "V4",
+            FaultKind::NotUtf8 => "V5",
+        }
+    }
+
+    /// The word that answers have in place of the code.
+    pub fn name(self) -> &'static str
+        ensures { result.now ≡ kind_name self }
+    {
         match self {
             FaultKind::NoMatch => "NoMatch",
             FaultKind::NoBranch => "NoBranch",
@@ -29,19 +49,8 @@ impl FaultKind {
     }
 }
 
-impl fmt::Display for FaultKind {
-    fn fmt<W: fmt::Write>(&self, f: &mut fmt::Formatter<W>) -> fmt::Result {
-        f.write_str(self.name())?;
-        match self {
-            FaultKind::MissingField(index) => write!(f, " {index}"),
-            _ => Ok(()),
-        }
-    }
-}
-
-impl Error for FaultKind {}
-
-/// A fault of resolution, and where it is in the writer's datum.
+/// A fault of resolution, and where it is in the writer's datum. Its text is written by hand, since a derive cannot write
+/// a path.
 #[derive(Debug, PartialEq, Eq, Drop)]
 pub struct Fault {
     /// What is wrong.

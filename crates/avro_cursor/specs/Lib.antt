@@ -1,6 +1,7 @@
 pub mod Blocks
 pub mod Encoding
 pub mod Fault
+pub mod ErrorCode
 pub mod Breaks
 pub mod Seen
 pub mod KeySet

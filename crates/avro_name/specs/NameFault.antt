@@ -1,5 +1,5 @@
 -- Which faults a text has that is to be a namespace or a name.
-use Rattle.std.specs.Prelude.{◌≡◌, ℕ, true, List, ⊤}
+use Rattle.std.specs.Prelude.{◌≡◌, ℕ, true, List, ⊤, codes}
 use Rattle.avro_name.specs.Name.{split_name, has_empty_part, has_bad_character, is_primitive_word}
 use Rattle.avro_name.specs.declared.error.NameError.{NameError}
 use Rattle.avro_name.specs.declared.error.NameError.TheVariants.{EmptyPart, BadCharacter, PrimitiveName, OutOfMemory}
@@ -17,3 +17,10 @@ IsNameFault text enclosing EmptyPart = has_empty_part text ≡ true
 IsNameFault text enclosing BadCharacter = has_bad_character text ≡ true
 IsNameFault text enclosing PrimitiveName = is_primitive_word (split_name text enclosing).simple ≡ true
 IsNameFault text enclosing OutOfMemory = ⊤
+
+-- the code of an error
+abbrev pub name_code : NameError → List ℕ
+name_code EmptyPart = codes "N1"
+name_code BadCharacter = codes "N2"
+name_code PrimitiveName = codes "N3"
+name_code OutOfMemory = codes "N4"

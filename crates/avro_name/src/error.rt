@@ -1,9 +1,9 @@
 use std::alloc::AllocError;
-use std::error::Error;
-use std::fmt;
+use thiserror::Error;
 
 /// Why a text is not a name. If it has several faults, this is one of them.
-#[derive(Clone, Copy, Debug, PartialEq, Eq)]
+#[derive(Clone, Copy, Debug, PartialEq, Eq, Error)]
+#[error("{}", self.code())]
 pub enum NameError {
     /// A part is empty: nothing stands before, after or between dots.
     EmptyPart,
@@ -16,8 +16,13 @@ pub enum NameError {
 }
 
 impl NameError {
-    /// The error's code.
-    fn code(self) -> &'static str {
+    ghost use Rattle.std.specs.Prelude.{◌≡◌};
+    ghost use Rattle.avro_name.specs.NameFault.{name_code};
+
+    /// The error's code: N1 to N4.
+    pub fn code(self) -> &'static str
+        ensures { result.now ≡ name_code self }
+    {
         match self {
             NameError::EmptyPart => "N1",
             NameError::BadCharacter => "N2",
@@ -26,14 +31,6 @@ impl NameError {
         }
     }
 }
-
-impl fmt::Display for NameError {
-    fn fmt<W: fmt::Write>(&self, f: &mut fmt::Formatter<W>) -> fmt::Result {
-        f.write_str(self.code())
-    }
-}
-
-impl Error for NameError {}
 
 impl From<AllocError> for NameError {
     ghost use Rattle.std.specs.Prelude.{◌≡◌};

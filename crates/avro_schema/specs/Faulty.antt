@@ -1,5 +1,5 @@
 -- The rules that nodes break (Avro 1.11, "Schema Declaration", "Names", "Aliases"). Each that they break is a fault.
-use Rattle.std.specs.Prelude.{◌≡◌, ℕ, suc, ◌<◌, Bool, true, false, not, ◌&&◌, ◌||◌, List, [], ◌∷◌, Option, Some, None, IfSome, length, nat_lt, nat_le, bytes_eq, filter_map, flat_map}
+use Rattle.std.specs.Prelude.{◌≡◌, ℕ, suc, ◌<◌, Bool, true, false, not, ◌&&◌, ◌||◌, List, [], ◌∷◌, Option, Some, None, IfSome, length, nat_lt, nat_le, bytes_eq, filter_map, flat_map, codes}
 use Rattle.std.specs.List.{list_all, filter}
 use Rattle.avro_name.specs.Name.{is_simple_name, same_name}
 use Rattle.avro_schema.specs.Node.{Node, node_at, node_name, edges_of}
@@ -115,3 +115,15 @@ IsRefusedAt nodes id n e = IfSome (fault_of e) (λ fault. breaks fault nodes id 
 
 abbrev pub IsRefusedSomewhere : List Node → DraftError → Type 0
 IsRefusedSomewhere nodes e = (id : ℕ) × (id < length nodes) × IsRefusedAt nodes id (node_at nodes id) e
+
+-- the code of an error
+abbrev pub draft_code : DraftError → List ℕ
+draft_code DraftError.UnknownNode = codes "S2"
+draft_code DraftError.DuplicateName = codes "S3"
+draft_code DraftError.InvalidName = codes "S4"
+draft_code DraftError.InvalidUnion = codes "S6"
+draft_code DraftError.InvalidSymbols = codes "S7"
+draft_code DraftError.DuplicateField = codes "S8"
+draft_code DraftError.InvalidDefault = codes "S9"
+draft_code DraftError.LimitExceeded = codes "S12"
+draft_code DraftError.OutOfMemory = codes "S13"

@@ -3,11 +3,11 @@ ghost use Rattle.avro_schema.specs.declared.fault.DraftError.TheVariants.{OutOfM
 
 use crate::datum::Memory;
 use std::alloc::AllocFailed;
-use std::error::Error;
-use std::fmt;
+use thiserror::Error;
 
 /// Why nodes do not form a schema. If they have several faults, this is one of them.
-#[derive(Clone, Copy, Debug, PartialEq, Eq)]
+#[derive(Clone, Copy, Debug, PartialEq, Eq, Error)]
+#[error("{}", self.code())]
 pub enum DraftError {
     /// An edge goes to a node that does not exist, or that is neither later nor a record, an enum or a fixed.
     UnknownNode,
@@ -31,8 +31,12 @@ pub enum DraftError {
 }
 
 impl DraftError {
-    /// The error's code.
-    fn code(self) -> &'static str {
+    ghost use Rattle.avro_schema.specs.Faulty.{draft_code};
+
+    /// The error's code: one of S2 to S9, S12 and S13.
+    pub fn code(self) -> &'static str
+        ensures { result.now ≡ draft_code self }
+    {
         match self {
             DraftError::UnknownNode => "S2",
             DraftError::DuplicateName => "S3",
@@ -46,14 +50,6 @@ impl DraftError {
         }
     }
 }
-
-impl fmt::Display for DraftError {
-    fn fmt<W: fmt::Write>(&self, f: &mut fmt::Formatter<W>) -> fmt::Result {
-        f.write_str(self.code())
-    }
-}
-
-impl Error for DraftError {}
 
 impl<T: Drop> From<AllocFailed<T>> for DraftError {
     ghost from_gives = { λ _ e. e ≡ OutOfMemory };

@@ -1,8 +1,8 @@
 -- The first fault of bytes that begin with no number, looked at in turn.
-use Rattle.std.specs.Prelude.{◌≡◌, ℕ, ◌+◌, ◌<◌, Bool, true, List, ◌∷◌, ◌++◌, length, nat_le}
+use Rattle.std.specs.Prelude.{◌≡◌, ℕ, ◌+◌, ◌<◌, Bool, true, List, ◌∷◌, ◌++◌, length, nat_le, codes}
 use Rattle.std.specs.List.{list_all}
 use Rattle.avro_zigzag.specs.declared.VarError.{VarError}
-use Rattle.avro_zigzag.specs.declared.VarError.TheVariants.{EndOfInput, OutOfRange}
+use Rattle.avro_zigzag.specs.declared.VarError.TheVariants.{EndOfInput, NotShortest, OutOfRange}
 
 -- bytes after each of which a number goes on
 abbrev pub go_on : List ℕ → Bool
@@ -23,3 +23,9 @@ LongFails = NumberFails 10 1
 -- an int has at most 5 bytes, and 32 bits leave 0f for the fifth
 abbrev pub IntFails : List ℕ → VarError → Type 0
 IntFails = NumberFails 5 15
+
+-- the code of an error
+abbrev pub number_code : VarError → List ℕ
+number_code EndOfInput = codes "Z1"
+number_code NotShortest = codes "Z2"
+number_code OutOfRange = codes "Z3"

@@ -12,12 +12,12 @@ pub mod write;
 
 pub use read::{read_int, read_long};
 pub use shortest::starts_shortest;
-use std::error::Error;
-use std::fmt;
+use thiserror::Error;
 pub use write::{to_zigzag, write_long};
 
 /// Why no number can be read at the start of some bytes.
-#[derive(Clone, Copy, Debug, PartialEq, Eq, Hash)]
+#[derive(Clone, Copy, Debug, PartialEq, Eq, Hash, Error)]
+#[error("{}", self.code())]
 pub enum VarError {
     /// The bytes end before the number does.
     EndOfInput,
@@ -28,8 +28,13 @@ pub enum VarError {
 }
 
 impl VarError {
-    /// The error's code.
-    fn code(self) -> &'static str {
+    ghost use Rattle.std.specs.Prelude.{◌≡◌};
+    ghost use Rattle.avro_zigzag.specs.NumberFault.{number_code};
+
+    /// The error's code: Z1 to Z3.
+    pub fn code(self) -> &'static str
+        ensures { result.now ≡ number_code self }
+    {
         match self {
             VarError::EndOfInput => "Z1",
             VarError::NotShortest => "Z2",
@@ -37,11 +42,3 @@ impl VarError {
         }
     }
 }
-
-impl fmt::Display for VarError {
-    fn fmt<W: fmt::Write>(&self, f: &mut fmt::Formatter<W>) -> fmt::Result {
-        f.write_str(self.code())
-    }
-}
-
-impl Error for VarError {}

@@ -233,17 +233,3 @@ fn index_of(value: i32, choices: usize) -> Option<usize>
     let index = value as usize;
     if index < choices { Some(index) } else { None }
 }
-
-/// The content as text, if it is UTF-8.
-///
-/// Most texts are short: for those, the check for long texts takes longer to start than the plain one takes in all.
-#[inline(always)]
-fn text_of(content: &[u8]) -> Option<&str>
-    ensures some { IfSome result (λ text. (text.now ≡ content.now) × (is_utf8 content.now ≡ true)) }
-    ensures none { IfNone result (is_utf8 content.now ≡ false) }
-{
-    if content.len() < 64 {
-        return std::str::from_utf8(content).ok();
-    }
-    from_utf8(content).ok()
-}
