@@ -9,9 +9,11 @@ mod content;
 mod cursor;
 mod error;
 mod keys;
+mod text;
 
 pub use block::Block;
 pub use content::drop_content;
 pub use cursor::Cursor;
 pub use error::ReadError;
 pub use keys::Keys;
+pub use text::text_of;

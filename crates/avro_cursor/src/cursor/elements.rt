@@ -8,8 +8,8 @@ ghost use Rattle.avro_cursor.specs.KeySet.{key_set};
 use super::{Cursor, number_error};
 use crate::error::ReadError;
 use crate::keys::Keys;
+use crate::text::text_of;
 use avro_zigzag::{read_int, read_long};
-use simdutf8::basic::from_utf8;
 
 impl<'a> Cursor<'a> {
     /// Reads a boolean: a byte 0 or 1.
@@ -166,8 +166,8 @@ impl<'a> Cursor<'a> {
     {
         let (content, len) = self.content()?;
         match text_of(content) {
-            Some(text) => Ok((text, len)),
-            None => Err(ReadError::InvalidText {
+            Ok(text) => Ok((text, len)),
+            Err(_) => Err(ReadError::InvalidText {
                 place: self.offset_behind(len - content.len()),
             }),
         }
