@@ -5,30 +5,8 @@ use Rattle.serde_json.specs.Data.{Data}
 use Rattle.avro_schema_json.specs.Declaration.{max_text, HasTree, IsNoJson}
 use Rattle.avro_schema_json.specs.DeclaredFaults.{HasFault}
 use Rattle.avro_schema_json.specs.declared.error.SchemaError.{SchemaError}
-use Rattle.avro_certificate.specs.declared.error.CertError.{CertError}
 use Rattle.avro_answer.specs.ReadText.{IsReadAs}
 use Rattle.avro_answer.specs.declared.refusal.Refusal.{Refusal}
-
--- the code of a refusal
-abbrev pub schema_code : SchemaError → List ℕ
-schema_code SchemaError.NotJson = codes "S1"
-schema_code SchemaError.UnknownName = codes "S2"
-schema_code SchemaError.DuplicateName = codes "S3"
-schema_code SchemaError.InvalidName = codes "S4"
-schema_code SchemaError.InvalidDeclaration = codes "S5"
-schema_code SchemaError.InvalidUnion = codes "S6"
-schema_code SchemaError.InvalidSymbols = codes "S7"
-schema_code SchemaError.DuplicateField = codes "S8"
-schema_code SchemaError.InvalidDefault = codes "S9"
-schema_code SchemaError.UnsupportedType = codes "S10"
-schema_code SchemaError.UnsupportedNumber = codes "S11"
-schema_code SchemaError.LimitExceeded = codes "S12"
-schema_code SchemaError.OutOfMemory = codes "S13"
-
-abbrev pub certificate_code : CertError → List ℕ
-certificate_code CertError.Malformed = codes "G1"
-certificate_code CertError.NumberTooLarge = codes "G2"
-certificate_code CertError.OutOfMemory = codes "G3"
 
 -- the line of a refused text, by the word that names its file
 abbrev pub refusal_text : List ℕ → List ℕ → List ℕ

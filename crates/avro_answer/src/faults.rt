@@ -1,6 +1,6 @@
 //! The texts of faults of bytes and of resolution.
 
-ghost use Rattle.std.specs.Prelude.{◌≡◌, ◌++◌, flat_map, OnOk};
+ghost use Rattle.std.specs.Prelude.{◌≡◌, ◌++◌, codes, flat_map, OnOk};
 ghost use Rattle.avro_compare.specs.Seen.{cause_of, fault_of};
 ghost use Rattle.avro_certificate.specs.CertificateText.{decimal};
 ghost use Rattle.avro_answer.specs.Texts.{kind_text, step_text, path_text, fault_text, reading_text};
@@ -27,15 +27,15 @@ pub fn append_fault(text: &mut Vec<u8>, fault: &Fault) -> Result<(), AllocError>
 fn append_kind(text: &mut Vec<u8>, kind: FaultKind) -> Result<(), AllocError>
     ensures { OnOk result (text.new.items ≡ text.old.items ++ kind_text (cause_of kind)) }
 {
+    text.extend_from_slice(kind.name().as_bytes())?;
     match kind {
-        FaultKind::NoMatch => text.extend_from_slice(b"NoMatch"),
-        FaultKind::NoBranch => text.extend_from_slice(b"NoBranch"),
         FaultKind::MissingField(index) => {
-            text.extend_from_slice(b"MissingField ")?;
+            text.push(b' ')?;
             append_decimal(text, index as u64)
         }
-        FaultKind::NoSymbol => text.extend_from_slice(b"NoSymbol"),
-        FaultKind::NotUtf8 => text.extend_from_slice(b"NotUtf8"),
+        FaultKind::NoMatch | FaultKind::NoBranch | FaultKind::NoSymbol | FaultKind::NotUtf8 => {
+            Ok(())
+        }
     }
 }
 
@@ -75,24 +75,17 @@ fn append_step(text: &mut Vec<u8>, step: usize) -> Result<(), AllocError>
 pub fn append_reading(text: &mut Vec<u8>, error: ReadError) -> Result<(), AllocError>
     ensures { OnOk result (text.new.items ≡ text.old.items ++ reading_text error) }
 {
-    match error {
-        ReadError::EndOfInput { place } => append_at(text, b"B1 at ", place),
-        ReadError::InvalidNumber { place } => append_at(text, b"B2 at ", place),
-        ReadError::InvalidBoolean { place } => append_at(text, b"B3 at ", place),
-        ReadError::InvalidText { place } => append_at(text, b"B4 at ", place),
-        ReadError::UnknownIndex { place } => append_at(text, b"B5 at ", place),
-        ReadError::InvalidLength { place } => append_at(text, b"B6 at ", place),
-        ReadError::WrongBlockSize { place } => append_at(text, b"B7 at ", place),
-        ReadError::DuplicateKey { place } => append_at(text, b"B8 at ", place),
-        ReadError::LimitExceeded => text.extend_from_slice(b"B9"),
-        ReadError::OutOfMemory => text.extend_from_slice(b"B10"),
+    text.extend_from_slice(error.code().as_bytes())?;
+    match error.place() {
+        Some(place) => append_at(text, place),
+        None => Ok(()),
     }
 }
 
-/// Appends words and an offset.
-fn append_at(text: &mut Vec<u8>, words: &[u8], place: usize) -> Result<(), AllocError>
-    ensures { OnOk result (text.new.items ≡ text.old.items ++ (words.now ++ decimal place)) }
+/// Appends an offset.
+fn append_at(text: &mut Vec<u8>, place: usize) -> Result<(), AllocError>
+    ensures { OnOk result (text.new.items ≡ text.old.items ++ (codes " at " ++ decimal place)) }
 {
-    text.extend_from_slice(words)?;
+    text.extend_from_slice(b" at ")?;
     append_decimal(text, place as u64)
 }

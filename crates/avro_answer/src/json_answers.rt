@@ -113,7 +113,7 @@ fn fault_json(
 ) -> Result<String, AllocError> {
     let mut fault = JsonObject::new(alloc);
     let kind = refutation.fault.kind;
-    fault.put_text("kind", kind_name(kind))?;
+    fault.put_text("kind", kind.name())?;
     if let Some(name) = place.missing {
         let key = match kind {
             FaultKind::MissingField(_) => "field",
@@ -128,15 +128,4 @@ fn fault_json(
     fault.put("path", &Value::from(path))?;
     fault.put_text("at", &place.at)?;
     fault.json()
-}
-
-/// The name of a kind of fault.
-fn kind_name(kind: FaultKind) -> &'static str {
-    match kind {
-        FaultKind::NoMatch => "NoMatch",
-        FaultKind::NoBranch => "NoBranch",
-        FaultKind::MissingField(_) => "MissingField",
-        FaultKind::NoSymbol => "NoSymbol",
-        FaultKind::NotUtf8 => "NotUtf8",
-    }
 }

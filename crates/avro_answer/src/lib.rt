@@ -47,5 +47,5 @@ pub use history::{Judged, history_text, judge_json_line, judge_line};
 pub use json_answers::counts_line;
 pub use judging::{judge_schemas, judge_text};
 pub use many_data::read_texts;
-pub use refusal::{Refusal, certificate_refusal, schema_code, schema_refusal};
+pub use refusal::{Refusal, certificate_refusal, schema_refusal};
 pub use schemas::{Shown, schema_text, show_schema};

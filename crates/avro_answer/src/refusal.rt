@@ -1,23 +1,30 @@
 //! Texts that are refused.
 
 ghost use Rattle.std.specs.Prelude.{◌≡◌, ◌++◌, IfOk};
-ghost use Rattle.avro_answer.specs.RefusalText.{schema_code as code_of_schema, certificate_code as code_of_certificate, refusal_text};
+ghost use Rattle.avro_schema_json.specs.Refusals.{schema_code};
+ghost use Rattle.avro_certificate.specs.CertificateRead.{certificate_code};
+ghost use Rattle.avro_answer.specs.RefusalText.{refusal_text};
 
 use avro_certificate::CertError;
 use avro_schema::Memory;
 use avro_schema_json::SchemaError;
 use std::alloc::{AllocError, AllocFailed, Global};
+use thiserror::Error;
 
 /// Which text is refused, and why.
-#[derive(Clone, Copy, Debug, PartialEq, Eq)]
+#[derive(Clone, Copy, Debug, PartialEq, Eq, Error)]
 pub enum Refusal {
     /// The writer's schema, or the only one.
+    #[error("writer: {0}")]
     Writer(SchemaError),
     /// The reader's schema.
+    #[error("reader: {0}")]
     Reader(SchemaError),
     /// The certificate.
+    #[error("certificate: {0}")]
     Certificate(CertError),
     /// Memory ran out.
+    #[error("out of memory")]
     OutOfMemory,
 }
 
@@ -57,9 +64,9 @@ impl<T: Drop> From<AllocFailed<T>> for Refusal {
 ///
 /// Memory ran out.
 pub fn schema_refusal(alloc: Global, word: &str, error: SchemaError) -> Result<Vec<u8>, AllocError>
-    ensures { IfOk result (λ line. line.items ≡ refusal_text word.now (code_of_schema error)) }
+    ensures { IfOk result (λ line. line.items ≡ refusal_text word.now (schema_code error)) }
 {
-    refusal_line(alloc, word, schema_code(error).as_bytes())
+    refusal_line(alloc, word, error.code().as_bytes())
 }
 
 /// The line that reports a certificate's text as refused, by the word that names its file.
@@ -72,9 +79,9 @@ pub fn certificate_refusal(
     word: &str,
     error: CertError,
 ) -> Result<Vec<u8>, AllocError>
-    ensures { IfOk result (λ line. line.items ≡ refusal_text word.now (code_of_certificate error)) }
+    ensures { IfOk result (λ line. line.items ≡ refusal_text word.now (certificate_code error)) }
 {
-    refusal_line(alloc, word, certificate_code(error).as_bytes())
+    refusal_line(alloc, word, error.code().as_bytes())
 }
 
 /// The line of what is refused, and of the reason.
@@ -88,36 +95,4 @@ pub(crate) fn refusal_line(alloc: Global, word: &str, reason: &[u8]) -> Result<V
     line.extend_from_slice(reason)?;
     line.push(b'\n')?;
     Ok(line)
-}
-
-/// The code of a schema's refusal.
-pub fn schema_code(error: SchemaError) -> &'static str
-    ensures { result.now ≡ code_of_schema error }
-{
-    match error {
-        SchemaError::NotJson => "S1",
-        SchemaError::UnknownName => "S2",
-        SchemaError::DuplicateName => "S3",
-        SchemaError::InvalidName => "S4",
-        SchemaError::InvalidDeclaration => "S5",
-        SchemaError::InvalidUnion => "S6",
-        SchemaError::InvalidSymbols => "S7",
-        SchemaError::DuplicateField => "S8",
-        SchemaError::InvalidDefault => "S9",
-        SchemaError::UnsupportedType => "S10",
-        SchemaError::UnsupportedNumber => "S11",
-        SchemaError::LimitExceeded => "S12",
-        SchemaError::OutOfMemory => "S13",
-    }
-}
-
-/// The code of a certificate's refusal.
-fn certificate_code(error: CertError) -> &'static str
-    ensures { result.now ≡ code_of_certificate error }
-{
-    match error {
-        CertError::Malformed => "G1",
-        CertError::NumberTooLarge => "G2",
-        CertError::OutOfMemory => "G3",
-    }
 }

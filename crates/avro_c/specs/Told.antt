@@ -1,6 +1,8 @@
 -- What a call tells its caller.
 use Rattle.std.specs.Prelude.{◌≢◌, ℕ, List, [], codes}
-use Rattle.avro_answer.specs.RefusalText.{schema_code, certificate_code, refusal_text}
+use Rattle.avro_schema_json.specs.Refusals.{schema_code}
+use Rattle.avro_certificate.specs.CertificateRead.{certificate_code}
+use Rattle.avro_answer.specs.RefusalText.{refusal_text}
 use Rattle.avro_answer.specs.declared.refusal.Refusal.{Refusal}
 use Rattle.avro_c.specs.Room.{IsPut}
 

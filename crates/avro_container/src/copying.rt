@@ -20,8 +20,8 @@ mod state;
 
 use crate::copying::copier::Copier;
 use crate::sink::put_rest;
-use avro_file::{CopyError, FileLimits};
 use avro_device::{Input, Output};
+use avro_file::{CopyError, FileLimits};
 use avro_schema_json::ReaderText;
 use std::alloc::Global;
 

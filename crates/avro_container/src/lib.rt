@@ -1,6 +1,7 @@
-//! Copies of object container files (Avro 1.11, "Object Container Files").
+//! Object container files and their copies (Avro 1.11, "Object Container Files").
 //!
-//! A [`Sink`] puts a header and blocks. [`copy`] takes a whole file and puts its copy; a [`Copier`] does the same one part
+//! What a file is read from and written to, and what reads its parts, is defined in the crates below: it is re-exported here,
+//! so that a caller names one crate. A [`Sink`] puts a header and blocks. [`copy`] takes a whole file and puts its copy; a [`Copier`] does the same one part
 //! per step.
 //!
 //! # How a file is copied
@@ -20,6 +21,8 @@ mod copying;
 pub mod laws;
 mod sink;
 
+pub use avro_device::{DeviceFault, Input, Output, ReadInput, WriteOutput};
+pub use avro_file::{Block, Blocks, CopyError, CountError, FileLimits, Header, LimitPlace};
 pub use copying::copier::Copier;
 pub use copying::{Counts, Step, copy};
 pub use sink::Sink;

@@ -10,8 +10,8 @@ ghost use Rattle.avro_file.specs.Named.{IsNamed};
 ghost use Rattle.avro_file.specs.Parts.{block_part, header_part, properties_of};
 ghost use Rattle.avro_device.specs.PutFront.{PutsFrontOf};
 
-use avro_file::{CopyError, MAGIC};
 use avro_device::{Output, put_all};
+use avro_file::{CopyError, MAGIC};
 use avro_zigzag::write_long;
 use std::alloc::{AllocError, Global};
 

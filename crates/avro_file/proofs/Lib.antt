@@ -9,7 +9,6 @@ pub mod Places
 pub mod Behind
 pub mod PropertyRuns
 pub mod Taken
-pub mod Texts
 pub mod HeadStops
 pub mod MetadataRuns
 pub mod MetadataTaken

@@ -3,7 +3,10 @@ use Rattle.std.specs.Prelude.{ℕ, List, codes}
 use Rattle.avro_file.specs.declared.error.CopyError.{CopyError}
 use Rattle.avro_file.specs.declared.error.LimitPlace.{LimitPlace}
 
--- the code; what failed where the file has no fault
+-- the code of a limit that is passed
+abbrev pub limit_code : List ℕ
+limit_code = codes "C9"
+
 abbrev pub error_code : CopyError → List ℕ
 error_code CopyError.NoMagic = codes "C1"
 error_code (CopyError.InvalidMetadata e) = codes "C2"
@@ -13,12 +16,12 @@ error_code CopyError.UnknownCodec = codes "C5"
 error_code (CopyError.InvalidCount block e) = codes "C6"
 error_code (CopyError.BytesLeft block) = codes "C7"
 error_code (CopyError.WrongMarker block) = codes "C8"
-error_code (CopyError.LimitExceeded place) = codes "C9"
+error_code (CopyError.LimitExceeded place) = limit_code
 error_code (CopyError.InvalidDatum block datum e) = codes "C10"
 error_code (CopyError.UnresolvedDatum block datum fault) = codes "C11"
-error_code CopyError.InputFailed = codes "cannot read"
-error_code CopyError.OutputFailed = codes "cannot write"
-error_code CopyError.OutOfMemory = codes "out of memory"
+error_code CopyError.InputFailed = codes "C12"
+error_code CopyError.OutputFailed = codes "C13"
+error_code CopyError.OutOfMemory = codes "C14"
 error_code CopyError.FailedBefore = codes "C15"
 error_code CopyError.CutHeader = codes "C16"
 error_code (CopyError.CutBlock block) = codes "C16"

@@ -4,73 +4,102 @@ use avro_schema::Memory;
 use avro_schema_json::SchemaError;
 use avro_zigzag::VarError;
 use std::alloc::{AllocError, AllocFailed};
-use std::error::Error;
-use std::fmt;
+use thiserror::Error;
 
 /// Why a block's count or size is invalid.
-#[derive(Clone, Copy, Debug, PartialEq, Eq)]
+#[derive(Clone, Copy, Debug, PartialEq, Eq, Error)]
 pub enum CountError {
     /// It is not a valid long.
+    #[error("{0}")]
     Invalid(VarError),
     /// It is negative.
+    #[error("negative")]
     Negative,
 }
 
 /// Where a limit is exceeded. Blocks and data are counted from 0.
-#[derive(Clone, Copy, Debug, PartialEq, Eq)]
+#[derive(Clone, Copy, Debug, PartialEq, Eq, Error)]
+#[error("{}", self.code())]
 pub enum LimitPlace {
     /// In the header.
     Header,
     /// In a block, or in its copy.
+    #[error("{code} block {0}", code = self.code())]
     Block(u64),
     /// In a datum of a block.
+    #[error("{code} block {0} datum {1}", code = self.code())]
     Datum(u64, u32),
 }
 
 /// Why a file cannot be read or copied (Avro 1.11, "Object Container Files"). Blocks and data are counted from 0.
-#[derive(Debug, PartialEq, Eq, Drop)]
+#[derive(Debug, PartialEq, Eq, Drop, Error)]
+#[error("{}", self.code())]
 pub enum CopyError {
     /// The file does not start with the four magic bytes.
     NoMagic,
     /// The metadata is not a map of bytes. The offset counts from the start of the file.
+    #[error("{code}: {0}", code = self.code())]
     InvalidMetadata(ReadError),
     /// The metadata has no `avro.schema`.
     NoSchema,
     /// `avro.schema` is not a schema.
+    #[error("{code}: {0}", code = self.code())]
     InvalidSchema(SchemaError),
     /// `avro.codec` is not `null`.
     UnknownCodec,
     /// A block's count or size is invalid.
+    #[error("{code} block {0}: {1}", code = self.code())]
     InvalidCount(u64, CountError),
     /// A block has bytes after its last datum.
+    #[error("{code} block {0}", code = self.code())]
     BytesLeft(u64),
     /// The marker after a block differs from the header's.
+    #[error("{code} block {0}", code = self.code())]
     WrongMarker(u64),
     /// A limit is exceeded.
+    #[error("{0}")]
     LimitExceeded(LimitPlace),
     /// A datum of a block is not validly encoded. The offset counts from the start of the block's data.
+    #[error("{code} block {0} datum {1}: {2}", code = self.code())]
     InvalidDatum(u64, u32, ReadError),
     /// A datum of a block does not resolve.
+    #[error("{code} block {0} datum {1}: {2}", code = self.code())]
     UnresolvedDatum(u64, u32, Fault),
     /// The input failed in this call.
+    #[error("cannot read")]
     InputFailed,
     /// The output failed in this call, or took none of the bytes.
+    #[error("cannot write")]
     OutputFailed,
     /// Memory ran out.
+    #[error("out of memory")]
     OutOfMemory,
     /// An earlier call failed.
     FailedBefore,
     /// The input ends in the header.
     CutHeader,
     /// The input ends in a block.
+    #[error("{code} block {0}", code = self.code())]
     CutBlock(u64),
+}
+
+impl LimitPlace {
+    ghost use Rattle.std.specs.Prelude.{◌≡◌};
+    ghost use Rattle.avro_file.specs.ErrorText.{limit_code};
+
+    /// The code of each limit that is exceeded: C9.
+    pub fn code(self) -> &'static str
+        ensures { result.now ≡ limit_code }
+    {
+        "C9"
+    }
 }
 
 impl CopyError {
     ghost use Rattle.std.specs.Prelude.{◌≡◌};
     ghost use Rattle.avro_file.specs.ErrorText.{error_code, place_of};
 
-    /// The error's code, or what failed.
+    /// The error's code: C1 to C16.
     pub fn code(&self) -> &'static str
         ensures { result.now ≡ error_code self.now }
     {
@@ -83,15 +112,14 @@ impl CopyError {
             CopyError::InvalidCount(_, _) => "C6",
             CopyError::BytesLeft(_) => "C7",
             CopyError::WrongMarker(_) => "C8",
-            CopyError::LimitExceeded(_) => "C9",
+            CopyError::LimitExceeded(place) => place.code(),
             CopyError::InvalidDatum(_, _, _) => "C10",
             CopyError::UnresolvedDatum(_, _, _) => "C11",
-            CopyError::InputFailed => "cannot read",
-            CopyError::OutputFailed => "cannot write",
-            CopyError::OutOfMemory => "out of memory",
+            CopyError::InputFailed => "C12",
+            CopyError::OutputFailed => "C13",
+            CopyError::OutOfMemory => "C14",
             CopyError::FailedBefore => "C15",
-            CopyError::CutHeader => "C16",
-            CopyError::CutBlock(_) => "C16",
+            CopyError::CutHeader | CopyError::CutBlock(_) => "C16",
         }
     }
 
@@ -110,70 +138,6 @@ impl CopyError {
             _ => LimitPlace::Header,
         }
     }
-
-    /// Writes the cause, if more is known than the code.
-    fn write_reason<W: fmt::Write>(&self, f: &mut fmt::Formatter<W>) -> fmt::Result {
-        match self {
-            CopyError::InvalidMetadata(error) => write_behind(": ", error, f),
-            CopyError::InvalidSchema(error) => write_behind(": ", error, f),
-            CopyError::InvalidCount(_, error) => write_behind(": ", error, f),
-            CopyError::InvalidDatum(_, _, error) => write_behind(": ", error, f),
-            CopyError::UnresolvedDatum(_, _, fault) => write_behind(": ", fault, f),
-            _ => Ok(()),
-        }
-    }
-}
-
-impl fmt::Display for CountError {
-    fn fmt<W: fmt::Write>(&self, f: &mut fmt::Formatter<W>) -> fmt::Result {
-        match self {
-            CountError::Invalid(error) => fmt::Display::fmt(error, f),
-            CountError::Negative => f.write_str("negative"),
-        }
-    }
-}
-
-impl Error for CountError {}
-
-impl fmt::Display for LimitPlace {
-    fn fmt<W: fmt::Write>(&self, f: &mut fmt::Formatter<W>) -> fmt::Result {
-        f.write_str("C9")?;
-        write_place(*self, f)
-    }
-}
-
-impl Error for LimitPlace {}
-
-impl fmt::Display for CopyError {
-    fn fmt<W: fmt::Write>(&self, f: &mut fmt::Formatter<W>) -> fmt::Result {
-        f.write_str(self.code())?;
-        write_place(self.place(), f)?;
-        self.write_reason(f)
-    }
-}
-
-impl Error for CopyError {}
-
-/// Writes the number of a block, or of a block and a datum.
-fn write_place<W: fmt::Write>(place: LimitPlace, f: &mut fmt::Formatter<W>) -> fmt::Result {
-    match place {
-        LimitPlace::Header => Ok(()),
-        LimitPlace::Block(block) => write_behind(" block ", &block, f),
-        LimitPlace::Datum(block, datum) => {
-            write_behind(" block ", &block, f)?;
-            write_behind(" datum ", &datum, f)
-        }
-    }
-}
-
-/// Writes a value after a word.
-fn write_behind<W: fmt::Write, T: fmt::Display>(
-    word: &str,
-    value: &T,
-    f: &mut fmt::Formatter<W>,
-) -> fmt::Result {
-    f.write_str(word)?;
-    fmt::Display::fmt(value, f)
 }
 
 impl From<AllocError> for CopyError {

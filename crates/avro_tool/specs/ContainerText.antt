@@ -1,9 +1,9 @@
 -- The line that reports a container file as refused: a code, the place in the file, and the reason.
 use Rattle.std.specs.Prelude.{ℕ, List, [], ◌++◌, codes}
-use Rattle.avro_zigzag.specs.declared.VarError.{VarError}
+use Rattle.avro_zigzag.specs.NumberFault.{number_code}
 use Rattle.avro_compare.specs.Seen.{fault_of}
 use Rattle.avro_certificate.specs.CertificateText.{decimal}
-use Rattle.avro_answer.specs.RefusalText.{schema_code}
+use Rattle.avro_schema_json.specs.Refusals.{schema_code}
 use Rattle.avro_answer.specs.Texts.{fault_text, reading_text}
 use Rattle.avro_file.specs.declared.error.CopyError.{CopyError}
 use Rattle.avro_file.specs.declared.error.CountError.{CountError}
@@ -22,13 +22,8 @@ place_text LimitPlace.Header = []
 place_text (LimitPlace.Block block) = block_text block
 place_text (LimitPlace.Datum block datum) = datum_text block datum
 
-abbrev pub number_text : VarError → List ℕ
-number_text VarError.EndOfInput = codes "Z1"
-number_text VarError.NotShortest = codes "Z2"
-number_text VarError.OutOfRange = codes "Z3"
-
 abbrev pub count_text : CountError → List ℕ
-count_text (CountError.Invalid e) = number_text e
+count_text (CountError.Invalid e) = number_code e
 count_text CountError.Negative = codes "negative"
 
 -- the reason, after a colon, where there is one

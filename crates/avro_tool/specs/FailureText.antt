@@ -1,7 +1,9 @@
 -- What the program says where it ends without an answer: the exit status, and the line of what is refused.
 use Rattle.std.specs.Prelude.{◌≡◌, ℕ, List}
 use Rattle.avro_answer.specs.DataRead.{error_text}
-use Rattle.avro_answer.specs.RefusalText.{schema_code, certificate_code, refusal_text}
+use Rattle.avro_schema_json.specs.Refusals.{schema_code}
+use Rattle.avro_certificate.specs.CertificateRead.{certificate_code}
+use Rattle.avro_answer.specs.RefusalText.{refusal_text}
 use Rattle.avro_tool.specs.ContainerText.{container_text}
 use Rattle.avro_tool.specs.declared.failure.Failure.{Failure}
 

@@ -2,12 +2,11 @@
 
 ghost use Rattle.std.specs.Prelude.{◌≡◌, ◌++◌, OnOk, IfOk};
 ghost use Rattle.avro_certificate.specs.CertificateText.{decimal};
-ghost use Rattle.avro_tool.specs.ContainerText.{block_text, datum_text, place_text, number_text, reason_text, container_text};
+ghost use Rattle.avro_tool.specs.ContainerText.{block_text, datum_text, place_text, reason_text, container_text};
 
-use avro_answer::{append_fault, append_reading, schema_code};
+use avro_answer::{append_fault, append_reading};
 use avro_certificate::append_decimal;
 use avro_file::{CopyError, CountError, LimitPlace};
-use avro_zigzag::VarError;
 use std::alloc::{AllocError, Global};
 
 /// The line that reports a container as refused, by the word that names its file.
@@ -68,11 +67,11 @@ fn append_reason(text: &mut Vec<u8>, error: &CopyError) -> Result<(), AllocError
         }
         CopyError::InvalidSchema(error) => {
             text.extend_from_slice(b": ")?;
-            text.extend_from_slice(schema_code(*error).as_bytes())
+            text.extend_from_slice(error.code().as_bytes())
         }
         CopyError::InvalidCount(_, CountError::Invalid(error)) => {
             text.extend_from_slice(b": ")?;
-            text.extend_from_slice(number_code(*error).as_bytes())
+            text.extend_from_slice(error.code().as_bytes())
         }
         CopyError::InvalidCount(_, CountError::Negative) => text.extend_from_slice(b": negative"),
         CopyError::UnresolvedDatum(_, _, fault) => {
@@ -80,16 +79,5 @@ fn append_reason(text: &mut Vec<u8>, error: &CopyError) -> Result<(), AllocError
             append_fault(text, fault)
         }
         _ => Ok(()),
-    }
-}
-
-/// The code of a number that cannot be read.
-fn number_code(error: VarError) -> &'static str
-    ensures { result.now ≡ number_text error }
-{
-    match error {
-        VarError::EndOfInput => "Z1",
-        VarError::NotShortest => "Z2",
-        VarError::OutOfRange => "Z3",
     }
 }

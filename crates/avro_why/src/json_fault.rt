@@ -3,6 +3,7 @@
 ghost use Rattle.std.specs.Prelude.{◌≤◌, length};
 
 use crate::position::{Position, position_at};
+use avro_cursor::text_of;
 use serde_json::Value;
 use std::alloc::{AllocError, Global};
 
@@ -41,8 +42,8 @@ pub(crate) fn json_fault(alloc: Global, text: &[u8]) -> Result<Option<JsonFault>
         let words = "the text begins with a byte order mark";
         return Ok(Some(JsonFault::at(beginning, words)));
     }
-    if let Err(error) = str::from_utf8(text) {
-        let position = position_at(text, error.valid_up_to());
+    if let Err(end) = text_of(text) {
+        let position = position_at(text, end);
         return Ok(Some(JsonFault::at(position, "the bytes are not UTF-8")));
     }
     syntax_fault(alloc, text)

@@ -4,6 +4,7 @@ use crate::fault::Fault;
 use crate::names::Name;
 use crate::nodes::Title;
 use crate::places::Places;
+use avro_cursor::text_of;
 use serde_json::Value;
 use std::alloc::{AllocError, Global};
 
@@ -46,7 +47,7 @@ fn number_at(text: &[u8], offset: usize) -> &str {
         }
         end = end.saturating_add(1);
     }
-    str::from_utf8(rest.get(..end).unwrap_or(&[])).unwrap_or("")
+    text_of(rest.get(..end).unwrap_or(&[])).unwrap_or("")
 }
 
 /// A fault of the value at an offset, in words.

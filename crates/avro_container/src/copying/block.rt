@@ -18,8 +18,8 @@ use crate::copying::header::marker;
 use crate::copying::packing::pack_data;
 use crate::copying::state::{BlockTask, Store};
 use crate::sink::put_block;
-use avro_file::{BlockHead, CopyError, Reach, take_block};
 use avro_device::{Input, Output};
+use avro_file::{BlockHead, CopyError, Reach, take_block};
 
 /// Takes the next block, puts its copy, and returns the number of its data; `None` if the input ends before it.
 ///

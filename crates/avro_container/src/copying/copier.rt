@@ -15,8 +15,8 @@ use crate::copying::block::copy_block;
 use crate::copying::header::copy_header;
 use crate::copying::opened::Opened;
 use crate::copying::state::{BlockTask, Store, Task};
-use avro_file::{CopyError, FileLimits};
 use avro_device::{Input, Output};
+use avro_file::{CopyError, FileLimits};
 use avro_schema_json::ReaderText;
 use std::alloc::Global;
 

@@ -19,8 +19,8 @@ ghost use Rattle.avro_file.specs.Parts.{properties_of, property_of};
 use crate::copying::opened::Opened;
 use crate::copying::state::{Store, Task};
 use crate::sink::Sink;
-use avro_file::{CopyError, Header, take_header};
 use avro_device::{Input, Output};
+use avro_file::{CopyError, Header, take_header};
 use std::alloc::{AllocError, Global};
 
 /// Takes the header of a file, puts its copy, and returns it.

@@ -1,6 +1,6 @@
 //! Taking the properties in a header's metadata.
 
-ghost use Rattle.std.specs.Prelude.{◌≡◌, ℕ, cond, true, false, List, bytes_eq, string_bytes, IfOk, OnOk, IfSome, IfNone, Err, ◌+◌, ◌^◌, ◌<◌, ◌≤◌, [], ◌∷◌, ◌++◌, max, length, slice_index, Some};
+ghost use Rattle.std.specs.Prelude.{◌≡◌, ℕ, cond, true, false, List, bytes_eq, string_bytes, IfOk, OnOk, Err, ◌+◌, ◌^◌, ◌<◌, ◌≤◌, [], ◌∷◌, ◌++◌, max, length, slice_index, Some};
 ghost use Rattle.std.specs.BTreeSet.{contains_text};
 ghost use Rattle.std.specs.Str.{is_utf8};
 ghost use Rattle.std.specs.Result.{IfErr};
@@ -18,6 +18,7 @@ use crate::header::content::take_content;
 use crate::input::Reach;
 use crate::input::buffer::Buffer;
 use avro_binary::ReadError;
+use avro_cursor::text_of;
 use avro_device::Input;
 use std::alloc::{AllocError, Global};
 use std::collections::BTreeSet;
@@ -43,18 +44,6 @@ impl From<AllocError> for NameError {
     }
 }
 
-/// The content as text, if it is UTF-8.
-fn text_of(content: &[u8]) -> Option<&str>
-    ensures some { IfSome result (λ text. text.now ≡ content.now) }
-    ensures valid { IfSome result (λ text. is_utf8 content.now ≡ true) }
-    ensures none { IfNone result (is_utf8 content.now ≡ false) }
-{
-    match std::str::from_utf8(content) {
-        Ok(text) => Some(text),
-        Err(_) => None,
-    }
-}
-
 /// Adds a name to the earlier ones.
 ///
 /// # Errors
@@ -73,7 +62,7 @@ pub(crate) fn add_name(
     ensures text { result ≡ Err NameError.Twice → is_utf8 content.now ≡ true }
     ensures twice { result ≡ Err NameError.Twice → contains_text names.old content.now ≡ true }
 {
-    let Some(text) = text_of(content) else {
+    let Ok(text) = text_of(content) else {
         return Err(NameError::NoText);
     };
     let name = String::from_str(alloc, text)?;
@@ -135,11 +124,6 @@ fn take_name<I: Input>(
     }
 }
 
-/// Does nothing at run time. It tells the proof that each byte is below 256.
-fn keep_none(_content: &[u8])
-    ensures { (i : ℕ) → slice_index _content.now i < 2 ^ 8 }
-{}
-
 /// Adds a property to the earlier ones.
 ///
 /// # Errors
@@ -151,7 +135,8 @@ fn add_property(
     name: String,
     content: &[u8],
 ) -> Result<(), AllocError>
-    ensures { OnOk result (properties_of properties.new.items ≡ properties_of properties.old.items ++ record { name = string_bytes name; content = content.now } ∷ []) }
+    ensures added { OnOk result (properties_of properties.new.items ≡ properties_of properties.old.items ++ record { name = string_bytes name; content = content.now } ∷ []) }
+    ensures bytes { (i : ℕ) → slice_index content.now i < 2 ^ 8 }
 {
     let content = Vec::from_slice(alloc, content)?;
     properties.push((name, content))?;
@@ -185,7 +170,6 @@ fn take_property<I: Input>(
     let (start, end) = take_content(input, buffer, middle, reach)?;
     let (_, rest) = buffer.bytes().split_at(start);
     let (content, _) = rest.split_at(end - start);
-    keep_none(content);
     add_property(alloc, &mut properties.entries, name, content)?;
     Ok(end)
 }

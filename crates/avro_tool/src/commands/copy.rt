@@ -5,9 +5,9 @@ use crate::files::kept::{is_one_file, is_output, refuse_read_file, refuse_schema
 use crate::files::late::LateFile;
 use crate::files::schema::read_reader;
 use crate::request::Copying;
-use avro_file::{CopyError, FileLimits};
 use avro_container::{Counts, copy};
 use avro_device::{Input, WriteOutput};
+use avro_file::{CopyError, FileLimits};
 use avro_schema_json::ReaderText;
 use hex::FromHex;
 use std::alloc::Global;
