@@ -11,7 +11,7 @@ use Rattle.avro_cursor.specs.Blocks.{IsInBlocks, no_more}
 use Rattle.avro_cursor.specs.Encoding.{Encodes}
 use Rattle.avro_cursor.specs.Fault.{ReadFault, behind}
 use Rattle.avro_cursor.specs.Breaks.{Left, all_left, Head, head_count, head_bytes, IsHead, HasSize, BlocksBreak, EntriesAreWhole}
-use Rattle.avro_cursor.proofs.public.Behind.{behind-append, behind-none}
+use Rattle.avro_cursor.proofs.public.Behind.{behind-append}
 use Rattle.avro_binary.proofs.public.Blocks.{block_first}
 use Rattle.avro_cursor.proofs.public.Ranges.{is_count-from_below}
 use Rattle.avro_file.specs.File.{Property, property_entries, metadata_nodes, metadata_value}
@@ -58,11 +58,6 @@ block_later item left b rest f later =
 
 left_twice : (ps qs : List Property) → left_after (metadata_left ps) qs ≡ metadata_left (ps ++ qs)
 left_twice ps qs = grind (arith, length-append, names-append)
-
--- ---- The metadata so far
-
-pub metadata_none : MetadataRun [] []
-metadata_none = grind (arith, behind-none)
 
 module _ (item : Left → List ℕ → ReadFault → Type 0) (ps : List Property) (front : List ℕ) (b : BlockRun (metadata_left ps))
     (so_far : (rest : List ℕ) (f : ReadFault) → Blocks item (metadata_left ps) rest f → Blocks item (all_left entry_limits) (front ++ rest) (behind (length front) f)) where
