@@ -111,8 +111,17 @@ fn faults_are_shown(rt: HostRuntime) -> Result<(), Fail> {
     Ok(())
 }
 
-/// Texts of schemas, whether their datum is a long, and the fault of a 0 that is read as an int, or nothing where it has none.
-const ZEROS: [(&str, bool, &str); 2] = [("\"long\"", true, "NoMatch at /"), ("\"int\"", false, "")];
+/// Texts of the writer's and the reader's schema, whether a datum is a long, and the fault of this 0 that the reader has, or
+/// nothing where it refutes nothing: it has none, or it is none of the writer's.
+const ZEROS: [ZeroRow; 4] = [
+    ("\"long\"", "\"int\"", true, "NoMatch at /"),
+    ("\"int\"", "\"int\"", false, ""),
+    ("\"long\"", "\"int\"", false, ""),
+    ("\"int\"", "\"long\"", false, ""),
+];
+
+/// A row of that table.
+type ZeroRow = (&'static str, &'static str, bool, &'static str);
 
 /// The fault of a datum that a refutation has, or nothing where it refutes nothing.
 fn refutation_text(
@@ -127,31 +136,33 @@ fn refutation_text(
     }
 }
 
-/// The same where the reader's is an int.
-fn refutation_of_int(alloc: Global, writer: &Schema, datum: &Datum) -> Result<String, Fail> {
-    let reader = read_schema(alloc, b"\"int\"")?;
-    refutation_text(alloc, writer, &reader, datum)
-}
-
-/// The same for the text of the writer's.
-fn refutation_of_zero(alloc: Global, writer: &str, is_long: bool) -> Result<String, Fail> {
-    let writer = read_schema(alloc, writer.as_bytes())?;
+/// The same of a 0.
+fn refutation_of_zero(
+    alloc: Global,
+    writer: &Schema,
+    reader: &Schema,
+    is_long: bool,
+) -> Result<String, Fail> {
     if is_long {
-        refutation_of_int(alloc, &writer, &Datum::Long(0))
+        refutation_text(alloc, writer, reader, &Datum::Long(0))
     } else {
-        refutation_of_int(alloc, &writer, &Datum::Int(0))
+        refutation_text(alloc, writer, reader, &Datum::Int(0))
     }
 }
 
-/// The writer's schema of the first row, if any, whose fault is another one.
-fn wrong_refutation(
-    alloc: Global,
-    rows: &[(&'static str, bool, &str)],
-) -> Result<Option<&'static str>, Fail> {
-    for (writer, is_long, text) in rows {
-        let found = refutation_of_zero(alloc, writer, *is_long)?;
-        if found.as_str() != *text {
-            return Ok(Some(writer));
+/// Whether a 0 has the fault of a row, for the writer's schema.
+fn is_refutation(alloc: Global, writer: &Schema, row: &ZeroRow) -> Result<bool, Fail> {
+    let reader = read_schema(alloc, row.1.as_bytes())?;
+    let found = refutation_of_zero(alloc, writer, &reader, row.2)?;
+    Ok(found.as_str() == row.3)
+}
+
+/// The number of the first row, if any, whose fault is another one.
+fn wrong_refutation(alloc: Global, rows: &[ZeroRow]) -> Result<Option<usize>, Fail> {
+    for (number, row) in rows.iter().enumerate() {
+        let writer = read_schema(alloc, row.0.as_bytes())?;
+        if !is_refutation(alloc, &writer, row)? {
+            return Ok(Some(number));
         }
     }
     Ok(None)

@@ -1,8 +1,8 @@
 //! Devices that move few bytes a call, and that fail.
 
-use avro_file::{CopyError, FileLimits};
 use avro_container::{Copier, copy};
 use avro_device::{Input, Output, ReadInput, WriteOutput};
+use avro_file::{CopyError, FileLimits};
 use avro_samples::{FIVE, FIVE_COPIED, LONG_OR_INT};
 use avro_schema_json::{ReaderText, SchemaError};
 use std::alloc::Global;

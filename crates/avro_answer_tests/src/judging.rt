@@ -8,7 +8,8 @@ use std::alloc::{AllocError, Global};
 use std::test::Fail;
 
 /// Pairs of schemas that are approved, a writer's bytes, and what is read: the datum and the length, or the refusal.
-const READ: [Row; 8] = [
+const READ: [Row; 9] = [
+    (r#""int""#, r#""long""#, b"\x80\x01", "Long(64) 2"),
     (r#""int""#, r#""long""#, b"\x80\x01\xff", "Long(64) 2"),
     (r#""boolean""#, r#""boolean""#, b"\x02", "B3 at 0"),
     (r#""boolean""#, r#""boolean""#, b"", "B1 at 0"),

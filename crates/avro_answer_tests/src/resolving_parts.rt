@@ -3,7 +3,7 @@
 use crate::resolving_rows::Row;
 
 /// Items and entries.
-pub(crate) const PARTS: [Row; 10] = [
+pub(crate) const PARTS: [Row; 11] = [
     (
         r#"{"type":"array","items":"long"}"#,
         r#"{"type":"array","items":"long"}"#,
@@ -31,6 +31,14 @@ pub(crate) const PARTS: [Row; 10] = [
         b"\x00",
         "[] 1",
         b"\x00",
+    ),
+    // arrays whose items do not match, though it has none
+    (
+        r#"{"type":"array","items":"int"}"#,
+        r#"{"type":"array","items":"string"}"#,
+        b"\x00",
+        "NoMatch at /",
+        b"",
     ),
     (
         r#"{"type":"map","values":"bytes"}"#,
@@ -100,7 +108,7 @@ const FAULTY_REVERSED: &str =
     r#"{"type":"record","name":"R","fields":[{"name":"b","type":{"type":"enum","name":"E","symbols":["A"]}},{"name":"a","type":"string"}]}"#;
 
 /// Fields.
-pub(crate) const FIELDS: [Row; 12] = [
+pub(crate) const FIELDS: [Row; 13] = [
     (
         TEST,
         TEST_REVERSED,
@@ -166,6 +174,8 @@ pub(crate) const FIELDS: [Row; 12] = [
         b"",
     ),
     (FAULTY, FAULTY_REVERSED, b"\x02a\x02", "NoSymbol at /1", b""),
+    // the bytes end behind a field that would be no text
+    (FAULTY, FAULTY_REVERSED, b"\x02\xff", "B1 at 2", b""),
     (
         FAULTY,
         r#"{"type":"record","name":"R","fields":[{"name":"b","type":{"type":"enum","name":"E","symbols":["A"]}},{"name":"a","type":"string"},{"name":"c","type":"int"}]}"#,
