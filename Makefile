@@ -18,7 +18,7 @@ LIBRARY := bindings/out/libavrojudge.so
 TESTS := avro_data_tests avro_answer_tests
 
 .DEFAULT_GOAL := help
-.PHONY: help try files program library install install-library quick test check fmt bench robust words clean
+.PHONY: help try files program library install install-library quick test check fmt bench robust surface words clean
 
 help: ## lists the targets
 	@awk -F ':.*## ' '/^[a-z]+:.*## / { printf "make %-8s %s\n", $$1, $$2 }' $(MAKEFILE_LIST)
@@ -73,7 +73,7 @@ quick: words ## runs all tests without any proof (thirteen minutes of processor 
 	@echo "== avro_runs"; cd crates/avro_runs && \
 	rt try --steps 1 --seconds 600 $$(sed 's/.*/--data &=data\/&/' args) -- $$(cat args) | diff - stdout
 
-test: ## the gate: each proof, test, program and must-fail edit, from scratch (three processor hours)
+test: surface ## the gate: each proof, test, program and must-fail edit, from scratch (three processor hours)
 	rt ci
 
 check: ## checks one crate, CRATE=avro_name (1 to 3 minutes per thousand lines; after an edit 5 to 60 seconds)
@@ -99,7 +99,10 @@ robust: $(PROGRAM) $(LIBRARY) ## runs checks/ on the proved program, and compare
 	checks/bindings.py $(PROGRAM) $(LIBRARY)
 	$(if $(OLD),checks/compare.py $(OLD) $(PROGRAM))
 
-words: ## tests the words and codes of the man page and completions, and the table of the headline (a second)
+surface: ## tests the public items, and what stands on which library, against the tables of checks/surface.py (a second)
+	checks/surface.py
+
+words: surface ## tests these, the words and codes of the man page and completions, and the table of the headline (two seconds)
 	checks/words.py
 	checks/headline.py
 

@@ -1,8 +1,8 @@
 //! Devices that move few bytes a call, and that fail.
 
-use avro_container::{Copier, copy};
-use avro_device::{Input, Output, ReadInput, WriteOutput};
-use avro_file::{CopyError, FileLimits};
+use avro_container::{
+    Copier, CopyError, DeviceFault, FileLimits, Input, Output, ReadInput, WriteOutput, copy,
+};
 use avro_samples::{FIVE, FIVE_COPIED, LONG_OR_INT};
 use avro_schema_json::{ReaderText, SchemaError};
 use std::alloc::Global;
@@ -211,7 +211,7 @@ fn is_take_one_call(failing: usize) -> bool {
     };
     let mut input = ReadInput::new(&mut source);
     for call in 0..5 {
-        if input.take(&mut [0; 4]).is_err() != (call == failing) {
+        if (input.take(&mut [0; 4]) == Err(DeviceFault)) != (call == failing) {
             return false;
         }
     }
@@ -238,7 +238,7 @@ fn is_put_one_call(alloc: Global, failing: usize) -> bool {
     let mut kept = Kept::new(alloc, Failing::Put(failing));
     let mut output = WriteOutput::new(&mut kept);
     for call in 0..5 {
-        if output.put(FIVE).is_err() != (call == failing) {
+        if (output.put(FIVE) == Err(DeviceFault)) != (call == failing) {
             return false;
         }
     }
@@ -250,7 +250,7 @@ fn is_flush_one_call(alloc: Global, failing: usize) -> bool {
     let mut kept = Kept::new(alloc, Failing::Flush(failing));
     let mut output = WriteOutput::new(&mut kept);
     for call in 0..5 {
-        if output.flush().is_err() != (call == failing) {
+        if (output.flush() == Err(DeviceFault)) != (call == failing) {
             return false;
         }
     }

@@ -1,9 +1,8 @@
 //! Data without bytes: what is read, checked and copied of them at the limit of a block.
 
 use crate::files::{NONE as NO_BLOCK, copy_all, is_answer, read_all, reader_of, with_block};
-use avro_container::Counts;
-use avro_device::{Input, ReadInput};
-use avro_file::{Block, Blocks, Checker, CopyError, FileLimits, Header};
+use avro_container::{Block, Blocks, CopyError, Counts, FileLimits, Header, Input, ReadInput};
+use avro_file::Checker;
 use avro_samples::file_of;
 use avro_schema::Limits;
 use avro_schema_json::ReaderText;

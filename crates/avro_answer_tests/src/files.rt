@@ -1,9 +1,9 @@
 //! What reading and copying a container file returns.
 
 use avro_binary::Nothing;
-use avro_container::{Counts, copy};
-use avro_device::{Input, ReadInput, WriteOutput};
-use avro_file::{Block, Blocks, CopyError, FileLimits, Header};
+use avro_container::{
+    Block, Blocks, CopyError, Counts, FileLimits, Header, Input, ReadInput, WriteOutput, copy,
+};
 use avro_schema_json::{ReaderText, SchemaError};
 use std::alloc::{AllocError, Global};
 

@@ -1,7 +1,7 @@
 //! Headers: files that are cut anywhere, and limits.
 
 use crate::files::are_answers;
-use avro_file::FileLimits;
+use avro_container::FileLimits;
 use avro_samples::NULLS;
 use avro_schema::Limits;
 use std::alloc::{AllocError, Global};

@@ -1,7 +1,7 @@
 //! Verdicts at the limits of judging, and beyond them.
 
 use avro_answer::{CutAnswer, Form, Refusal, judge_schemas, judge_text};
-use avro_device::WriteOutput;
+use avro_container::WriteOutput;
 use avro_judge::JudgeLimits;
 use avro_schema::{Draft, Limits, Node, Schema};
 use avro_schema_json::read_schema;

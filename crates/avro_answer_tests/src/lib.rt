@@ -34,3 +34,5 @@ mod resolving;
 mod resolving_parts;
 #[cfg(test)]
 mod resolving_rows;
+#[cfg(test)]
+mod surface;

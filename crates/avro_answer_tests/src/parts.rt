@@ -1,9 +1,9 @@
 //! The steps of a copy, and files that are put part by part.
 
 use crate::devices::{Failing, Kept};
-use avro_container::{Copier, Counts, Sink, Step, copy};
-use avro_device::{Input, Output, ReadInput, WriteOutput};
-use avro_file::{CopyError, FileLimits};
+use avro_container::{
+    Copier, CopyError, Counts, FileLimits, Input, Output, ReadInput, Sink, Step, WriteOutput, copy,
+};
 use avro_samples::{FIVE, FIVE_COPIED, LONG_OR_INT, MARK, NULLS};
 use avro_schema::Limits;
 use avro_schema_json::ReaderText;

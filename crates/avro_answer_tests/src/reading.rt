@@ -1,8 +1,7 @@
 //! Blocks: what is taken of a file, and what they return once they failed.
 
 use avro_binary::Tree;
-use avro_device::ReadInput;
-use avro_file::{Block, Blocks, CopyError, FileLimits, Header};
+use avro_container::{Block, Blocks, CopyError, FileLimits, Header, ReadInput};
 use avro_samples::{FIVE, MARK};
 use avro_schema::Datum;
 use std::alloc::Global;

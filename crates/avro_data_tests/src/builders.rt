@@ -1,6 +1,7 @@
 //! Reading by a builder: the same data, lengths and faults as `decode` and `walk`.
 
-use avro_binary::{Build, Nothing, Tree, decode, read_own, walk};
+use avro_binary::{decode, walk};
+use avro_resolve::{Build, Nothing, Tree, read_own};
 use avro_schema::{Datum, Limits, Schema};
 use avro_schema_json::read_schema;
 use std::alloc::{AllocError, Global};

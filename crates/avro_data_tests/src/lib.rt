@@ -33,4 +33,6 @@ mod resolved;
 #[cfg(test)]
 mod shapes;
 #[cfg(test)]
+mod surface;
+#[cfg(test)]
 mod trees;

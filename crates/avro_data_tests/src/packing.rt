@@ -1,7 +1,7 @@
 //! Plain encodings that are built while data are read.
 
-use avro_binary::{Build, read_own};
 use avro_packed::Packed;
+use avro_resolve::{Build, read_own};
 use avro_schema::{Datum, Limits, Schema};
 use avro_schema_json::read_schema;
 use std::alloc::{AllocError, Global};
