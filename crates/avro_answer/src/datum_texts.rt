@@ -15,7 +15,7 @@ use crate::form::Form;
 use crate::refusal::refusal_line;
 use avro_binary::ReadError;
 use avro_certificate::append_decimal;
-use avro_display::{DisplayTable, show};
+use avro_display::{DisplayTable, show_by};
 use avro_resolve::ReadResolveError;
 use avro_schema::{Datum, Memory};
 use std::alloc::{AllocError, Global};
@@ -30,7 +30,7 @@ pub(crate) fn datum_text(
 ) -> Result<Vec<u8>, Memory>
     ensures { IfOk result (λ text. text.items ≡ text_of_datum form (schema_nodes table.now) (value_of datum.now) len) }
 {
-    let display = show(alloc, table, table.schema().root(), datum)?;
+    let display = show_by(alloc, table, table.schema().root(), datum)?;
     let mut text = Vec::new(alloc);
     match form {
         Form::Text => append_lines(&mut text, &display, len)?,

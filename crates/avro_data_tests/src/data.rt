@@ -1,7 +1,7 @@
 //! Data without parts and their types, the number of nodes of a draft, and limits.
 
 use crate::plain::Plain;
-use avro_display::{DisplayTable, show};
+use avro_display::show;
 use avro_schema::{Datum, Draft, DraftError, Limits, Node, Schema, depth, fits, size};
 use std::alloc::Global;
 use std::test::Fail;
@@ -51,8 +51,7 @@ fn fits_as(
     let root = schema.root();
     let is_of_type = *schema.node(root) == node_of(row.1);
     if fits(alloc, schema, root, datum)? {
-        let table = DisplayTable::new(alloc, schema)?;
-        Ok(is_of_type && show(alloc, &table, root, datum)?.as_str() == row.2)
+        Ok(is_of_type && show(alloc, schema, root, datum)?.as_str() == row.2)
     } else {
         Ok(!is_of_type)
     }

@@ -2,7 +2,7 @@
 
 use crate::padded_numbers::{COUNTS, KEYS};
 use avro_binary::{decode, walk};
-use avro_display::{DisplayTable, show};
+use avro_display::show;
 use avro_schema::{Limits, Schema};
 use avro_schema_json::read_schema;
 use std::alloc::{AllocError, Global};
@@ -83,8 +83,7 @@ fn decoded_text(
     let root = schema.root();
     match decode(alloc, schema, root, bytes, limits) {
         Ok((datum, len)) => {
-            let table = DisplayTable::new(alloc, schema)?;
-            let shown = show(alloc, &table, root, &datum)?;
+            let shown = show(alloc, schema, root, &datum)?;
             Ok(with_length(alloc, shown, len)?)
         }
         Err(error) => Ok(format!(in alloc; "{error}")?),

@@ -13,16 +13,29 @@ use crate::putting::put_displayed;
 use crate::table::DisplayTable;
 use crate::text::Text;
 use avro_device::{Output, WriteOutput, put_all};
-use avro_schema::{Datum, Memory, NodeId};
+use avro_schema::{Datum, Memory, NodeId, Schema};
 use std::alloc::Global;
 use std::mem::replace;
 
-/// Displays a datum of a node as compact JSON.
+/// Displays a datum of a node of a schema as compact JSON. Many data of a schema are displayed by one table ([`show_by`]).
 ///
 /// # Errors
 ///
 /// Memory ran out.
-pub fn show(
+pub fn show(alloc: Global, schema: &Schema, id: NodeId, datum: &Datum) -> Result<String, Memory>
+    ensures { IfOk result (λ text.
+        string_bytes text ≡ display_text (schema_nodes schema.now) (node_at (schema_nodes schema.now) id.0) (value_of datum.now)) }
+{
+    let table = DisplayTable::new(alloc, schema)?;
+    show_by(alloc, &table, id, datum)
+}
+
+/// Displays a datum of a node of a table's schema as compact JSON.
+///
+/// # Errors
+///
+/// Memory ran out.
+pub fn show_by(
     alloc: Global,
     table: &DisplayTable<'_>,
     node: NodeId,

@@ -3,7 +3,8 @@
 //! The form is this project's own, not part of the Avro specification: the value of a union is an object
 //! whose key is its branch, except for null, and bytes are a string of one character per byte.
 //!
-//! A display goes out in pieces ([`put_display`], [`put_line`]), so that nothing holds all of it; [`show`] returns it as one text.
+//! A display goes out in pieces ([`put_display`], [`put_line`]), so that nothing holds all of it; [`show`] and [`show_by`] return
+//! it as one text.
 //! What is displayed need not be held either: [`put_displayed`] opens one part after another of whatever is [`Displayed`].
 #![tactic(auto)]
 
@@ -20,7 +21,7 @@ mod putting;
 mod table;
 mod text;
 
-pub use display::{put_display, put_line, show};
+pub use display::{put_display, put_line, show, show_by};
 pub use displayed::{Displayed, Opened};
 pub use labels::{bool_text, symbol_text};
 pub use member::Member;

@@ -1,7 +1,7 @@
 //! A datum of a node as what is displayed.
 
 ghost use Rattle.std.specs.Prelude.{◌≡◌, ◌<◌, ◌≤◌, List, ℕ, Some, IfSome, map, option_map, slice_get, suc};
-ghost use Rattle.avro_schema.specs.Node.{Node as SeenNode, FieldNode};
+ghost use Rattle.avro_schema.specs.Node.{Node as SeenNode};
 ghost use Rattle.avro_schema.specs.Seen.{entries_of, seen_fields, value_of, values_of};
 ghost use Rattle.avro_schema.specs.SeenSchema.{schema_nodes};
 ghost use Rattle.avro_schema.specs.Value.{Value, Values, depth, entries_depth, keys_of, values_count, values_depth};

@@ -1,13 +1,16 @@
 use avro_device::DeviceFault;
 use avro_schema::Memory;
 use std::alloc::AllocError;
+use thiserror::Error;
 
 /// Why a text was not put.
-#[derive(Clone, Copy, Debug, PartialEq, Eq)]
+#[derive(Clone, Copy, Debug, PartialEq, Eq, Error)]
 pub enum PutError {
     /// The output failed, or took none of the bytes.
+    #[error("cannot write")]
     CannotWrite,
     /// Memory ran out.
+    #[error("out of memory")]
     OutOfMemory,
 }
 

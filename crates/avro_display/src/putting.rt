@@ -3,11 +3,10 @@
 ghost use Rattle.std.specs.Prelude.{◌≡◌, ◌≢◌, ◌⊎◌, ◌++◌, ◌∷◌, ℕ, [], List, OnOk, IsErrOf, map};
 ghost use Rattle.std.specs.List.{AllByRecursion};
 ghost use Rattle.serde_json.specs.Data.{Data, Items, array, object, no_members};
-ghost use Rattle.serde_json.specs.Written.{comma_if, compact_text};
+ghost use Rattle.serde_json.specs.Written.{compact_text};
 ghost use Rattle.avro_display.specs.Displayed.{AreOrdered, EntriesAre, IsShown, ItemsAre, object_text};
 ghost use Rattle.avro_display.specs.Order.{in_order, put_each};
 ghost use Rattle.avro_display.specs.Pieces.{PutsText};
-ghost use Rattle.avro_display.specs.Table.{head_text};
 ghost use Rattle.avro_display.specs.inside.Tables.{seen_place};
 ghost use Rattle.avro_display.specs.declared.put_error.PutError.{PutError};
 
