@@ -3,11 +3,10 @@
 use crate::resolving_parts::{FIELDS, PARTS};
 use crate::resolving_rows::{BRANCHES, Row};
 use avro_binary::{Nothing, Tree, append_plain, decode};
-use avro_display::{DisplayTable, show};
 use avro_packed::Packed;
 use avro_resolve::{Plan, ReadResolveError, decode_resolved, read_resolved, resolve};
 use avro_schema::{Datum, Limits, NodeId, Schema, fits};
-use avro_schema_json::read_schema;
+use avro_schema_json::{read_schema, show};
 use std::alloc::{AllocError, Global};
 use std::test::Fail;
 
@@ -22,8 +21,7 @@ fn with_length(alloc: Global, display: String, len: usize) -> Result<String, All
 /// A datum of the root's display, and a length.
 fn shown(alloc: Global, schema: &Schema, datum: &Datum, len: usize) -> Result<String, Fail> {
     if fits(alloc, schema, schema.root(), datum)? {
-        let table = DisplayTable::new(alloc, schema)?;
-        let display = show(alloc, &table, schema.root(), datum)?;
+        let display = show(alloc, schema, schema.root(), datum)?;
         Ok(with_length(alloc, display, len)?)
     } else {
         Err(Fail::new("the datum is none of the schema's"))

@@ -1,5 +1,5 @@
--- Which refusals are returned.
-use Rattle.std.specs.Prelude.{Result, IsErrOf, option_map, unwrap_or}
+-- Which refusals are returned, and their codes.
+use Rattle.std.specs.Prelude.{ℕ, List, Result, IsErrOf, codes, option_map, unwrap_or}
 use Rattle.avro_schema.specs.Faulty.{NodeFault, unknown_node, duplicate_name, invalid_name, invalid_union, invalid_symbols, duplicate_field, invalid_default, limit_exceeded, fault_of}
 use Rattle.avro_schema.specs.declared.fault.DraftError.{DraftError}
 use Rattle.avro_schema_json.specs.declared.error.SchemaError.{SchemaError}
@@ -22,3 +22,19 @@ refusal_of e = unwrap_or (option_map refusal_of_fault (fault_of e)) SchemaError.
 -- memory did not run out
 abbrev pub HasMemory : {T : Type 0} → Result T SchemaError → Type 0
 HasMemory result = ¬ (IsErrOf result SchemaError.OutOfMemory)
+
+-- the code of a refusal
+abbrev pub schema_code : SchemaError → List ℕ
+schema_code SchemaError.NotJson = codes "S1"
+schema_code SchemaError.UnknownName = codes "S2"
+schema_code SchemaError.DuplicateName = codes "S3"
+schema_code SchemaError.InvalidName = codes "S4"
+schema_code SchemaError.InvalidDeclaration = codes "S5"
+schema_code SchemaError.InvalidUnion = codes "S6"
+schema_code SchemaError.InvalidSymbols = codes "S7"
+schema_code SchemaError.DuplicateField = codes "S8"
+schema_code SchemaError.InvalidDefault = codes "S9"
+schema_code SchemaError.UnsupportedType = codes "S10"
+schema_code SchemaError.UnsupportedNumber = codes "S11"
+schema_code SchemaError.LimitExceeded = codes "S12"
+schema_code SchemaError.OutOfMemory = codes "S13"

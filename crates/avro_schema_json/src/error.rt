@@ -9,46 +9,60 @@ use thiserror::Error;
 
 /// Why a text is not a schema. Each is shown as its code.
 #[derive(Clone, Copy, Debug, PartialEq, Eq, Hash, Error)]
+#[error("{}", self.code())]
 pub enum SchemaError {
     /// The text is not JSON, is not UTF-8, or nests more than 127 levels.
-    #[error("S1")]
     NotJson,
     /// A reference to a type that is not defined before it.
-    #[error("S2")]
     UnknownName,
     /// A name that is defined twice.
-    #[error("S3")]
     DuplicateName,
     /// A name, namespace, alias or symbol that breaks the rules of names.
-    #[error("S4")]
     InvalidName,
     /// An attribute is missing or of a wrong kind, or the JSON is not a schema.
-    #[error("S5")]
     InvalidDeclaration,
     /// A union that is empty, holds a union, or holds two branches of one kind.
-    #[error("S6")]
     InvalidUnion,
     /// An enum without symbols, with a symbol twice, or with an unknown default.
-    #[error("S7")]
     InvalidSymbols,
     /// A name or an alias that two fields of a record have.
-    #[error("S8")]
     DuplicateField,
     /// A default that is not a datum of its field.
-    #[error("S9")]
     InvalidDefault,
     /// A type `float`, `double` or `error`.
-    #[error("S10")]
     UnsupportedType,
     /// A number that is not a whole number of 64 bits.
-    #[error("S11")]
     UnsupportedNumber,
     /// The text, the number of nodes or a count in it is over its limit.
-    #[error("S12")]
     LimitExceeded,
     /// Memory ran out.
-    #[error("S13")]
     OutOfMemory,
+}
+
+impl SchemaError {
+    ghost use Rattle.std.specs.Prelude.{◌≡◌};
+    ghost use Rattle.avro_schema_json.specs.Refusals.{schema_code};
+
+    /// The error's code: S1 to S13.
+    pub fn code(self) -> &'static str
+        ensures { result.now ≡ schema_code self }
+    {
+        match self {
+            SchemaError::NotJson => "S1",
+            SchemaError::UnknownName => "S2",
+            SchemaError::DuplicateName => "S3",
+            SchemaError::InvalidName => "S4",
+            SchemaError::InvalidDeclaration => "S5",
+            SchemaError::InvalidUnion => "S6",
+            SchemaError::InvalidSymbols => "S7",
+            SchemaError::DuplicateField => "S8",
+            SchemaError::InvalidDefault => "S9",
+            SchemaError::UnsupportedType => "S10",
+            SchemaError::UnsupportedNumber => "S11",
+            SchemaError::LimitExceeded => "S12",
+            SchemaError::OutOfMemory => "S13",
+        }
+    }
 }
 
 impl From<DraftError> for SchemaError {

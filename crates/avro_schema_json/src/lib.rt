@@ -1,7 +1,7 @@
 //! Avro schemas as JSON texts.
 //!
 //! [`read_schema`] reads the schema that a text declares, or returns a [`SchemaError`] that says
-//! why there is none. A [`ReaderText`] keeps the text together with its schema.
+//! why there is none. A [`ReaderText`] keeps the text together with its schema. [`show`] displays a datum of a schema as JSON.
 //!
 //! Contracts speak of the tree that `serde_json` reads in a text.
 //!
@@ -39,6 +39,7 @@ mod repeats;
 mod symbol_indices;
 mod texts;
 
+pub use avro_display::show;
 pub use error::SchemaError;
 pub use read::read_schema;
 pub use reader_text::ReaderText;

@@ -121,7 +121,7 @@ impl NameTable {
         match self.ids.insert(key, id) {
             Ok(_) => Ok(()),
             Err(_) => {
-                let _ = self.order.pop();
+                self.order.pop();
                 Err(AllocError)
             }
         }
