@@ -185,8 +185,8 @@ mutual
       (and_parts (fits writer (node_at writer p) v) (fields_fit writer ps vs) h).1)
 
 -- at the roots
-pub resolve_root-fits : (writer reader : List Node) (v u : Value) → is_schema reader ≡ true → FitsAt writer (root_of writer) v
+pub resolved_root_fits : (writer reader : List Node) (v u : Value) → is_schema reader ≡ true → FitsAt writer (root_of writer) v
     → resolve_root writer reader v ≡ Ok u → FitsAt reader (root_of reader) u
-resolve_root-fits writer reader v u formed h e =
+resolved_root_fits writer reader v u formed h e =
     IfOk-at_ok (FitsAt reader (root_of reader)) e
     (resolve-fits writer reader (MeetRules-from_is_schema reader formed) (root_of writer) (root_of reader) v (MeetRules-from_is_schema reader formed 0) h)

@@ -1,7 +1,7 @@
 -- Bytes that become a text.
-use Rattle.std.proofs.Common.{◌≡◌, ℕ, List, true, Ok, Err, ap, sym, ◌∙◌}
+use Rattle.std.proofs.Common.{◌≡◌, ℕ, List, true, false, Ok, Err, ap, sym, ◌∙◌}
 use Rattle.std.specs.Str.{is_utf8}
-use Rattle.std.proofs.lemmas.Bool.{cond-true, cond-false, false_from_ne_true}
+use Rattle.std.proofs.lemmas.Bool.{cond-true, cond-false}
 use Rattle.avro_schema.specs.Value.{Value}
 use Rattle.avro_schema.specs.Node.{Node}
 use Rattle.avro_compare.specs.Fault.{fault_here, not_utf8}
@@ -11,5 +11,5 @@ pub text_taken : (b t : List ℕ) (n : Node) → n ≡ Node.string → t ≡ b �
 text_taken b t n e same good =
     ap (bytes_as b) e ∙ cond-true (is_utf8 b) (Ok (Value.string b)) (Err (fault_here not_utf8)) good ∙ ap (λ (x : List ℕ). Ok (Value.string x)) (sym same)
 
-pub text_bad : (b : List ℕ) (n : Node) → n ≡ Node.string → (is_utf8 b ≡ true → ⊥) → bytes_as b n ≡ Err (fault_here not_utf8)
-text_bad b n e bad = ap (bytes_as b) e ∙ cond-false (is_utf8 b) (Ok (Value.string b)) (Err (fault_here not_utf8)) (false_from_ne_true (is_utf8 b) bad)
+pub text_bad : (b : List ℕ) (n : Node) → n ≡ Node.string → is_utf8 b ≡ false → bytes_as b n ≡ Err (fault_here not_utf8)
+text_bad b n e bad = ap (bytes_as b) e ∙ cond-false (is_utf8 b) (Ok (Value.string b)) (Err (fault_here not_utf8)) bad

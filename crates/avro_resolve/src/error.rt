@@ -15,6 +15,21 @@ pub enum ResolveError {
     Memory,
 }
 
+impl ResolveError {
+    ghost use Rattle.std.specs.Prelude.{◌≡◌};
+    ghost use Rattle.avro_resolve.specs.ErrorCode.{resolve_code};
+
+    /// The error's code: V1 to V6.
+    pub fn code(&self) -> &'static str
+        ensures { result.now ≡ resolve_code self.now }
+    {
+        match self {
+            ResolveError::Fault(fault) => fault.kind.code(),
+            ResolveError::Memory => "V6",
+        }
+    }
+}
+
 impl From<AllocError> for ResolveError {
     ghost use Rattle.std.specs.Prelude.{◌≡◌};
     ghost use Rattle.avro_resolve.specs.declared.error.ResolveError.TheVariants.{Memory as memory};
@@ -57,4 +72,19 @@ pub enum ReadResolveError {
     /// The writer's datum does not resolve.
     #[error("{0}")]
     Resolve(Fault),
+}
+
+impl ReadResolveError {
+    ghost use Rattle.std.specs.Prelude.{◌≡◌};
+    ghost use Rattle.avro_resolve.specs.ErrorCode.{read_resolve_code};
+
+    /// The error's code: B1 to B10, or V1 to V5.
+    pub fn code(&self) -> &'static str
+        ensures { result.now ≡ read_resolve_code self.now }
+    {
+        match self {
+            ReadResolveError::Read(error) => error.code(),
+            ReadResolveError::Resolve(fault) => fault.kind.code(),
+        }
+    }
 }

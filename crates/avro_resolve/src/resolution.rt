@@ -8,7 +8,6 @@ ghost use Rattle.avro_resolve.specs.Seen.{Answers, StandsForResult};
 
 use crate::error::ResolveError;
 use crate::giving::give;
-use crate::laws::resolved_fits;
 use crate::plan::plan_ref::PlanRef;
 use crate::plan::plan_table::PlanTable;
 use crate::resolving::Resolving;
@@ -23,6 +22,7 @@ use std::alloc::Global;
 /// # Errors
 ///
 /// The first fault, with its path in the datum; or memory ran out.
+#[tactic(auto, using(crate::proofs::Resolved::resolved_root_fits))]
 pub fn resolve(
     alloc: Global,
     writer: &Schema,
@@ -33,8 +33,6 @@ pub fn resolve(
     ensures answers { Answers result (resolve_root (schema_nodes writer.now) (schema_nodes reader.now) (value_of datum.now)) }
     ensures fitting { IfOk result (λ u. fits (schema_nodes reader.now) (root_of (schema_nodes reader.now)) (value_of u) ≡ true) }
 {
-    // Law: what a datum resolves to fits.
-    resolved_fits();
     let table = PlanTable::reached(alloc, writer, reader)?;
     let mut tree = Tree;
     let mut builder = Wrapping::new(&mut tree);

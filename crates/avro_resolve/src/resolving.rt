@@ -43,11 +43,10 @@ impl<'p, 'a, 'b, P> Resolving<'p, 'a, 'b, P> {
 }
 
 impl<'p, 'a, 'b, P: Put> Make for Resolving<'p, 'a, 'b, P> {
-    ghost use Rattle.std.specs.Prelude.{◌≡◌, List, ℕ, refl};
+    ghost use Rattle.std.specs.Prelude.{◌≡◌, List, refl};
     ghost use Rattle.std.proofs.Common.{◌∙◌, ap, subst};
-    ghost use Rattle.avro_schema.specs.Node.{Node, FieldNode};
+    ghost use Rattle.avro_schema.specs.Node.{Node};
     ghost use Rattle.avro_schema.specs.SeenSchema.{schema_nodes};
-    ghost use Rattle.avro_schema.specs.Value.{Value};
     ghost use Rattle.avro_resolve.specs.inside.Guided.{AreKept, StandsAs, ItemsStandAs, EntriesStandAs, FillsAs, branch_part, field_part, part_below, next_at};
     ghost use Rattle.avro_resolve.specs.inside.Later.{items_later, entries_later, fills_later};
 
@@ -357,7 +356,7 @@ impl<'p, 'a, 'b, P: Put> Make for Resolving<'p, 'a, 'b, P> {
         fields: &mut Filling<'a, P::Out, P::Fields>,
         value: Made<P::Out>,
     ) -> Result<(), AllocError> {
-        fill_next(self.builder, self.plan, fields, value)
+        fill_next(self.builder, fields, value)
     }
 
     #[inline(always)]

@@ -1,4 +1,4 @@
-ghost use Rattle.std.specs.Prelude.{◌≡◌, ◌<◌, ℕ, true, None, Some, slice_get, unwrap_or};
+ghost use Rattle.std.specs.Prelude.{◌≡◌, Some, slice_get, unwrap_or};
 ghost use Rattle.avro_schema.specs.Node.{field_ids, node_at};
 ghost use Rattle.avro_schema.specs.Seen.{field_of, seen_fields};
 ghost use Rattle.avro_schema.specs.SeenSchema.{schema_nodes};
@@ -147,75 +147,12 @@ fn place_of<T>(entries: &[(usize, T)], index: usize) -> usize {
     }
 }
 
-/// What stands at a place.
-fn kept_at(entries: &[(usize, usize)], at: usize) -> Option<(usize, usize)>
-    ensures { result ≡ slice_get entries.now at }
-{
-    entries.get(at).copied()
-}
-
 /// What is kept of an index among sources.
 fn source_at(sources: &[(usize, usize)], index: usize) -> Option<usize>
     ensures { AreAscending 0 sources.now → result ≡ entry_at sources.now index }
 {
-    let at = place_of(sources, index);
-    match kept_at(sources, at) {
-        Some(entry) => {
-            if entry.0 == index {
-                return Some(entry.1);
-            }
-        }
-        None => {}
+    match sources.binary_search_by_key(&index, |entry| entry.0) {
+        Ok(at) => Some(sources[at].1),
+        Err(_) => None,
     }
-    if is_gap(sources, index, at) {
-        return None;
-    }
-    source_from(sources, index)
-}
-
-/// Whether what stands before a place is of lower indices, and what stands from there on of higher.
-fn is_gap(entries: &[(usize, usize)], index: usize, at: usize) -> bool
-    ensures { AreAscending 0 entries.now → result ≡ true → entry_at entries.now index ≡ None }
-{
-    if is_above(entries, index, at) {
-        is_behind(entries, index, at)
-    } else {
-        false
-    }
-}
-
-/// Whether what stands at a place, if anything does, is of a higher index.
-fn is_above(entries: &[(usize, usize)], index: usize, at: usize) -> bool
-    ensures { result ≡ true → (e : ℕ × ℕ) → slice_get entries.now at ≡ Some e → index < e.0 }
-{
-    match kept_at(entries, at) {
-        Some(next) => index < next.0,
-        None => true,
-    }
-}
-
-/// Whether what stands before a place, if anything does, is of a lower index.
-fn is_behind(entries: &[(usize, usize)], index: usize, at: usize) -> bool
-    ensures { AreAscending 0 entries.now → ((e : ℕ × ℕ) → slice_get entries.now at ≡ Some e → index < e.0) → result ≡ true
-        → entry_at entries.now index ≡ None }
-{
-    if at == 0 {
-        return true;
-    }
-    match kept_at(entries, at - 1) {
-        Some(last) => last.0 < index,
-        None => false,
-    }
-}
-
-/// What is kept of an index, found by one entry after another.
-fn source_from(entries: &[(usize, usize)], index: usize) -> Option<usize>
-    ensures { result ≡ entry_at entries.now index }
-{
-    for entry in entries {
-        if entry.0 == index {
-            return Some(entry.1);
-        }
-    }
-    None
 }

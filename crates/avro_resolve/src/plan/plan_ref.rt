@@ -47,7 +47,7 @@ impl<'a> Model for PlanRef<'a> {
 }
 
 impl<'a> PlanRef<'a> {
-    ghost use Rattle.std.specs.Prelude.{◌≡◌, true, IfOk, IfSome, OnOk};
+    ghost use Rattle.std.specs.Prelude.{◌≡◌, true, IfSome, OnOk};
     ghost use Rattle.avro_schema.specs.Fits.{fits};
     ghost use Rattle.avro_schema.specs.Node.{node_at, root_of};
     ghost use Rattle.avro_schema.specs.Seen.{value_of};

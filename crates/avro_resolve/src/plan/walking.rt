@@ -1,11 +1,11 @@
-ghost use Rattle.std.specs.Prelude.{◌≡◌, IfOk};
+ghost use Rattle.std.specs.Prelude.{IfOk};
 ghost use Rattle.avro_schema.specs.SeenSchema.{schema_nodes};
 ghost use Rattle.avro_compare.specs.Planned.{AreComparisons, IsComparison};
 
 use crate::plan::found::Found;
 use crate::plan::ordering::parts_of;
 use avro_compare::{Comparison, Names, compare};
-use avro_schema::{Memory, NodeId, Schema};
+use avro_schema::{Memory, Schema};
 use std::alloc::Global;
 
 /// What a plan keeps of the pairs of nodes that the roots lead to, and the indices of the pairs of their parts.

@@ -1,6 +1,6 @@
 //! Making a record for the reader from the encodings of the writer's fields, as these stand.
 
-ghost use Rattle.std.specs.Prelude.{◌≡◌, [], ℕ, true, IfOk, IfSome, List, OnOk, None, map};
+ghost use Rattle.std.specs.Prelude.{◌≡◌, [], true, IfOk, IfSome, List, OnOk, None, map};
 ghost use Rattle.avro_name.specs.Name.{Name};
 ghost use Rattle.avro_schema.specs.Fits.{fields_fit};
 ghost use Rattle.avro_schema.specs.Node.{FieldNode, Node as SeenNode, field_ids, node_at};

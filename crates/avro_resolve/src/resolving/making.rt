@@ -9,9 +9,9 @@ use crate::resolving::failing::fault_apart;
 use crate::resolving::guided::Made;
 use avro_binary::Put;
 use avro_compare::FaultKind;
+use avro_cursor::text_of;
 use avro_schema::{Node, NodeId, Schema};
 use std::alloc::{AllocError, Global};
-use std::str::from_utf8;
 
 /// What a reader's node takes of an int: a long where it is one.
 #[inline(always)]
@@ -52,7 +52,7 @@ pub(crate) fn make_bytes<P: Put>(
         let out = builder.bytes(alloc, branch, content)?;
         return Ok(Made::Good(out));
     }
-    match from_utf8(content) {
+    match text_of(content) {
         Ok(text) => {
             let read = builder.string(alloc, branch, text)?;
             Ok(Made::Good(read))

@@ -207,13 +207,12 @@ fn parts_after<'a>(known: Option<&[(usize, At)]>, parts: &'a [u32], field: usize
 #[inline(always)]
 pub(crate) fn fill_next<P: Put>(
     builder: &P,
-    _plan: &PlanRef<'_>,
     fields: &mut Filling<'_, P::Out, P::Fields>,
     made: Made<P::Out>,
 ) -> Result<(), AllocError>
-    ensures { (nodes : List Node) (fs : List FieldNode) (id : ℕ) (at : At) (vs : List Value) (v : Value) → FillsAs (P.stands_for builder.now) (P.fields_stand_for builder.now) (schema_nodes _plan.now.0) (schema_nodes _plan.now.1) nodes fs at fields.old vs
-        → slice_get (field_ids fs) (length vs) ≡ Some id → StandsAs (P.stands_for builder.now) (schema_nodes _plan.now.0) (schema_nodes _plan.now.1) nodes (node_at nodes id) (field_part (schema_nodes _plan.now.0) (schema_nodes _plan.now.1) fields.old).at made v
-        → OnOk result (FillsAs (P.stands_for builder.now) (P.fields_stand_for builder.now) (schema_nodes _plan.now.0) (schema_nodes _plan.now.1) nodes fs at fields.new (vs ++ v ∷ [])) }
+    ensures { (writer reader nodes : List Node) (fs : List FieldNode) (id : ℕ) (at : At) (vs : List Value) (v : Value) → FillsAs (P.stands_for builder.now) (P.fields_stand_for builder.now) writer reader nodes fs at fields.old vs
+        → slice_get (field_ids fs) (length vs) ≡ Some id → StandsAs (P.stands_for builder.now) writer reader nodes (node_at nodes id) (field_part writer reader fields.old).at made v
+        → OnOk result (FillsAs (P.stands_for builder.now) (P.fields_stand_for builder.now) writer reader nodes fs at fields.new (vs ++ v ∷ [])) }
 {
     let field = next_index(&fields.slots);
     fields.parts = parts_after(fields.known, fields.parts, field);

@@ -1,5 +1,4 @@
 use Rattle.std.proofs.Common.{◌∙◌, ap, sym, subst}
-use Rattle.std.proofs.lemmas.Str.{IsUtf8-from_is_utf8, is_utf8-from_IsUtf8}
 use Rattle.avro_schema.specs.Node.{node_at}
 use Rattle.avro_schema.specs.SeenSchema.{schema_nodes}
 use Rattle.avro_schema.specs.Value.{Value}
@@ -16,10 +15,10 @@ returns-in_ok-read-in-Ok-clause-stands g c =
     let S = g.P.Put.stands_for c.string.new.self in
     let read = c.in_ok-read-in-Ok.read in
     subst (λ q. MadeAs S (Made.Good read) (wrapped c.args.branch q))
-    (sym (text_taken c.args.content.now c.in-Ok.text.now (node_at (schema_nodes c.args.reader.now) c.args.q.0) c.if-not-is_text.ensures c.in-Ok.ensures.cases.0 (is_utf8-from_IsUtf8 _ c.in-Ok.ensures.cases.1)))
+    (sym (text_taken c.args.content.now c.in-Ok.text.now (node_at (schema_nodes c.args.reader.now) c.args.q.0) c.if-not-is_text.ensures c.in-Ok.ensures.text.0 c.in-Ok.ensures.text.1))
     (made_in S c.args.branch read (Value.string c.in-Ok.text.now) c.in_ok-read-in-Ok.ensures.stands)
 
 pub returns-in_ok-fault_apart-in-Err-clause-stands : goal.returns-in_ok-fault_apart-in-Err-clause-stands
 returns-in_ok-fault_apart-in-Err-clause-stands g c =
-    ap (wrapped c.args.branch) (text_bad c.args.content.now (node_at (schema_nodes c.args.reader.now) c.args.q.0) c.if-not-is_text.ensures (λ e. c.in-Err.ensures.cases.0 (IsUtf8-from_is_utf8 _ e)))
+    ap (wrapped c.args.branch) (text_bad c.args.content.now (node_at (schema_nodes c.args.reader.now) c.args.q.0) c.if-not-is_text.ensures c.in-Err.ensures.fault.0)
     ∙ wrapped_fault c.args.branch (fault_here not_utf8) ∙ ap as_fault (sym c.in_ok-fault_apart-in-Err.ensures)

@@ -1,14 +1,11 @@
 use Rattle.std.proofs.Common.{subst}
 use Rattle.avro_schema.specs.Node.{node_at}
-use Rattle.avro_schema.specs.SeenSchema.{schema_nodes}
 use Rattle.avro_resolve.specs.inside.Guided.{StandsAs}
 use Rattle.avro_resolve.proofs.Knowing.{known_next, known_then, on_both}
 use Rattle.avro_resolve.proofs.resolving.recording.fill_next.Goals as goal
 
 pub returns : goal.returns
-returns g c = λ nodes fs id at vs v h is stands.
-    let writer = schema_nodes c.args._plan.now.0 in
-    let reader = schema_nodes c.args._plan.now.1 in
+returns g c = λ writer reader nodes fs id at vs v h is stands.
     let fields = c.args.fields.now in
     let here = known_next writer reader fields.known fields.parts.now fields.slots h.1 in
     on_both _ _ c.put_field.result
