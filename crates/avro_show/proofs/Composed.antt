@@ -51,16 +51,6 @@ pub members_last : (front now then : List ℕ) (tree : ℕ → Data) (ms : List 
 members_last front now then tree [] i some past has is = absurd (omega (arith, some))
 members_last front now then tree (m ∷ ms) i some past has is = has ∙ ap (λ (l : List Member). now ++ members_left tree l) (sym (drop_all i (m ∷ ms) past)) ∙ sym is
 
-pub items_last : (text all now then : List ℕ) (later : Bool) (spans : List Span) (i : ℕ) → length spans ≤ i → then ≡ now ++ 93 ∷ [] → ItemsLeft text all now later (drop i spans) → then ≡ all
-items_last text all now then later spans i past has left =
-    let (ds, are, is) = subst (λ (l : List Span). ItemsLeft text all now later l) (drop_all i spans past) left in
-    has ∙ sym (is ∙ ap (λ x. now ++ items_text later x) are)
-
-pub entries_last : (text all now then : List ℕ) (later : Bool) (spans : List (String Global × Span)) → spans ≡ [] → then ≡ now ++ 125 ∷ [] → EntriesLeft text all now later spans → then ≡ all
-entries_last text all now then later spans none has left =
-    let (ms, are, is) = subst (λ (l : List (String Global × Span)). EntriesLeft text all now later l) none left in
-    has ∙ sym (is ∙ ap (λ x. now ++ members_text later x) are)
-
 -- what stands where the span at an index says
 pub span_here : (text : List ℕ) (spans : List Span) (k : ℕ) (s : Span) (bytes : List ℕ) → s ≡ get_or spans k s → IsSpanAt text spans k bytes → StandsIn text s bytes
 span_here text spans k s bytes is (span, got, stands) = subst (λ (x : Span). StandsIn text x bytes) (sym (is ∙ get_or_from_slice_get spans k span s got)) stands

@@ -56,42 +56,48 @@ value_of_map t nodes id at owner (same, is) own = (same, rw (own, ← is, same) 
 
 -- ---- Fields that fit
 
-pub fitting_there : (nodes : List Node) (fs : List FieldNode) (vs : List Value) (k : ℕ) → k < length fs → fields_fit nodes (field_ids fs) (values_from vs) ≡ true
-    → (v : Value) × (slice_get vs k ≡ Some v) × (value_at (values_from vs) k ≡ v) × (fits nodes (node_at nodes (field_id fs k)) v ≡ true)
-fitting_there nodes [] vs k low fit = absurd (omega (arith, low))
-fitting_there nodes (f ∷ fs) [] k low fit = absurd (false≢true fit)
-fitting_there nodes (f ∷ fs) (v ∷ vs) zero low fit = (v, refl, refl, (and_parts (fits nodes (node_at nodes f.node) v) (fields_fit nodes (field_ids fs) (values_from vs)) fit).0)
-fitting_there nodes (f ∷ fs) (v ∷ vs) (suc k) low fit =
-    fitting_there nodes fs vs k (omega (arith, low)) (and_parts (fits nodes (node_at nodes f.node) v) (fields_fit nodes (field_ids fs) (values_from vs)) fit).1
+module _ (nodes : List Node) (f : FieldNode) (fs : List FieldNode) (v : Value) (vs : List Value) (fit : fields_fit nodes (field_ids (f ∷ fs)) (values_from (v ∷ vs)) ≡ true) where
+  first_fits : fits nodes (node_at nodes f.node) v ≡ true
+  first_fits = (and_parts (fits nodes (node_at nodes f.node) v) (fields_fit nodes (field_ids fs) (values_from vs)) fit).0
+
+  others_fit : fields_fit nodes (field_ids fs) (values_from vs) ≡ true
+  others_fit = (and_parts (fits nodes (node_at nodes f.node) v) (fields_fit nodes (field_ids fs) (values_from vs)) fit).1
+
+-- the value of the field at an index fits the field's node, and its display stands where its span says
+field_there : (nodes : List Node) (text : List ℕ) (fs : List FieldNode) (spans : List Span) (vs : List Value) (k : ℕ) → k < length fs → fields_fit nodes (field_ids fs) (values_from vs) ≡ true
+    → (slice_get vs k ≡ Some (value_at (values_from vs) k)) × (fits nodes (node_at nodes (field_id fs k)) (value_at (values_from vs) k) ≡ true)
+    × (AreFieldsAt nodes text fs spans vs → IsSpanAt text spans k (compact_text (field_tree nodes fs (values_from vs) k)))
+field_there nodes text [] spans vs k low fit = absurd (omega (arith, low))
+field_there nodes text (f ∷ fs) spans [] k low fit = absurd (false≢true fit)
+field_there nodes text (f ∷ fs) [] (v ∷ vs) zero low fit = (refl, first_fits nodes f fs v vs fit, λ are. absurd (cc (are)))
+field_there nodes text (f ∷ fs) (s ∷ ss) (v ∷ vs) zero low fit = (refl, first_fits nodes f fs v vs fit, λ are. (s, refl, are.0))
+field_there nodes text (f ∷ fs) [] (v ∷ vs) (suc k) low fit =
+    let rest = field_there nodes text fs [] vs k (omega (arith, low)) (others_fit nodes f fs v vs fit) in
+    (rest.0, rest.1, λ are. absurd (cc (are)))
+field_there nodes text (f ∷ fs) (s ∷ ss) (v ∷ vs) (suc k) low fit =
+    let rest = field_there nodes text fs ss vs k (omega (arith, low)) (others_fit nodes f fs v vs fit) in
+    (rest.0, rest.1, λ are. rest.2 are.1)
 
 pub fitting_count : (nodes : List Node) (fs : List FieldNode) (vs : List Value) → fields_fit nodes (field_ids fs) (values_from vs) ≡ true → length fs ≤ values_count (values_from vs)
 fitting_count nodes [] vs fit = omega arith
 fitting_count nodes (f ∷ fs) [] fit = absurd (false≢true fit)
 fitting_count nodes (f ∷ fs) (v ∷ vs) fit =
-    let rest = fitting_count nodes fs vs (and_parts (fits nodes (node_at nodes f.node) v) (fields_fit nodes (field_ids fs) (values_from vs)) fit).1 in
+    let rest = fitting_count nodes fs vs (others_fit nodes f fs v vs fit) in
     omega (arith, rest)
-
-span_there : (nodes : List Node) (text : List ℕ) (fs : List FieldNode) (spans : List Span) (vs : List Value) (k : ℕ) → k < length fs → fields_fit nodes (field_ids fs) (values_from vs) ≡ true
-    → AreFieldsAt nodes text fs spans vs → IsSpanAt text spans k (compact_text (field_tree nodes fs (values_from vs) k))
-span_there nodes text [] spans vs k low fit are = absurd (omega (arith, low))
-span_there nodes text (f ∷ fs) spans [] k low fit are = absurd (false≢true fit)
-span_there nodes text (f ∷ fs) [] (v ∷ vs) k low fit are = absurd (cc (are))
-span_there nodes text (f ∷ fs) (s ∷ ss) (v ∷ vs) zero low fit are = (s, refl, are.0)
-span_there nodes text (f ∷ fs) (s ∷ ss) (v ∷ vs) (suc k) low fit are =
-    span_there nodes text fs ss vs k (omega (arith, low)) (and_parts (fits nodes (node_at nodes f.node) v) (fields_fit nodes (field_ids fs) (values_from vs)) fit).1 are.1
 
 pub spans_there : (nodes : List Node) (text : List ℕ) (fs : List FieldNode) (spans : List Span) (vs : List Value) → fields_fit nodes (field_ids fs) (values_from vs) ≡ true → AreFieldsAt nodes text fs spans vs
     → (ms : List Member) → AllByRecursion (IsMember fs) ms → AllByRecursion (λ m. IsSpanAt text spans m.field (compact_text (field_tree nodes fs (values_from vs) m.field))) ms
 spans_there nodes text fs spans vs fit are [] each = tt
-spans_there nodes text fs spans vs fit are (m ∷ ms) each = (span_there nodes text fs spans vs m.field each.0.0 fit are, spans_there nodes text fs spans vs fit are ms each.1)
+spans_there nodes text fs spans vs fit are (m ∷ ms) each = ((field_there nodes text fs spans vs m.field each.0.0 fit).2 are, spans_there nodes text fs spans vs fit are ms each.1)
 
 pub pieces_there : (nodes : List Node) (bytes ends : List ℕ) (fs : List FieldNode) (vs : List Value) → fields_fit nodes (field_ids fs) (values_from vs) ≡ true → ArePieces vs bytes ends
     → (ms : List Member) → AllByRecursion (IsMember fs) ms → AllByRecursion (IsPieceOf nodes bytes ends (field_tree nodes fs (values_from vs))) ms
 pieces_there nodes bytes ends fs vs fit are [] each = tt
 pieces_there nodes bytes ends fs vs fit are (m ∷ ms) each =
-    let (v, got, is, fitting) = fitting_there nodes fs vs m.field each.0.0 fit in
+    let there = field_there nodes [] fs [] vs m.field each.0.0 fit in
+    let v = value_at (values_from vs) m.field in
     let same = each.0.1 in
-    ((v, rw same fitting, are m.field v got, rw (same, is) refl), pieces_there nodes bytes ends fs vs fit are ms each.1)
+    ((v, rw same there.1, are m.field v there.0, rw same refl), pieces_there nodes bytes ends fs vs fit are ms each.1)
 
 -- ---- The node of the next field
 

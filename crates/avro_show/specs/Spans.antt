@@ -1,5 +1,5 @@
 -- Where the displays of the parts of a datum stand in a text, while the datum is read.
-use Rattle.std.specs.Prelude.{◌≡◌, ℕ, List, [], ◌∷◌, ◌++◌, Option, Some, String, true, option_and_then, option_map, slice_get, string_bytes}
+use Rattle.std.specs.Prelude.{◌≡◌, ℕ, List, [], ◌∷◌, Option, Some, String, true, option_and_then, option_map, slice_get, string_bytes}
 use Rattle.std.specs.declared.alloc.Global.{Global}
 use Rattle.avro_schema.specs.Fits.{fits}
 use Rattle.avro_schema.specs.Node.{Node, FieldNode, branches_of, items_node, node_at, values_node}

@@ -55,7 +55,7 @@ fn field_node(fields: &[Field], index: usize) -> Option<u32>
 }
 
 impl<'a> Make for Displaying<'a> {
-    ghost use Rattle.std.specs.Prelude.{◌≡◌, List, ℕ, length, refl};
+    ghost use Rattle.std.specs.Prelude.{◌≡◌, length, refl};
     ghost use Rattle.std.proofs.Common.{◌∙◌, ap, sym};
     ghost use Rattle.avro_schema.specs.declared.schema.Schema.{Schema};
     ghost use Rattle.avro_show.specs.Spans.{EntriesStandFor, FieldsStandFor, ItemsStandFor, Keeps, StandsFor, branch_id, field_id_at, item_id, value_id};

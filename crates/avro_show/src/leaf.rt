@@ -14,11 +14,11 @@ ghost use Rattle.serde_json.specs.Written.{number_text};
 ghost use Rattle.avro_binary.specs.Outputs.{Grows};
 ghost use Rattle.avro_display.specs.DisplayTree.{display_text, symbol_at};
 
-use avro_display::{Text, symbol_text};
+use avro_cursor::text_of;
+use avro_display::{Text, bool_text, symbol_text};
 use avro_schema::Node;
 use avro_zigzag::read_long;
 use std::alloc::AllocError;
-use std::str::from_utf8;
 
 /// Appends the display of the datum of a node without parts that is encoded as these bytes.
 ///
@@ -48,11 +48,7 @@ pub(crate) fn append_leaf(text: &mut Text, node: &Node, bytes: &[u8]) -> Result<
 fn boolean_text(bytes: &[u8]) -> &'static [u8]
     ensures { (b : Bool) → Spells (Value.boolean b) bytes.now → result.now ≡ token_text (boolean b) }
 {
-    if bytes.first() == Some(&1) {
-        b"true"
-    } else {
-        b"false"
-    }
+    bool_text(bytes.first() == Some(&1))
 }
 
 /// Appends the digits of a number that is encoded as these bytes.
@@ -72,7 +68,7 @@ fn append_string(text: &mut Text, bytes: &[u8]) -> Result<(), AllocError>
     ensures shown { (content : List ℕ) → SpellsBytes content bytes.now → OnOk result (text.new ≡ text.old ++ quoted content) }
     ensures kept { OnOk result (Grows text.old text.new) }
 {
-    match from_utf8(content_of(bytes)?) {
+    match text_of(content_of(bytes)?) {
         Ok(string) => text.append_quoted(string),
         Err(_) => Err(AllocError),
     }

@@ -16,10 +16,10 @@ ghost use Rattle.avro_show.specs.Taken.{is_union, taken_as};
 
 use crate::part::Part;
 use avro_compare::{Aim, fields_of};
+use avro_cursor::text_of;
 use avro_display::{DisplayTable, Opened, node_fields, symbol_text};
 use avro_resolve::{PlanPair, PlanRef};
 use avro_schema::{Datum, Node, NodeId};
-use std::str::from_utf8;
 
 /// Opens what a writer's datum is for the reader's node of a pair.
 pub(crate) fn opened_written<'a>(
@@ -138,7 +138,7 @@ fn opened_bytes<'a>(node: &Node, bytes: &'a Vec<u8>) -> Opened<'a, Part<'a>>
     ensures levels { (s : SeenSchema × SeenSchema) (most : ℕ) → AreBelow (resolved_levels s) most result }
 {
     match node {
-        Node::Str => match from_utf8(bytes) {
+        Node::Str => match text_of(bytes) {
             Ok(string) => Opened::Text(string),
             Err(_) => Opened::Null,
         },

@@ -1,19 +1,18 @@
 //! The parts of a writer's array, map or record for a reader.
 
-ghost use Rattle.std.specs.Prelude.{◌≡◌, ◌<◌, ◌≤◌, ℕ, List, Some, option_map, slice_get, suc};
+ghost use Rattle.std.specs.Prelude.{◌≡◌, ◌<◌, ◌≤◌, Some, option_map, slice_get, suc};
 ghost use Rattle.avro_schema.specs.Node.{FieldNode};
-ghost use Rattle.avro_schema.specs.Seen.{entries_of, field_of, node_of, seen_fields, values_of};
-ghost use Rattle.avro_schema.specs.Value.{Entries, Value, Values, entries_depth, keys_of, values_depth};
+ghost use Rattle.avro_schema.specs.Seen.{entries_of, field_of, seen_fields, values_of};
+ghost use Rattle.avro_schema.specs.Value.{Entries, Value, Values, entries_depth, values_depth};
 ghost use Rattle.avro_schema.specs.declared.schema.Schema.{Schema as SeenSchema};
 ghost use Rattle.serde_json.specs.Data.{Data};
-ghost use Rattle.avro_display.specs.DisplayTree.{record_fields};
 ghost use Rattle.avro_display.specs.Table.{entry_at, value_at};
 ghost use Rattle.avro_show.specs.Showing.{AreEntries, AreFields, IsAt, default_depth, default_value, levels_from, resolved_levels, resolved_shows, shown};
 
 use crate::part::Part;
 use avro_compare::fields_of;
 use avro_resolve::{PlanPair, PlanRef};
-use avro_schema::{Datum, Field, Node, NodeId};
+use avro_schema::{Datum, Field, NodeId};
 
 /// What the value at an index is for the reader; null if there is none.
 #[tactic(auto, using(crate::proofs::Values::value_there, crate::proofs::Values::count_values))]
