@@ -3,12 +3,14 @@
 from __future__ import annotations
 
 import sys
-from typing import BinaryIO, Callable, NamedTuple
+from typing import BinaryIO, Callable, NamedTuple, Union
 
 MAGIC = b"Obj\x01"
 MOST_HEADER = 4_194_304
 MOST_BLOCK = 16_777_216
 PIECE = 1 << 16
+
+Data = Union[bytes, bytearray]
 
 
 class Refused(Exception):
@@ -56,7 +58,7 @@ def take(source: BinaryIO | Kept, count: int) -> bytes:
     return data
 
 
-def send(sink: BinaryIO, data: bytes | bytearray) -> None:
+def send(sink: BinaryIO, data: Data) -> None:
     try:
         sink.write(data)
     except OSError:
@@ -128,6 +130,32 @@ def put_header(metadata: dict[bytes, bytes], marker: bytes) -> bytes:
     """A header with its metadata in one block."""
     count = put_long(len(metadata)) if metadata else b""
     return MAGIC + count + b"".join(put_bytes(key) + put_bytes(metadata[key]) for key in metadata) + b"\0" + marker
+
+
+def read_block(source: BinaryIO, first: bytes, marker: bytes, most: int) -> tuple[int, bytes]:
+    """The count of a block and its data; its first byte has been read."""
+    count, size = read_long(source, first), read_long(source)
+    if not 0 <= size <= most:
+        raise Refused("its size is out of range")
+    data = take(source, size)
+    if take(source, len(marker)) != marker:
+        raise Refused("its marker differs")
+    return count, data
+
+
+def change_blocks(source: BinaryIO, sink: BinaryIO, marker: bytes, most: int, change: Callable[[bytes], Data]) -> None:
+    """Copies the blocks, of at most so many bytes each, with what `change` makes of their data."""
+    block = 0
+    while first := read(source, 1):
+        try:
+            count, data = read_block(source, first, marker, most)
+            changed = change(data)
+        except Refused as fault:
+            raise Refused(f"block {block}: {fault}") from None
+        send(sink, put_long(count) + put_long(len(changed)))
+        send(sink, changed)
+        send(sink, marker)
+        block += 1
 
 
 def run(name: str, work: Callable[[BinaryIO, BinaryIO], None]) -> int:

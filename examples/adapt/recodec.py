@@ -5,9 +5,10 @@
     recodec.py < in.avro | avro pipe --reader new.avsc > out.avro
     avro check <(recodec.py < in.avro)
 
-The codecs are deflate, bzip2, xz, snappy and zstandard, which needs Python's module zstandard or the program zstd. No
-datum is decoded. The blocks, their counts, the marker and the order of the metadata stay, and of the metadata only
-avro.codec changes. A file of codec null comes out byte for byte. A block has at most 16777216 bytes, as for `avro`.
+The codecs are deflate, bzip2, xz, snappy, which is faster by Python's module snappy, and zstandard, which needs
+Python's module zstandard or the program zstd. No datum is decoded. The blocks, their counts, the marker and the order
+of the metadata stay, and of the metadata only avro.codec changes. A file of codec null comes out byte for byte. A block
+has at most 16777216 bytes, as for `avro`. The way back is pack.py.
 
 Exit status: 0; 3 the file is refused, and what came out is the beginning of the copy; 4 standard input cannot be read,
 standard output cannot be written, or what zstandard needs is missing; 64 usage.
@@ -23,22 +24,12 @@ import tempfile
 import zlib
 from typing import Any, BinaryIO, Callable
 
-from filters import (
-    MOST_BLOCK,
-    Failed,
-    Refused,
-    put_header,
-    put_long,
-    read,
-    read_header,
-    read_long,
-    run,
-    send,
-    send_rest,
-    take,
-    usage,
-)
+from filters import MOST_BLOCK, Data, Failed, Refused, change_blocks, put_header, read_header, run, send, send_rest, usage
 
+try:
+    import snappy
+except ImportError:
+    snappy = None
 try:
     import zstandard
 except ImportError:
@@ -92,10 +83,25 @@ def unpack_xz(packed: bytes) -> bytes:
     return unpacked_whole(lzma.LZMADecompressor(lzma.FORMAT_XZ, memlimit=MOST_MEMORY), packed)
 
 
-def unpack_snappy(packed: bytes) -> bytearray:
+def unpack_snappy(packed: bytes) -> Data:
     elements, checksum = packed[:-4], packed[-4:]
-    length, at = snappy_length(elements)
+    length, start = snappy_length(elements)
     check_size(length)
+    data = unpack_by_snappy(elements) or unpack_elements(elements, start, length)
+    if zlib.crc32(data) != int.from_bytes(checksum, "big"):
+        raise Corrupt("the checksum differs")
+    return data
+
+
+def unpack_by_snappy(elements: bytes) -> bytes | None:
+    """What the module makes of a block; where it makes nothing, the elements tell why."""
+    try:
+        return snappy.decompress(elements) if snappy else None
+    except snappy.UncompressError:
+        return None
+
+
+def unpack_elements(elements: bytes, at: int, length: int) -> bytearray:
     data = bytearray()
     while at < len(elements):
         if elements[at] & 3 == 0:
@@ -106,8 +112,6 @@ def unpack_snappy(packed: bytes) -> bytearray:
             raise Corrupt("there are more bytes than it says")
     if len(data) < length:
         raise Corrupt(ENDS_EARLY)
-    if zlib.crc32(data) != int.from_bytes(checksum, "big"):
-        raise Corrupt("the checksum differs")
     return data
 
 
@@ -159,7 +163,7 @@ def put_copy(data: bytearray, elements: bytes, at: int, length: int) -> int:
     return at + 1 + size
 
 
-def unpack_zstandard(packed: bytes) -> bytes | bytearray:
+def unpack_zstandard(packed: bytes) -> Data:
     if packed[:4] != ZSTANDARD_MAGIC:
         raise Corrupt("the data do not begin as a frame does")
     return unpack_by_program(packed) if zstandard is None else unpack_by_module(packed)
@@ -203,7 +207,7 @@ def unpack_by_program(packed: bytes) -> bytes:
     return data
 
 
-CODECS: dict[bytes, Callable[[bytes], bytes | bytearray]] = {
+CODECS: dict[bytes, Callable[[bytes], Data]] = {
     b"deflate": inflate,
     b"bzip2": unpack_bzip2,
     b"xz": unpack_xz,
@@ -212,18 +216,7 @@ CODECS: dict[bytes, Callable[[bytes], bytes | bytearray]] = {
 }
 
 
-def read_block(source: BinaryIO, first: bytes, marker: bytes) -> tuple[int, bytes]:
-    """The count of a block and its packed data; its first byte has been read."""
-    count, size = read_long(source, first), read_long(source)
-    if not 0 <= size <= MOST_PACKED:
-        raise Refused("its size is out of range")
-    packed = take(source, size)
-    if take(source, len(marker)) != marker:
-        raise Refused("its marker differs")
-    return count, packed
-
-
-def unpack(codec: bytes, packed: bytes) -> bytes | bytearray:
+def unpack(codec: bytes, packed: bytes) -> Data:
     try:
         return CODECS[codec](packed)
     except IndexError:
@@ -242,17 +235,7 @@ def recode(source: BinaryIO, sink: BinaryIO) -> None:
     if codec not in CODECS:
         raise Refused(f"unknown codec {ascii(codec[:40].decode('latin-1'))[1:-1]}")
     send(sink, put_header({**header.metadata, b"avro.codec": b"null"}, header.marker))
-    block = 0
-    while first := read(source, 1):
-        try:
-            count, packed = read_block(source, first, header.marker)
-            data = unpack(codec, packed)
-        except Refused as fault:
-            raise Refused(f"block {block}: {fault}") from None
-        send(sink, put_long(count) + put_long(len(data)))
-        send(sink, data)
-        send(sink, header.marker)
-        block += 1
+    change_blocks(source, sink, header.marker, MOST_PACKED, lambda packed: unpack(codec, packed))
 
 
 def main(words: list[str]) -> int:

@@ -7,7 +7,8 @@
 
 A double becomes the fixed `ieee.Double64` of 8 bytes and a float the fixed `ieee.Float32` of 4, which are the bytes
 that Avro writes for them: the data of a file stay as they are, byte for byte. A yes is a yes. A number that is read as
-a float or double of another type is a no ("long is read as ieee.Double64(8)"), which may be too careful.
+a float or double of another type is a no ("long is read as ieee.Double64(8)"), which may be too careful: for verdicts
+alone there is lattice.py.
 
 What else `avro` does not take is left out: attributes that mean nothing to Avro and hold a number with a fraction or of
 more than 64 bits, those of a float or double, and a namespace, aliases, doc or order that is null; a type whose "type"
@@ -137,7 +138,11 @@ class Defaults:
             raise Unfit
         if word in ("array", "map", "record", "error"):
             return self.read_parts(value, word, schema, namespace)
-        return read_leaf(value, word, schema, namespace), []
+        return self.read_leaf(value, word, schema, namespace), []
+
+    @staticmethod
+    def read_leaf(value: Any, word: Any, schema: Any, namespace: str) -> Any:
+        return read_leaf(value, word, schema, namespace)
 
     def named(self, name: str) -> tuple[dict, str]:
         if name not in self.names:
@@ -234,6 +239,9 @@ def packed_number(value: Any, wide: Wide) -> str:
 class Rewriting:
     """Rewrites a schema: floats and doubles as fixeds or, with `is_back`, these as floats and doubles."""
 
+    # The last parts of names that would be taken for those of the fixeds, and what these stand for.
+    reserved, stood_for = RESERVED, "a float or double"
+
     def __init__(self, is_back: bool) -> None:
         self.is_back = is_back
         self.written: set[str] = set()
@@ -323,14 +331,14 @@ class Rewriting:
         return wide.word
 
     def check_names(self, schema: Any, place: str) -> None:
-        """Refuses names that would stand for a float or double, also by the part after the last dot."""
+        """Refuses names that would stand for a number, also by the part after the last dot."""
         names = [word_of(schema)]
         if isinstance(schema, dict):
             aliases = schema.get("aliases")
             names += [schema.get("name"), *(aliases if isinstance(aliases, list) else ())]
         for name in names:
-            if not self.is_back and isinstance(name, str) and name.rpartition(".")[2] in RESERVED:
-                raise Refused(f"{place or '/'}: {name} has the name that stands for a float or double")
+            if not self.is_back and isinstance(name, str) and name.rpartition(".")[2] in self.reserved:
+                raise Refused(f"{place or '/'}: {name} has the name that stands for {self.stood_for}")
 
 
 def kept(schema: dict, looked_at: tuple[str, ...]) -> dict:
@@ -340,27 +348,27 @@ def kept(schema: dict, looked_at: tuple[str, ...]) -> dict:
     return {key: value for key, value in copy.items() if value is not None or key not in OPTIONAL}
 
 
-def rewritten(text: bytes, is_back: bool) -> bytes:
+def rewritten(text: bytes, rewriting: Rewriting) -> bytes:
     try:
-        return printed(Rewriting(is_back).type(parsed(text), "", ""))
+        return printed(rewriting.type(parsed(text), "", ""))
     except ValueError as fault:
         raise Refused(str(fault)) from None
     except RecursionError:
         raise Refused("this is nested too deeply") from None
 
 
-def tame_text(source: BinaryIO, sink: BinaryIO) -> None:
+def rewrite_text(source: BinaryIO, sink: BinaryIO, rewriting: Rewriting) -> None:
     text = read(source, MOST_TEXT + 1)
     if len(text) > MOST_TEXT:
         raise Refused(f"it has more than {MOST_TEXT} bytes")
-    send(sink, rewritten(text, is_back=False))
+    send(sink, rewritten(text, rewriting))
 
 
 def rewrite_file(source: BinaryIO, sink: BinaryIO, is_back: bool) -> None:
     header = read_header(source)
     if b"avro.schema" not in header.metadata:
         raise Refused("it names no schema")
-    schema = rewritten(header.metadata[b"avro.schema"], is_back).rstrip(b"\n")
+    schema = rewritten(header.metadata[b"avro.schema"], Rewriting(is_back)).rstrip(b"\n")
     send(sink, put_header({**header.metadata, b"avro.schema": schema}, header.marker))
     send_rest(source, sink)
 
@@ -368,7 +376,7 @@ def rewrite_file(source: BinaryIO, sink: BinaryIO, is_back: bool) -> None:
 def main(words: list[str]) -> int:
     sys.setrecursionlimit(DEPTH)
     if words == []:
-        return run("tame", tame_text)
+        return run("tame", lambda source, sink: rewrite_text(source, sink, Rewriting(is_back=False)))
     if words in (["--file"], ["--back"]):
         return run("tame", lambda source, sink: rewrite_file(source, sink, words == ["--back"]))
     return usage(__doc__)
