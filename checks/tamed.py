@@ -1,20 +1,25 @@
 #!/usr/bin/env python3
-"""Compares what `avro judge` says of schemas with floats and doubles behind examples/adapt/tame.py with what is so.
+"""Compares what `avro judge` says of schemas with floats and doubles behind two filters of examples/adapt with what is so.
 
     tamed.py PROGRAM [COUNT]
 
-COUNT random pairs of schemas, 500 unless said. Their long is rewritten as double, and in each second pair int as float
-as well: the rules of resolution for these are the same, so the verdict on the pair as it was is that on the one that
-comes of it. This one goes through tame.py. A yes behind it must be a yes. A no may be too careful, if each of its
-faults is about a number that is read as a wider one. A pair with a default that would be one of another branch is
-refused.
+COUNT random pairs of schemas, 1,000 unless said. Their int and long are rewritten as two others of int, long, float and
+double, of which the first is widened to the second, each of the six in turn: the rules of resolution for these are the
+same, so the verdict on the pair as it was is that on the one that comes of it. This one goes through tame.py and through
+lattice.py.
 
-The last line is 'N pairs, R refused, Y yes, F no, C too careful, K wrong'. A tenth at least must be a yes, and a no.
+Behind lattice.py the verdict must be the right one. A yes behind tame.py must be a yes, and a no may be too careful, if
+each of its faults is about a number that is read as a wider one; a pair with a default that would be one of another branch
+is refused there.
+
+The last two lines are 'FILTER: N pairs, R refused, Y yes, F no, C too careful, K wrong'. A tenth at least must be a yes, and
+a no.
 """
 
 from __future__ import annotations
 
 import collections
+import itertools
 import json
 import os
 import random
@@ -22,7 +27,7 @@ import subprocess
 import sys
 import tempfile
 from pathlib import Path
-from typing import Any
+from typing import Any, Callable
 
 ROOT = Path(__file__).resolve().parent.parent
 sys.path[:0] = [str(ROOT / "bench" / "gen"), str(ROOT / "examples" / "adapt")]
@@ -31,9 +36,12 @@ from random_schemas import evolved, schema, spelled
 
 from bundle import with_parts
 from filters import Refused
-from tame import rewritten
+from lattice import Lattice
+from tame import Rewriting, rewritten
 
-WORDS = ({"long": "double"}, {"int": "float", "long": "double"})
+NUMBERS = ("int", "long", "float", "double")
+WORDS = [{"int": one, "long": other} for one, other in itertools.combinations(NUMBERS, 2)]
+FILTERS: dict[str, Callable[[], Rewriting]] = {"tame": lambda: Rewriting(is_back=False), "lattice": Lattice}
 SHOWN = 10
 
 
@@ -58,18 +66,18 @@ def text(tree: Any) -> bytes:
     return json.dumps(tree).encode()
 
 
-def judged(program: str, number: int) -> tuple[str, str]:
-    """The verdict that Avro has for a pair with floats and doubles, and the one behind tame.py."""
+def random_pair(number: int) -> list[Any]:
     choose = random.Random(number)
     root = schema(choose)
-    pair = [spelled(choose, each) for each in (root, evolved(choose, root, choose.choice((0.02, 0.1, 0.3))))]
-    wanted = verdict(program, *map(text, pair))
-    words = WORDS[number % len(WORDS)]
+    return [spelled(choose, each) for each in (root, evolved(choose, root, choose.choice((0.02, 0.1, 0.3))))]
+
+
+def judged(program: str, pair: list[Any], rewriting: Callable[[], Rewriting]) -> str:
+    """The verdict behind a filter."""
     try:
-        tamed = [rewritten(text(with_words(tree, words)), is_back=False) for tree in pair]
+        return verdict(program, *[rewritten(text(tree), rewriting()) for tree in pair])
     except Refused:
-        return wanted, "refused"
-    return wanted, verdict(program, *tamed)
+        return "refused"
 
 
 def is_widened(program: str) -> bool:
@@ -78,30 +86,41 @@ def is_widened(program: str) -> bool:
     return all("ieee." in line or "no branch takes" in line for line in done.stdout.splitlines()[1:])
 
 
-def kind_of(program: str, wanted: str, found: str) -> str:
-    if found in ("refused", wanted):
+def kind_of(program: str, name: str, wanted: str, found: str) -> str:
+    if found == wanted or name == "tame" and found == "refused":
         return found
-    return "too careful" if (wanted, found) == ("yes", "no") and is_widened(program) else "wrong"
+    is_careful = name == "tame" and (wanted, found) == ("yes", "no") and is_widened(program)
+    return "too careful" if is_careful else "wrong"
+
+
+def told(count: int, seen: collections.Counter[str]) -> str:
+    kinds = [f"{seen[kind]} {kind}" for kind in ("refused", "yes", "no", "too careful", "wrong")]
+    return f"{count} pairs, {', '.join(kinds)}"
 
 
 def main(words: list[str]) -> int:
     if len(words) not in (1, 2):
         print(__doc__, end="", file=sys.stderr)
         return 64
-    program, count = os.path.abspath(words[0]), int(words[1]) if len(words) == 2 else 500
-    seen: collections.Counter[str] = collections.Counter()
+    program, count = os.path.abspath(words[0]), int(words[1]) if len(words) == 2 else 1_000
+    seen: dict[str, collections.Counter[str]] = {name: collections.Counter() for name in FILTERS}
     with tempfile.TemporaryDirectory() as folder:
         os.chdir(folder)
         for number in range(count):
-            wanted, found = judged(program, number)
-            kind = kind_of(program, wanted, found)
-            seen[kind] += 1
-            if kind == "wrong" and seen[kind] <= SHOWN:
-                print(f"pair {number}: {found}, and Avro has {wanted}")
+            pair = random_pair(number)
+            wanted = verdict(program, *map(text, pair))
+            widened = [with_words(tree, WORDS[number % len(WORDS)]) for tree in pair]
+            for name, rewriting in FILTERS.items():
+                found = judged(program, widened, rewriting)
+                kind = kind_of(program, name, wanted, found)
+                seen[name][kind] += 1
+                if kind == "wrong" and seen[name][kind] <= SHOWN:
+                    print(f"{name}: pair {number}: {found}, and Avro has {wanted}")
         os.chdir("/")
-    told = [f"{seen[kind]} {kind}" for kind in ("refused", "yes", "no", "too careful", "wrong")]
-    print(f"{count} pairs, {', '.join(told)}")
-    return 1 if seen["wrong"] or min(seen["yes"], seen["no"]) < count // 10 else 0
+    for name in FILTERS:
+        print(f"{name}: {told(count, seen[name])}")
+    is_wrong = any(it["wrong"] or min(it["yes"], it["no"]) < count // 10 for it in seen.values())
+    return 1 if is_wrong else 0
 
 
 if __name__ == "__main__":

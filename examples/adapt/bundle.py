@@ -2,11 +2,16 @@
 """Prints a schema whose types are in several files as one text, for `avro`, which takes one file for each schema:
 
     bundle.py SCHEMA [OTHER..] > bundle.avsc
+    bundle.py --tree FOLDER OUT [FILE..]
     avro judge <(bundle.py v1/order.avsc v1/types/*.avsc) <(bundle.py order.avsc types/*.avsc)
 
 Of the other files only those types are taken that SCHEMA needs and does not define, wherever they are in them and in
 whatever order. Each is written where it is used first, with its namespace. Each file is read as if it stood alone, in
 no namespace; an other file that is not JSON defines nothing. A schema that defines all its types is printed as it is.
+Definitions of a type in two files may differ in "doc" alone.
+
+With --tree the other files are all *.avsc below FOLDER, and the text of each FILE of it, or of all, goes to OUT/FILE. A
+file that is refused is told, and the others are written.
 
 Exit status: 0; 3 a text is refused, with the place as a JSON pointer; 4 a file cannot be read or written; 64 usage.
 """
@@ -15,9 +20,12 @@ from __future__ import annotations
 
 import json
 import sys
+from collections import ChainMap
 from pathlib import Path
-from typing import Any, Callable, NamedTuple
+from typing import Any, Callable, Iterable, NamedTuple
 
+# How deep `avro` lets a text be nested.
+MOST_LEVELS = 127
 PRIMITIVES = {"null", "boolean", "int", "long", "float", "double", "bytes", "string"}
 NAMED = {"record", "error", "enum", "fixed"}
 KINDS = PRIMITIVES | NAMED | {"array", "map"}
@@ -25,6 +33,10 @@ KINDS = PRIMITIVES | NAMED | {"array", "map"}
 
 class Refused(Exception):
     """A text is refused: status 3."""
+
+
+class Failed(Exception):
+    """A file cannot be read or written: status 4."""
 
 
 class Scope(NamedTuple):
@@ -115,7 +127,11 @@ def has_type(field: Any) -> bool:
     return isinstance(field, dict) and "type" in field
 
 
-def find_definitions(schema: Any, scope: Scope, found: dict[str, list[Definition]]) -> None:
+# The definitions of each name, in the order of the files.
+Found = dict[str, list[Definition]]
+
+
+def find_definitions(schema: Any, scope: Scope, found: Found) -> None:
     """Adds the definitions in a text to those found."""
     if isinstance(schema, list):
         for index, branch in enumerate(schema):
@@ -148,7 +164,13 @@ def outline(schema: Any, namespace: str) -> Any:
 
 def outline_of(definition: Definition) -> dict:
     copy = with_parts(definition.schema, lambda part, _: outline(part, definition.namespace))
-    return {key: copy[key] for key in copy if key not in ("name", "namespace")}
+    if isinstance(copy.get("fields"), list):
+        copy["fields"] = [without(field, "doc") if has_type(field) else field for field in copy["fields"]]
+    return without(copy, "name", "namespace", "doc")
+
+
+def without(schema: dict, *keys: str) -> dict:
+    return {key: schema[key] for key in schema if key not in keys}
 
 
 def compare(name: str, one: Definition, other: Definition, scope: Scope) -> None:
@@ -159,16 +181,26 @@ def compare(name: str, one: Definition, other: Definition, scope: Scope) -> None
         raise Refused(f"{scope}: {name} is defined in {one.file} and in {other.file}")
 
 
+def check_levels(made: Any, left: int, name: str) -> None:
+    """A ValueError names the type in which a text is nested too deeply for `avro`."""
+    if not isinstance(made, (dict, list)):
+        return
+    if left == 0:
+        raise ValueError(f"with its types this is nested more than {MOST_LEVELS} levels deep, at {name}")
+    if is_definition(made):
+        name = fullname(made, "")[0] or name
+    for part in made.values() if isinstance(made, dict) else made:
+        check_levels(part, left - 1, name)
+
+
 class Bundle:
     """The definitions of all files, and those of them that are written already."""
 
-    def __init__(self, own: tuple[str, Any], others: list[tuple[str, Any]]) -> None:
-        self.found: dict[str, list[Definition]] = {}
-        for file, schema in others:
-            find_definitions(schema, Scope(file, "", "", ""), self.found)
-        mine: dict[str, list[Definition]] = {}
+    def __init__(self, own: tuple[str, Any], others: Found) -> None:
+        mine: Found = {}
         find_definitions(own[1], Scope(own[0], "", "", ""), mine)
-        self.found.update(mine)
+        # Those of a file go before all that others have of the same names.
+        self.found = ChainMap(mine, others)
         self.written: dict[str, Definition] = {}
         self.is_changed = False
 
@@ -221,24 +253,71 @@ class Bundle:
         return name
 
 
-def bundled(texts: list[tuple[str, bytes]]) -> bytes:
-    """The text of the first file, with the types of the others that it needs."""
-    file, text = texts[0]
-    others = []
-    for other, other_text in texts[1:]:
+def definitions(texts: Iterable[tuple[str, bytes]]) -> Found:
+    """What the files define; one that is not JSON defines nothing."""
+    found: Found = {}
+    for file, text in texts:
         try:
-            others.append((other, parsed(other_text)))
-        except ValueError:
+            find_definitions(parsed(text), Scope(file, "", "", ""), found)
+        except (ValueError, RecursionError):
             continue
+    return found
+
+
+def bundled(file: str, text: bytes, others: Found) -> bytes:
+    """The text of a file, with the types of others that it needs."""
     try:
         schema = parsed(text)
         bundle = Bundle((file, schema), others)
         made = bundle.type(schema, Scope(file, "", "", ""))
-        return printed(made, indent=2) if bundle.is_changed else text
+        if not bundle.is_changed:
+            return text
+        check_levels(made, MOST_LEVELS, "/")
+        return printed(made, indent=2)
     except ValueError as fault:
         raise Refused(f"{file}: {fault}") from None
     except RecursionError:
         raise Refused(f"{file}: this is nested too deeply") from None
+
+
+def read(path: Path | str) -> bytes:
+    try:
+        return Path(path).read_bytes()
+    except OSError:
+        raise Failed(f"{path}: cannot read") from None
+
+
+def print_bundle(files: list[str]) -> int:
+    texts = [(file, read(file)) for file in files]
+    text = bundled(*texts[0], definitions(texts[1:]))
+    try:
+        with open(1, "wb", closefd=False) as output:
+            output.write(text)
+    except OSError:
+        raise Failed("output: cannot write") from None
+    return 0
+
+
+def write_tree(folder: Path, out: Path, files: list[str]) -> int:
+    """Bundles the files one by one, each with all others of the folder."""
+    names = sorted(str(path.relative_to(folder)) for path in folder.rglob("*.avsc") if path.is_file())
+    texts = {name: read(folder / name) for name in {*names, *files}}
+    others = definitions(sorted(texts.items()))
+    status = 0
+    for file in files or names:
+        try:
+            write(out / file, bundled(file, texts[file], others))
+        except Refused as fault:
+            status = fail(str(fault), 3)
+    return status
+
+
+def write(path: Path, text: bytes) -> None:
+    try:
+        path.parent.mkdir(parents=True, exist_ok=True)
+        path.write_bytes(text)
+    except OSError:
+        raise Failed(f"{path}: cannot write") from None
 
 
 def fail(words: str, status: int) -> int:
@@ -246,26 +325,17 @@ def fail(words: str, status: int) -> int:
     return status
 
 
-def main(files: list[str]) -> int:
-    if not files or files[0].startswith("-"):
+def main(words: list[str]) -> int:
+    is_tree = words[:1] == ["--tree"]
+    if len(words) < (3 if is_tree else 1) or (words[0].startswith("-") and not is_tree):
         print(__doc__, end="", file=sys.stderr)
         return 64
-    texts = []
-    for file in files:
-        try:
-            texts.append((file, Path(file).read_bytes()))
-        except OSError:
-            return fail(f"{file}: cannot read", 4)
     try:
-        text = bundled(texts)
+        return write_tree(Path(words[1]), Path(words[2]), words[3:]) if is_tree else print_bundle(words)
     except Refused as fault:
         return fail(str(fault), 3)
-    try:
-        with open(1, "wb", closefd=False) as output:
-            output.write(text)
-    except OSError:
-        return fail("output: cannot write", 4)
-    return 0
+    except Failed as fault:
+        return fail(str(fault), 4)
 
 
 if __name__ == "__main__":
