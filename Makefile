@@ -9,16 +9,31 @@ FILE_READER ?= examples/order-2.avsc
 # The crate that `make check` checks.
 CRATE ?= avro_name
 
-# Where `make install` puts the program, its man page and its completions.
+# Where `make install` puts the program, its man page and its completions, and all else.
 PREFIX ?= /usr/local
 DESTDIR ?=
 
+# JNA, with which the library in Java is built and installed, where it is there.
+JNA ?= /usr/share/java/jna.jar
+
+VERSION := 1.0.0
 PROGRAM := crates/avro/out/avro
 LIBRARY := bindings/out/libavrojudge.so
+JAR := bindings/out/avrojudge.jar
+ARCHIVE := packaging/out/avro-$(VERSION)-x86_64-linux.tar.gz
+
+# What lies below share/avro under the paths that it has here.
+PAGES := README.md CHANGELOG.md $(wildcard docs/*)
+SCRIPTS := $(filter-out $(wildcard examples/*/try* examples/*/*_files.py examples/*/look.py examples/*/__pycache__), \
+	$(wildcard examples/*.* examples/*/*))
+BINDINGS := $(wildcard bindings/c/example.c bindings/python/*.* bindings/java/pom.xml bindings/java/src/main/java/org/avrojudge/*)
+
+# When the commit was made: the time of all that is packed.
+EPOCH = $(or $(SOURCE_DATE_EPOCH), $(shell git log -1 --format=%ct))
 TESTS := avro_data_tests avro_answer_tests
 
 .DEFAULT_GOAL := help
-.PHONY: help try files program library install install-library quick test check fmt bench robust surface words clean
+.PHONY: help try files program library jar install install-scripts install-library dist quick test check fmt bench robust surface words clean
 
 help: ## lists the targets
 	@awk -F ':.*## ' '/^[a-z]+:.*## / { printf "make %-8s %s\n", $$1, $$2 }' $(MAKEFILE_LIST)
@@ -38,8 +53,9 @@ files: ## builds the program without any proof, and checks, shows and copies FIL
 	printf '%s\n' copy {} copy.avro --reader reader.avsc > "$$cases/copy.args" && \
 	cd crates/avro && rt try --cases "$$cases" --data reader.avsc=$(abspath $(FILE_READER))
 
-program: ## proves and builds the program and the crates below it, and says where it is (two processor hours)
+program: ## proves and builds the program and the crates below it, and says where and which it is (two processor hours)
 	@cd crates/avro && rt run -- schema $(abspath examples/int.avsc)
+	@cd $(dir $(PROGRAM)) && sha256sum avro | tee avro.sha256
 	@echo "the program is $(abspath $(PROGRAM))"
 
 library: ## proves and builds bindings/out/libavrojudge.a and libavrojudge.so, for C and Python (an hour and more)
@@ -53,7 +69,16 @@ $(LIBRARY):
 $(PROGRAM):
 	@echo "run 'make program' first: it proves and builds $(PROGRAM)" >&2; false
 
-install: $(PROGRAM) ## installs the proved program, its man page and completions, and the library if there is one (a second)
+jar: $(JAR) ## builds bindings/out/avrojudge.jar, for Java, with JNA=/usr/share/java/jna.jar (a second)
+
+$(JAR): bindings/java/build.sh $(filter %.java, $(BINDINGS))
+	bindings/java/build.sh $(JNA) $(EPOCH) $(JAR)
+
+# Installs files below share/avro.
+put = for file in $(1); do mode=644; test ! -x $$file || mode=755; \
+	install -D -m $$mode $$file $(DESTDIR)$(PREFIX)/share/avro/$$file || exit 1; done
+
+install: $(PROGRAM) install-scripts ## installs the proved program with pages and scripts, and the library if there is one (a second)
 	install -D -m 755 $(PROGRAM) $(DESTDIR)$(PREFIX)/bin/avro
 	install -D -m 644 man/avro.1 $(DESTDIR)$(PREFIX)/share/man/man1/avro.1
 	install -D -m 644 completions/avro.bash $(DESTDIR)$(PREFIX)/share/bash-completion/completions/avro
@@ -61,12 +86,22 @@ install: $(PROGRAM) ## installs the proved program, its man page and completions
 	install -D -m 644 completions/avro.fish $(DESTDIR)$(PREFIX)/share/fish/vendor_completions.d/avro.fish
 	@! test -e $(LIBRARY) || $(MAKE) --no-print-directory install-library
 
-install-library: $(LIBRARY)
-	install -D -m 755 $(LIBRARY) $(DESTDIR)$(PREFIX)/lib/libavrojudge.so
+install-scripts:
+	@$(call put, $(PAGES) $(SCRIPTS))
+
+install-library: $(LIBRARY) $(if $(wildcard $(JNA)), $(JAR))
+	install -D -m 755 $(LIBRARY) $(DESTDIR)$(PREFIX)/lib/libavrojudge.so.$(VERSION)
+	ln -sf libavrojudge.so.$(VERSION) $(DESTDIR)$(PREFIX)/lib/libavrojudge.so.1
+	ln -sf libavrojudge.so.1 $(DESTDIR)$(PREFIX)/lib/libavrojudge.so
 	install -D -m 644 $(LIBRARY:.so=.a) $(DESTDIR)$(PREFIX)/lib/libavrojudge.a
 	install -D -m 644 bindings/c/avrojudge.h $(DESTDIR)$(PREFIX)/include/avrojudge.h
-	install -d $(DESTDIR)$(PREFIX)/lib/pkgconfig
-	sed 's|@PREFIX@|$(PREFIX)|' bindings/c/avrojudge.pc.in > $(DESTDIR)$(PREFIX)/lib/pkgconfig/avrojudge.pc
+	install -D -m 644 bindings/c/avrojudge.pc $(DESTDIR)$(PREFIX)/lib/pkgconfig/avrojudge.pc
+	@$(call put, $(BINDINGS))
+	$(if $(wildcard $(JNA)), install -D -m 644 $(JAR) $(DESTDIR)$(PREFIX)/share/avro/bindings/java/avrojudge.jar)
+
+dist: $(PROGRAM) $(LIBRARY) $(JAR) ## packs all that is installed into one archive, the same bytes for the same commit (seconds)
+	@cd $(dir $(PROGRAM)) && sha256sum --check --quiet avro.sha256
+	packaging/dist.sh $(ARCHIVE) $(EPOCH) PROGRAM=$(PROGRAM) LIBRARY=$(LIBRARY) JAR=$(JAR)
 
 quick: words ## runs all tests without any proof (thirteen minutes of processor time)
 	@for crate in $(TESTS); do echo "== $$crate"; (cd crates/$$crate && rt try --test) || exit 1; done
@@ -107,6 +142,6 @@ words: surface ## tests these, the words and codes of the man page and completio
 	checks/headline.py
 
 clean: ## removes what checks and builds have left (seconds)
-	rm -rf crates/*/out bindings/out
+	rm -rf crates/*/out bindings/out packaging/out
 	rm -rf bench/__pycache__ bench/*/__pycache__ bindings/python/__pycache__ checks/__pycache__
 	rm -rf examples/__pycache__ examples/*/__pycache__

@@ -6,9 +6,10 @@
     if verdict.answer is avrojudge.Answer.NO:
         print(verdict.fault, verdict.datum)
 
-A text is `bytes`, or a `str` that is encoded in UTF-8. The library is the file that the variable AVROJUDGE_LIBRARY names, or
-else bindings/out/libavrojudge.so, which `make library` makes. Calls may run in several threads at once, each of which needs
-512 KiB of stack (`threading.stack_size`). It needs Python 3.10.
+A text is `bytes`, a `bytearray` or a `memoryview`, or a `str` that is encoded in UTF-8; data are no `str`. A datum is parsed
+JSON. The library is the file that the variable AVROJUDGE_LIBRARY names, or else the one that `make library` or `make install`
+has put where this module is, or else the system's. Calls may run in several threads at once, each of which needs 512 KiB of
+stack (`threading.stack_size`). It needs Python 3.10.
 """
 
 from __future__ import annotations
@@ -29,8 +30,12 @@ __all__ = [
 ]
 
 FIRST_ROOM = 4096
+SONAME = "libavrojudge.so.1"
 LINE = re.compile(r"(\$.*?): (\w+): (.*) \(writer's (\$.*)\)")
 COUNT, CANONICAL, FINGERPRINT = range(3)
+
+Data = bytes | bytearray | memoryview
+Text = Data | str
 
 
 class AvroError(Exception):
@@ -83,13 +88,13 @@ class Fault:
 
 @dataclass(frozen=True)
 class Verdict:
-    """What is judged of two schemas. A no has the fault, the number of nodes and the display of a least datum that fails; an
-    undecided has its cause."""
+    """What is judged of two schemas. A no has the fault, and a least datum that fails with the number of its nodes; an undecided
+    has its cause."""
 
     answer: Answer
     fault: Fault | None = None
     nodes: int | None = None
-    datum: str | None = None
+    datum: object = None
     cause: str | None = None
 
 
@@ -134,11 +139,17 @@ class CLimits(ctypes.Structure):
     _fields_ = [("pairs", ctypes.c_uint32), ("size", ctypes.c_uint32), ("depth", ctypes.c_uint32)]
 
 
+def _path() -> str:
+    """Where the library is: beside this module in a checkout or below a prefix, or where the system has it."""
+    above = pathlib.Path(__file__).resolve().parents
+    beside = [folder / part / SONAME for folder, part in zip(above[1:5:3], ("out", "lib"))]
+    return os.environ.get("AVROJUDGE_LIBRARY") or next((str(path) for path in beside if path.exists()), SONAME)
+
+
 @functools.cache
 def library() -> ctypes.CDLL:
     """The library, with the types of its functions."""
-    beside = pathlib.Path(__file__).resolve().parent.parent / "out" / "libavrojudge.so"
-    found = ctypes.CDLL(os.environ.get("AVROJUDGE_LIBRARY") or str(beside))
+    found = ctypes.CDLL(_path())
     text = [ctypes.c_char_p, ctypes.c_size_t]
     answer = [*text, ctypes.POINTER(ctypes.c_size_t)]
     limits = ctypes.POINTER(CLimits)
@@ -159,8 +170,12 @@ def library() -> ctypes.CDLL:
     return found
 
 
-def _bytes(text: bytes | str) -> bytes:
-    return text.encode() if isinstance(text, str) else bytes(text)
+def _bytes(text: Text) -> bytes:
+    return text.encode() if isinstance(text, str) else _data(text)
+
+
+def _data(data: Data) -> bytes:
+    return data if isinstance(data, bytes) else bytes(memoryview(data))
 
 
 def _number(number: int) -> int:
@@ -222,19 +237,19 @@ def _line(line: str) -> HistoryLine:
     return HistoryLine(Answer[word.upper()], cause[0] if cause else None)
 
 
-def judge(writer: bytes | str, reader: bytes | str, limits: Limits = Limits()) -> Verdict:
+def judge(writer: Text, reader: Text, limits: Limits = Limits()) -> Verdict:
     """Judges whether the reader's schema reads all data of the writer's."""
     old, new = _bytes(writer), _bytes(reader)
     answer, lines = _lines(library().avrojudge_judge_text, old, len(old), new, len(new), c_limits(limits))
     if answer is Answer.NO:
-        datum = lines[3].removeprefix("datum ")
+        datum = json.loads(lines[3].removeprefix("datum "))
         return Verdict(answer, _fault(lines[1]), int(lines[2].removeprefix("nodes ")), datum)
     if answer is Answer.UNDECIDED:
         return Verdict(answer, cause=lines[0].removeprefix("undecided "))
     return Verdict(answer)
 
 
-def explain(writer: bytes | str, reader: bytes | str, max_pairs: int = 0) -> Explanation:
+def explain(writer: Text, reader: Text, max_pairs: int = 0) -> Explanation:
     """Finds all faults of two schemas, by names."""
     old, new = _bytes(writer), _bytes(reader)
     answer, lines = _lines(library().avrojudge_explain_text, old, len(old), new, len(new), _number(max_pairs))
@@ -242,14 +257,14 @@ def explain(writer: bytes | str, reader: bytes | str, max_pairs: int = 0) -> Exp
     return Explanation(answer, faults)
 
 
-def confirm(writer: bytes | str, reader: bytes | str, certificate: bytes | str) -> bool:
+def confirm(writer: Text, reader: Text, certificate: Text) -> bool:
     """Whether a certificate shows that the reader's schema reads all data of the writer's."""
     texts = [_bytes(text) for text in (writer, reader, certificate)]
     words = [word for text in texts for word in (text, len(text))]
     return _lines(library().avrojudge_confirm_text, *words)[0] is Answer.YES
 
 
-def history(texts: Sequence[bytes | str], limits: Limits = Limits()) -> list[HistoryLine]:
+def history(texts: Sequence[Text], limits: Limits = Limits()) -> list[HistoryLine]:
     """Judges each schema but the last with the last one, of at least two."""
     if len(texts) < 2:
         raise OutOfRange("a history has at least two schemas")
@@ -260,58 +275,58 @@ def history(texts: Sequence[bytes | str], limits: Limits = Limits()) -> list[His
     return [_line(line) for line in lines]
 
 
-def _shown(text: bytes | str, shown: int) -> str:
+def _shown(text: Text, shown: int) -> str:
     """What is shown of a schema."""
     schema = _bytes(text)
     return _lines(library().avrojudge_schema_text, schema, len(schema), shown)[1][0]
 
 
-def nodes(text: bytes | str) -> int:
+def nodes(text: Text) -> int:
     """The number of a schema's nodes."""
     return int(_shown(text, COUNT).removeprefix("ok "))
 
 
-def canonical(text: bytes | str) -> str:
+def canonical(text: Text) -> str:
     """The Parsing Canonical Form of a schema."""
     return _shown(text, CANONICAL)
 
 
-def fingerprint(text: bytes | str) -> str:
+def fingerprint(text: Text) -> str:
     """The SHA-256 of a schema's Parsing Canonical Form, in digits."""
     return _shown(text, FINGERPRINT)
 
 
-def certify(writer: bytes | str, reader: bytes | str, limits: Limits = Limits()) -> bytes | None:
+def certify(writer: Text, reader: Text, limits: Limits = Limits()) -> bytes | None:
     """The certificate that the reader's schema reads all data of the writer's, or None where the verdict is no yes."""
     old, new = _bytes(writer), _bytes(reader)
     answer, lines = _lines(library().avrojudge_certify_text, old, len(old), new, len(new), c_limits(limits))
     return "".join(f"{line}\n" for line in lines).encode() if answer is Answer.YES else None
 
 
-def c_reading(reader: bytes | str | None, skip: int) -> CReading:
+def c_reading(reader: Text | None, skip: int) -> CReading:
     """How data are to be read, as the library takes it, within the default limits."""
     if not 0 <= skip < 2**64:
         raise OutOfRange(f"{skip} is out of range")
     return CReading(skip, 0 if reader is None else 1)
 
 
-def read(writer: bytes | str, data: bytes, reader: bytes | str | None = None, skip: int = 0) -> tuple[object, int]:
+def read(writer: Text, data: Data, reader: Text | None = None, skip: int = 0) -> tuple[object, int]:
     """The datum that the data begin with after `skip` bytes, as parsed JSON, and the length of its encoding. It is what the
     datum is for the reader's schema, where there is one. Data that are refused raise `Refused`."""
-    old, new = _bytes(writer), _bytes(reader or b"")
-    words = (old, len(old), new, len(new), data, len(data), c_reading(reader, skip))
+    old, new, part = _bytes(writer), _bytes(reader or b""), _data(data)
+    words = (old, len(old), new, len(new), part, len(part), c_reading(reader, skip))
     length, datum = _lines(library().avrojudge_read_text, *words)[1]
     return json.loads(datum.removeprefix("datum ")), int(length.removeprefix("bytes "))
 
 
 def read_all(
-    writer: bytes | str, data: Sequence[bytes], reader: bytes | str | None = None, skip: int = 0,
+    writer: Text, data: Sequence[Data], reader: Text | None = None, skip: int = 0,
 ) -> list[tuple[object, int] | Refused]:
     """The same of each of several data; of those that are refused the exception stands in the list, and is not raised."""
-    old, new = _bytes(writer), _bytes(reader or b"")
-    lengths = (ctypes.c_size_t * len(data))(*map(len, data))
-    joined = b"".join(data)
-    words = (old, len(old), new, len(new), joined, len(joined), lengths, len(data), c_reading(reader, skip))
+    old, new, parts = _bytes(writer), _bytes(reader or b""), [_data(part) for part in data]
+    lengths = (ctypes.c_size_t * len(parts))(*map(len, parts))
+    joined = b"".join(parts)
+    words = (old, len(old), new, len(new), joined, len(joined), lengths, len(parts), c_reading(reader, skip))
     return [_read_line(line) for line in _lines(library().avrojudge_read_texts, *words)[1]]
 
 

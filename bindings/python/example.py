@@ -8,6 +8,7 @@ It ends with the status of `avro judge`.
 
 from __future__ import annotations
 
+import json
 import pathlib
 import sys
 
@@ -27,8 +28,8 @@ def main() -> int:
     print(verdict.answer.name.lower())
     if verdict.cause:
         print(f"the limit that is passed: {verdict.cause}")
-    if verdict.datum:
-        print(f"a least datum that fails: {verdict.datum}")
+    if verdict.fault:
+        print(f"a least datum that fails: {json.dumps(verdict.datum)}")
         for fault in avrojudge.explain(writer, reader).faults:
             print(f"{fault.reader}: {fault.what}")
     return int(verdict.answer)

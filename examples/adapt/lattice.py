@@ -16,7 +16,7 @@ from __future__ import annotations
 
 import re
 import sys
-from typing import Any, BinaryIO
+from typing import Any
 
 from filters import Refused, read, run, send, usage
 from tame import DEPTH, RESERVED, Defaults, Rewriting, Unfit, read_leaf, rewrite_text
@@ -72,16 +72,18 @@ class Lattice(Rewriting):
             raise Refused("it is not a datum of its type") from None
 
 
-def put_words(source: BinaryIO, sink: BinaryIO) -> None:
-    answer = NAMED.sub(lambda found: (found[1] or b"") + (found[2] or found[3]), read(source, -1))
-    send(sink, answer.replace(ZEROS, b"0"))
+def with_words(answer: bytes) -> bytes:
+    """An answer with the words for the names of the fixeds."""
+    return NAMED.sub(lambda found: (found[1] or b"") + (found[2] or found[3]), answer).replace(ZEROS, b"0")
 
 
 def main(words: list[str]) -> int:
     sys.setrecursionlimit(DEPTH)
     if words == []:
         return run("lattice", lambda source, sink: rewrite_text(source, sink, Lattice()))
-    return run("lattice", put_words) if words == ["--names"] else usage(__doc__)
+    if words == ["--names"]:
+        return run("lattice", lambda source, sink: send(sink, with_words(read(source, -1))))
+    return usage(__doc__)
 
 
 if __name__ == "__main__":

@@ -1,3 +1,5 @@
+package org.avrojudge;
+
 import com.sun.jna.Library;
 import com.sun.jna.Native;
 import com.sun.jna.NativeLong;
