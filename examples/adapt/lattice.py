@@ -19,7 +19,7 @@ import sys
 from typing import Any
 
 from filters import Refused, read, run, send, usage
-from tame import DEPTH, RESERVED, Defaults, Rewriting, Unfit, read_leaf, rewrite_text
+from tame import DEPTH, RESERVED, Defaults, Rewriting, Unfit, read_leaf, rewrite_text, rewritten
 
 # The numbers, each with those that are widened to it.
 WIDENED: dict[str, tuple[str, ...]] = {
@@ -70,6 +70,11 @@ class Lattice(Rewriting):
             return self.given.read_default(value, given, namespace)[0]
         except Unfit:
             raise Refused("it is not a datum of its type") from None
+
+
+def latticed(text: bytes) -> bytes:
+    """The text of a schema as it is judged."""
+    return rewritten(text, Lattice())
 
 
 def with_words(answer: bytes) -> bytes:

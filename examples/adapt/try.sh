@@ -1,6 +1,6 @@
 #!/usr/bin/env bash
-# Tries the filters of this folder on files and schemas that it makes: each codec, broken files and bombs, floats and
-# doubles, and schemas over several files. Then it spoils each filter in several ways, and each must be found.
+# Tries the filters of this folder on files and schemas that it makes: each codec, there and back, broken files and bombs,
+# floats and doubles, and schemas over several files. Then it spoils each filter in several ways, and each must be found.
 #
 #     try.sh [PROGRAM]
 #
@@ -79,8 +79,60 @@ try_zstandard() {
   PATH=$old_path
   compare 'neither module nor program' \
     "4 recodec: zstandard: neither Python's module zstandard nor the program zstd is here" "$status $(cat said)"
+  PATH=$work/none
+  filter made/null.avro pack.py zstandard > out 2> said || status=$?
+  PATH=$old_path
+  compare 'neither module nor program, packing' \
+    "4 pack: zstandard: neither Python's module zstandard nor the program zstd is here" "$status $(cat said)"
 }
 old_path=$PATH
+
+# Each codec comes back from null, byte for byte where this Python wrote it.
+try_pack() {
+  local codec
+  for codec in deflate bzip2 xz snappy zstandard; do
+    if ! can_pack "$codec"; then
+      not_tried+=("pack.py $codec")
+      continue
+    fi
+    expect 0 '' filter made/null.avro pack.py "$codec"
+    mv out packed.avro
+    [ "$codec" = snappy ] || same_bytes "$codec" packed.avro "made/$codec.avro"
+    expect 0 '' filter packed.avro recodec.py
+    same_bytes "$codec and back" out made/null.avro
+  done
+  expect 3 'pack: -: its codec is not null' filter made/deflate.avro pack.py deflate
+  expect 3 'pack: -: block 7: its marker differs' filter <(head -c -1 made/null.avro; printf '\377') pack.py xz
+  expect 3 'pack: -: it is not a container file' filter made/old.avsc pack.py xz
+  expect 64 "$(usage_of pack)" filter made/null.avro pack.py
+  expect 64 "$(usage_of pack)" filter made/null.avro pack.py lzma
+}
+
+can_pack() { # CODEC
+  [ "$1" != snappy ] || python3 -c 'import snappy' 2> said || return 1
+  [ "$1" != zstandard ] || [ -e made/zstandard.avro ]
+}
+
+usage_of() { # NAME
+  sed -n '2s/^"""//p' "$here/$1.py"
+}
+
+# The module snappy is asked first; what it refuses is told without it. These stand for it.
+try_snappy() {
+  local python
+  python="env PYTHONPATH=$work/module $(python3 -c 'import sys; print(sys.executable)') -S"
+  mkdir -p module
+  printf '%s\n' 'class UncompressError(Exception): pass' 'def decompress(data): raise UncompressError' > module/snappy.py
+  expect 0 '' filter made/snappy.avro recodec.py
+  same_bytes 'a module that refuses' out made/null.avro
+  expect 3 'recodec: -: block 0: snappy: a copy begins before the data' filter 'made/broken/snappy offset.avro' recodec.py
+  printf '%s\n' 'def decompress(data): return b"other"' 'def compress(data): return b"packed"' > module/snappy.py
+  expect 3 'recodec: -: block 0: snappy: the checksum differs' filter made/snappy.avro recodec.py
+  expect 0 '' filter made/null.avro pack.py snappy
+  compare 'blocks by the module' 8 "$(grep -aoc 'packed' <(tr '\n' ' ' < out | sed 's/packed/packed\n/g'))"
+  python="${python#env PYTHONPATH=* }"
+  expect 4 "pack: snappy: Python's module snappy is not here" filter made/null.avro pack.py snappy
+}
 
 try_broken() {
   local name line file
@@ -188,6 +240,48 @@ try_verdicts() {
   expect 0 '' tamed "$(record "$(field a '"double"')" "$(field c '"float"' 0)")" judge more.avsc
 }
 
+# What the program says of two schemas behind lattice.py, with the words of the schemas.
+latticed() { # COMMAND OLD NEW
+  filter <(echo "$2") lattice.py > old.avsc && filter <(echo "$3") lattice.py > new.avsc || return
+  "$program" $1 old.avsc new.avsc > answer || { filter answer lattice.py --names; return 1; }
+}
+
+# Each number is read as itself and as a wider one, alone and in a union, and as nothing else.
+try_widenings() {
+  local one other numbers=(int long float double) status
+  for one in 0 1 2 3; do
+    for other in 0 1 2 3; do
+      status=$((one > other))
+      expect "$status" '' latticed judge "\"${numbers[one]}\"" "\"${numbers[other]}\""
+      expect "$status" '' latticed judge "$(record "$(field a "\"${numbers[one]}\"")")" \
+        "$(record "$(field a "[\"null\",{\"type\":\"${numbers[other]}\",\"logicalType\":\"x\"},\"string\"]")")"
+    done
+  done
+}
+
+try_lattice() {
+  local wide='["null","long","float"]' narrow='["int","null"]' name='has the name that stands for a number'
+  try_widenings
+  expect 0 '' latticed judge "$narrow" "$wide"
+  expect 1 '' latticed judge "$wide" "$narrow"
+  compare 'a datum' $'no\nfault NoBranch at /0\nnodes 2\ndatum {"long":0}' "$(cat out)"
+  expect 1 '' latticed explain '{"type":"array","items":"double"}' '{"type":"array","items":"float"}'
+  compare 'all faults' "$(printf '%s\n' 'no 2' "\$: NoMatch: array of double is read as array of float (writer's \$)" \
+    "\$[]: NoMatch: double is read as float (writer's \$[])")" "$(cat out)"
+  expect 1 '' latticed explain "$(record "$(field number "$wide")")" "$(record "$(field number "$narrow")")"
+  compare 'places' "$(printf '%s\n' 'no 2' "\$.number: NoBranch: no branch takes long (writer's \$.number<long>)" \
+    "\$.number: NoBranch: no branch takes float (writer's \$.number<float>)")" "$(cat out)"
+  expect 1 '' latticed 'explain --json' '"double"' '"long"'
+  compare 'as JSON' '"at":"$","type":"double" "at":"$","type":"long"' "$(grep -o '"at[^}]*' out | xargs -d '\n')"
+  expect 0 '' latticed judge "$(record)" "$(record "$(field a '["string","double"]' 2.5)" "$(field b '"long"' 9)" \
+    "$(field c '{"type":"map","values":"float"}' '{"k":1e3}')")"
+  expect 3 'lattice: -: /fields/0/default: it is not a datum of its type' \
+    filter <(record "$(field a '"int"' 2147483648)") lattice.py
+  expect 3 "lattice: -: /: b.int_ $name" filter <(echo '{"type":"fixed","name":"F","aliases":["b.int_"],"size":8}') lattice.py
+  expect 3 "lattice: -: /fields/0/type: double_ $name" filter <(record "$(field a '"double_"')") lattice.py
+  expect 3 'lattice: -: this is not JSON, at line 1, column 1' filter <(echo double) lattice.py
+}
+
 # 5,000 data with floats and doubles, migrated in one pipe and compared one by one; and files that come back.
 try_pipe() {
   local codec
@@ -197,6 +291,10 @@ try_pipe() {
     expect 0 '' python3 "$here/compare_files.py" made/null.avro migrated.avro
     compare "$codec migrated" '5000 data are equal' "$(cat out)"
   done
+  expect 0 '' filter migrated.avro pack.py deflate
+  mv out packed.avro
+  expect 0 '' filter packed.avro recodec.py
+  same_bytes 'packed and unpacked' out migrated.avro
   filter made/null.avro tame.py --file > tamed.avro
   expect 0 '' "$program" check tamed.avro
   compare 'all data' 'data 5000 blocks 8' "$(cat out)"
@@ -254,7 +352,51 @@ try_bundle() {
   same_bytes 'a schema that has all' out whole.avsc
   expect 0 '' filter /dev/null bundle.py types/currency.avsc order.avsc
   same_bytes 'a schema without names' out types/currency.avsc
+  sed 's/"symbols"/"doc": "of a price", "symbols"/; s/"amount"/"amount", "doc": "in cents"/' types/{money,currency}.avsc \
+    | sed '1i[' | sed 's/^{"type": "enum"/,&/; $a]' > told.avsc
+  expect 0 '' filter /dev/null bundle.py order.avsc types/*.avsc told.avsc
+  same_bytes 'a copy with other words' out bundle.avsc
   try_bundle_faults
+}
+
+# A chain of types that is as long as it may be, and one that is longer.
+try_chain() {
+  local at
+  for ((at = 1; at < 43; at++)); do named "T$at" "$(field next "\"T$((at + 1))\"")" > "chain-$at.avsc"; done
+  named T42 "$(field last '"int"')" > last.avsc
+  expect 0 '' filter /dev/null bundle.py chain-1.avsc chain-{2..41}.avsc last.avsc
+  mv out whole-chain.avsc
+  expect 0 '' "$program" schema whole-chain.avsc
+  named T43 "$(field last '"int"')" > last.avsc
+  expect 3 'bundle: chain-1.avsc: with its types this is nested more than 127 levels deep, at T43' \
+    filter /dev/null bundle.py chain-1.avsc chain-{2..42}.avsc last.avsc
+}
+
+# A tree gives for each file what one call gives with all others.
+try_tree() {
+  local file
+  rm -rf tree bundled
+  mkdir -p tree
+  lay_order
+  cp -r order.avsc types tree
+  cp whole.avsc tree/types/whole.avsc
+  expect 0 '' filter /dev/null bundle.py --tree tree bundled
+  compare 'its files' "$(cd tree && find . -type f | sort)" "$(cd bundled && find . -type f | sort)"
+  for file in order.avsc types/money.avsc types/others.avsc; do
+    (cd tree && filter /dev/null bundle.py "$file" $(find . -name '*.avsc' -printf '%P\n' | sort | grep -vx "$file")) > one.avsc
+    same_bytes "$file" "bundled/$file" one.avsc
+  done
+  echo '{' > tree/cut.avsc
+  sed 's/Currency/Curency/; s/Money/Coin/' types/money.avsc > tree/other.avsc
+  rm -rf tree/types/whole.avsc bundled
+  expect 3 'bundle: cut.avsc: this is not JSON, at line 2, column 1' filter /dev/null bundle.py --tree tree bundled
+  compare 'each is told' 'bundle: other.avsc: /fields/1/type: no type com.acme.Curency' "$(sed 1d said)"
+  compare 'the others' './order.avsc ./types/currency.avsc ./types/money.avsc ./types/others.avsc' \
+    "$(cd bundled && find . -type f | sort | xargs)"
+  expect 0 '' filter /dev/null bundle.py --tree tree named types/money.avsc
+  compare 'those that are named' ./types/money.avsc "$(cd named && find . -type f)"
+  expect 4 'bundle: tree/nowhere.avsc: cannot read' filter /dev/null bundle.py --tree tree named nowhere.avsc
+  expect 64 "$(usage_of bundle)" filter /dev/null bundle.py --tree tree
 }
 
 try_bundle_faults() {
@@ -285,10 +427,10 @@ try_bundle_faults() {
 
 try_words() {
   local name
-  for name in recodec tame bundle; do
-    expect 64 "$(sed -n '2s/^"""//p' "$here/$name.py")" filter /dev/null "$name.py" --help
+  for name in recodec pack tame lattice bundle; do
+    expect 64 "$(usage_of "$name")" filter /dev/null "$name.py" --help
   done
-  expect 64 "$(sed -n '2s/^"""//p' "$here/bundle.py")" filter /dev/null bundle.py
+  expect 64 "$(usage_of bundle)" filter /dev/null bundle.py
 }
 
 # Whether all rows of a function are right for filters of another folder; in a subshell, so that nothing is counted.
@@ -311,19 +453,30 @@ try_planted() {
       echo "WRONG, not found by $rows: $file: $edit"
     fi
   done << 'END'
-try_codecs	recodec.py	s/^    block = 0$/    block = 0; read_block(source, read(source, 1), header.marker)/
+try_codecs	filters.py	s/^    block = 0$/    block = 0; read_block(source, read(source, 1), marker, most)/
 try_codecs	recodec.py	s/put_header({\(.*\)}, h/put_header(dict(sorted({\1}.items())), h/
-try_codecs	recodec.py	s/put_long(count) + put_long(len(data))/put_long(count + 1) + put_long(len(data))/
+try_codecs	filters.py	s/put_long(count) + put_long(len(changed))/put_long(count + 1) + put_long(len(changed))/
 try_codecs	recodec.py	s/tag >> 5 << 8 |/0 |/;s/else 4, (tag >> 2) + 1/else 3, (tag >> 2) + 1/
 try_codecs	recodec.py	s/send(sink, header.raw)/send(sink, put_header(header.metadata, header.marker))/
+try_snappy	recodec.py	s/except snappy.UncompressError:/except ZeroDivisionError:/
+try_snappy	recodec.py	s/unpack_by_snappy(elements) or //
+try_pack	pack.py	s/b"avro.codec": codec.encode()/b"avro.codec": b"xz"/
+try_pack	pack.py	s/if header.metadata.get(.*/if False:/
+try_pack	pack.py	s/wbits=-zlib.MAX_WBITS/wbits=zlib.MAX_WBITS/
 try_broken	recodec.py	s/if not stream.eof:/if False:/
-try_broken	recodec.py	s/if take(source, len(marker)) != marker:/if not take(source, len(marker)):/
+try_broken	filters.py	s/if take(source, len(marker)) != marker:/if not take(source, len(marker)):/
 try_broken	recodec.py	s/if zlib.crc32(data) != .*/if False:/
 try_broken	recodec.py	s/if stream.unused_data:/if False:/
 try_bombs	recodec.py	s/stream.decompress(packed, MOST_BLOCK + 1)/stream.decompress(packed)/
 try_bombs	recodec.py	s/^    check_size(length)$/    bytearray(length)/
 try_tame	tame.py	s/names += \[schema.get("name"), .*/names += [schema.get("name")]/
 try_tame	tame.py	s/if again != branches:/if False:/
+try_lattice	lattice.py	s/"double": ("int", "long", "float")/"double": ("long", "float")/
+try_lattice	lattice.py	s/"long": ("int",)/"long": ("int", "float")/
+try_lattice	lattice.py	s/^    reserved, stood_for = .*/    reserved, stood_for = RESERVED, "a number"/
+try_lattice	lattice.py	s/ZERO if word in WIDENED else read/read/
+try_lattice	lattice.py	s/(<|\\"|/(|/;s/(<|\\")/()/
+try_lattice	lattice.py	s/.replace(ZEROS, b"0")$//
 try_verdicts	tame.py	s/"Float32", 4, "<f"/"Double64", 8, "<d"/
 try_pipe	tame.py	s/"<d"/">d"/
 try_pipe	tame.py	s/^    send_rest(source, sink)$/    send(sink, read(source, 100_000))/
@@ -331,13 +484,18 @@ try_bundle	bundle.py	/this = Definition/{n;s/name in self.written/False/}
 try_bundle	bundle.py	s/ and outline_of(one) != outline_of(other):/ and False:/
 try_bundle	bundle.py	s/, "namespace": namespace}$/}/
 try_bundle	bundle.py	s/^        self.compare_all(name, this, scope)$//
-try_bundle	bundle.py	s/self.found.update(mine)/self.found = {**mine, **self.found}/
+try_bundle	bundle.py	s/ChainMap(mine, others)/ChainMap(others, mine)/
+try_bundle	bundle.py	s/without(field, "doc")/field/
+try_bundle	bundle.py	s/"name", "namespace", "doc")/"name", "namespace")/
+try_chain	bundle.py	s/left - 1, name)/left, name)/
+try_tree	bundle.py	s/ else print_bundle(words)/ and 0 if is_tree else print_bundle(words)/
+try_tree	bundle.py	s/for file in files or names:/for file in names:/
 END
 }
 
 not_tried=()
 python3 "$here/make_files.py" made
-for each in codecs zstandard broken bombs tame verdicts pipe bundle words; do "try_$each"; done
+for each in codecs zstandard pack snappy broken bombs tame verdicts lattice pipe bundle chain tree words; do "try_$each"; done
 for each in "${not_tried[@]}"; do echo "not tried: $each (Python has no module, and there is no program)"; done
 not_tried=()
 try_planted

@@ -2,15 +2,17 @@
 """Looks at a page of matrix.py in headless Chromium, and compares what it shows with what `avro` answers.
 
     look.py PAGE SCHEMA..
-    look.py --picture PICTURE PAGE
+    look.py --picture PICTURE PAGE [WIDTH [SCHEME]]
 
-At 1280 and at 500 pixels of width, light and dark:
+At 1280 and at 420 pixels of width, light and dark:
 
-- each cell says what `avro judge` does; a yes is green, and a no is red;
+- each cell says what `avro judge` does, those of a schema with itself as well; a yes is green, and a no is red;
 - each no leads to a list, on the page, of the lines of `avro explain`;
-- the texts stand out from what is behind them, and the page is not wider than the window.
+- the columns are headed by the numbers of the rows, and the rows by their numbers and files, also where the table is
+  scrolled to its end;
+- the texts stand out from what is behind them; the page is not wider than the window, and the table not narrower.
 
-With --picture only a picture is taken. CHROMIUM names the browser, else chromium, and AVRO the program. Prints what is
+With --picture only a picture is taken, 760 pixels wide and light unless said. CHROMIUM names the browser, else chromium, and AVRO the program. Prints what is
 wrong, and at the end 'N cells, M faults, K wrong'; the status is 1 if anything is.
 """
 
@@ -25,7 +27,7 @@ from functools import lru_cache
 from pathlib import Path
 from typing import Any
 
-WIDTHS = (1280, 500)
+WIDTHS = (1280, 420)
 SCHEMES = ("light", "dark")
 # The least ratio of contrast of a text, by the rules for accessible pages.
 LEAST_CONTRAST = 4.5
@@ -42,8 +44,17 @@ SHOWN = """(() => {
     const shown = items.filter((item) => item.offsetHeight);
     return shown.map((item) => [...item.querySelectorAll("p")].map((p) => p.innerText));
   };
+  const wide = document.querySelector(".wide");
+  wide.scrollLeft = wide.scrollWidth;
+  const stays = (head) => document.elementFromPoint(wide.getBoundingClientRect().left + 4,
+    head.getBoundingClientRect().top + 4) == head;
+  const heads = [...document.querySelectorAll("tbody th")];
   return {
     width: document.documentElement.scrollWidth,
+    table: [wide.clientWidth, document.querySelector("table").offsetWidth],
+    columns: [...document.querySelectorAll("thead th")].map((head) => head.innerText),
+    heads: heads.map((head) => head.innerText),
+    stay: heads.filter((head) => head.getBoundingClientRect().top + 4 < innerHeight).every(stays),
     page: colors(document.body),
     texts: [...document.querySelectorAll("h1, h2, p, span, code, th, td")].map((e) => [e.innerText, ...colors(e)]),
     rows: [...document.querySelectorAll("tbody tr")].map((row) => [...row.querySelectorAll("td")].map((cell) =>
@@ -148,10 +159,18 @@ def wrong_of_cell(cell: dict, writer: str, reader: str) -> list[str]:
     return [f"data of {writer} read by {reader}: {each}" for each in wrong]
 
 
-def wrong_of_page(shown: dict, width: int, scheme: str) -> list[str]:
+def wrong_of_page(shown: dict, width: int, scheme: str, files: list[str]) -> list[str]:
     wrong = []
     if shown["width"] > width:
         wrong.append(f"it is {shown['width']} pixels wide")
+    room, table = shown["table"]
+    if table < room:
+        wrong.append(f"the table is {table} pixels wide, and {room} are there")
+    numbers = list(map(str, range(1, len(files) + 1)))
+    if shown["columns"] != numbers or shown["heads"] != [f"{number} {file}" for number, file in zip(numbers, files)]:
+        wrong.append(f"its columns are {shown['columns']}, and its rows {shown['heads']}")
+    if not shown["stay"]:
+        wrong.append("the heads of rows go away")
     if (light_of(shown["page"][1]) < 0.5) != (scheme == "dark"):
         wrong.append(f"its background is {shown['page'][1]}")
     for text, color, behind in shown["texts"]:
@@ -169,33 +188,32 @@ def look(page: str, files: list[str]) -> int:
             browser.size(width, 900, scheme)
             browser.load()
             shown = browser.value(SHOWN)
-            found = wrong_of_page(shown, width, scheme)
+            found = wrong_of_page(shown, width, scheme, files)
             if [len(row) for row in shown["rows"]] != [len(files)] * len(files):
                 found.append("it has other rows or columns")
             for writer, row in zip(files, shown["rows"]):
                 for reader, cell in zip(files, row):
-                    if writer != reader:
-                        cells, faults = cells + 1, faults + len(cell["faults"])
-                        found += wrong_of_cell(cell, writer, reader)
+                    cells, faults = cells + 1, faults + len(cell["faults"])
+                    found += wrong_of_cell(cell, writer, reader)
             wrong += [f"{width} pixels, {scheme}: {each}" for each in found]
     browser.close()
     print(*wrong, f"{cells} cells, {faults} faults, {len(wrong)} wrong", sep="\n")
     return 1 if wrong else 0
 
 
-def take_picture(picture: str, page: str) -> int:
+def take_picture(picture: str, page: str, width: str = "760", scheme: str = "light") -> int:
     browser = Browser(page)
-    browser.size(760, 600, "light")
+    browser.size(int(width), 600, scheme)
     browser.load()
     height = browser.value("document.documentElement.scrollHeight")
-    browser.size(760, height, "light")
+    browser.size(int(width), height, scheme)
     Path(picture).write_bytes(base64.b64decode(browser.call("Page.captureScreenshot", format="png")["data"]))
     browser.close()
     return 0
 
 
 def main(words: list[str]) -> int:
-    if len(words) == 3 and words[0] == "--picture":
+    if words[:1] == ["--picture"] and 3 <= len(words) <= 5:
         return take_picture(*words[1:])
     if len(words) < 3 or words[0].startswith("-"):
         print(__doc__, end="", file=sys.stderr)

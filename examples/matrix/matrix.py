@@ -93,7 +93,7 @@ class Judge:
     def read(self, file: str) -> bytes:
         try:
             text = Path(file).read_bytes()
-            return self.lattice.rewritten(text, self.lattice.Lattice()) if self.lattice else text
+            return self.lattice.latticed(text) if self.lattice else text
         except OSError:
             raise Failed(4, f"matrix: {file}: cannot read") from None
         except self.refused as fault:

@@ -1,6 +1,6 @@
 #!/usr/bin/env bash
-# Tries matrix.py on the schemas of examples/: what it prints, by look.py in headless Chromium, and its statuses. Then
-# it spoils the page and the script in several ways, and each must be found.
+# Tries matrix.py on the schemas of examples/ and on twelve versions of one: what it prints, by look.py in headless
+# Chromium, and its statuses. Then it spoils the page and the script in several ways, and each must be found.
 #
 #     try.sh [PROGRAM]
 #
@@ -18,6 +18,15 @@ mkdir '<i>'
 cp "$here"/../{order,payment}-*.avsc .
 cp order-2.avsc '<i>/a & b.avsc'
 schemas=(order-1.avsc order-2.avsc order-3.avsc payment-1.avsc payment-2.avsc '<i>/a & b.avsc')
+versions=(order-of-the-year-v{1..12}.avsc)
+for each in {1..12}; do
+  echo '{"type":"record","name":"Order","fields":[' \
+    "{\"name\":\"id\",\"type\":\"$([ "$each" -lt 4 ] && echo int || echo long)\"}," \
+    '{"name":"note","type":["string","bytes"]},' \
+    "{\"name\":\"f$each\",\"type\":\"int\"$([ $((each % 3)) = 0 ] || echo ',"default":0')}]}"
+done > lines
+split -l 1 -d lines line-
+for each in {1..12}; do mv "line-$(printf %02d $((each - 1)))" "${versions[each - 1]}"; done
 tried=0 wrong=0
 
 # Runs words, which must end with a status and put a line, or nothing, on standard error.
@@ -33,13 +42,47 @@ expect() { # STATUS LINE WORDS..
   fi
 }
 
+same_bytes() { # WHAT FILE FILE
+  tried=$((tried + 1))
+  cmp -s "$2" "$3" || { wrong=$((wrong + 1)); echo "WRONG, $1: other bytes"; }
+}
+
 try_statuses() {
   echo '"double"' > double.avsc
   expect 3 'avro: double.avsc: S10' "$here/matrix.py" order-1.avsc double.avsc
-  expect 4 'avro: nowhere.avsc: cannot read' "$here/matrix.py" order-1.avsc nowhere.avsc
+  expect 4 'matrix: nowhere.avsc: cannot read' "$here/matrix.py" order-1.avsc nowhere.avsc
   expect 4 'matrix: nowhere: no such program' env AVRO=nowhere "$here/matrix.py" order-1.avsc order-2.avsc
+  printf '%s\n' '#!/bin/sh' 'echo "Usage: avro [--version] [--help]" >&2' 'exit 2' > other
+  chmod +x other
+  expect 4 'matrix: ./other: is another program' env AVRO=./other "$here/matrix.py" order-1.avsc order-2.avsc
+  echo '"int_"' > name.avsc
+  expect 3 'matrix: name.avsc: /: int_ has the name that stands for a number' "$here/matrix.py" --tame order-1.avsc name.avsc
   expect 64 "$(sed -n '2s/^"""//p' "$here/matrix.py")" "$here/matrix.py" order-1.avsc
   expect 64 "$(sed -n '2s/^"""//p' "$here/matrix.py")" "$here/matrix.py" --help
+}
+
+# Schemas with doubles have the page of those with long that are as they are; pipes have that of files.
+try_sources() {
+  local name
+  for name in 1 2 3; do
+    sed 's/"int"/"float"/; s/"long"/"double"/' "order-$name.avsc" > "wide-$name.avsc"
+  done
+  expect 0 '' "$here/matrix.py" --tame wide-{1,2,3}.avsc
+  sed 's/wide-/order-/g; s/float/int/g; s/double/long/g' out > tamed.html
+  expect 0 '' "$here/matrix.py" order-{1,2,3}.avsc
+  same_bytes 'with doubles' tamed.html out
+  expect 0 '' "$here/matrix.py" <(cat order-1.avsc) <(cat order-2.avsc)
+  sed -E 's/<title>.*<style>//; s|/dev/fd/[0-9]+|FILE|g' out > piped.html
+  expect 0 '' "$here/matrix.py" order-1.avsc order-2.avsc
+  sed -E 's/<title>.*<style>//; s|order-[12].avsc|FILE|g' out > filed.html
+  same_bytes 'from pipes' piped.html filed.html
+}
+
+try_versions() {
+  expect 0 '' "$here/matrix.py" "${versions[@]}"
+  mv out versions.html
+  expect 0 '' "$here/look.py" versions.html "${versions[@]}"
+  tail -n 1 out
 }
 
 try_page() {
@@ -69,6 +112,9 @@ try_planted_pages() {
 0,/NoMatch/s//NotUtf8/
 0,/href="#[0-9]-/s//href="#9-/
 s/max-width: 60rem/min-width: 60rem/
+s/table \{ width: 100%/table { width: 9rem/
+s/position: sticky; //
+0,/scope="col" title="[^"]*">1/s//scope="col">one/
 s/--text: #f0f6fc/--text: #4c1a1c/
 s/prefers-color-scheme: dark/prefers-color-scheme: none/
 END
@@ -82,15 +128,17 @@ try_planted_scripts() {
     python3 spoiled.py "${schemas[@]}" > spoiled.html
     expect 1 '' "$here/look.py" spoiled.html "${schemas[@]}"
   done << 'END'
-s/explain\(writer, reader\) if/explain(reader, writer) if/
+s/explain\(writer, reader\) for/explain(reader, writer) for/
 s/setdefault\("".join\(map\(item, answer\["faults"\]\)\), \[\]\)/setdefault(answer["faults"][0]["fault"], [])/
 s/map\(item, answer\["faults"\]\)/map(item, answer["faults"][:5])/
 END
 }
 
 try_statuses
+try_sources
 if command -v "${CHROMIUM:-chromium}" > said; then
   try_page
+  try_versions
   try_planted_pages
   try_planted_scripts
 else
