@@ -51,7 +51,7 @@ table { width: 100%; border-spacing: 0; }
 th, td { border: solid var(--line); border-width: 0 1px 1px 0; padding: .4rem .6rem; text-align: center;
   white-space: nowrap; }
 tr > :first-child { position: sticky; left: 0; background: var(--page); text-align: left; }
-tbody th { min-width: 6rem; max-width: 40vw; white-space: normal; overflow-wrap: anywhere; }
+tbody th { min-width: min(40vw, 12rem); max-width: 40vw; white-space: normal; overflow-wrap: anywhere; }
 .yes { background: var(--yes); } .no { background: var(--no); } .undecided { background: var(--undecided); }
 .soft { color: var(--soft); }
 a { color: inherit; }

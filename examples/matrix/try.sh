@@ -19,14 +19,18 @@ cp "$here"/../{order,payment}-*.avsc .
 cp order-2.avsc '<i>/a & b.avsc'
 schemas=(order-1.avsc order-2.avsc order-3.avsc payment-1.avsc payment-2.avsc '<i>/a & b.avsc')
 versions=(order-of-the-year-v{1..12}.avsc)
-for each in {1..12}; do
-  echo '{"type":"record","name":"Order","fields":[' \
-    "{\"name\":\"id\",\"type\":\"$([ "$each" -lt 4 ] && echo int || echo long)\"}," \
-    '{"name":"note","type":["string","bytes"]},' \
-    "{\"name\":\"f$each\",\"type\":\"int\"$([ $((each % 3)) = 0 ] || echo ',"default":0')}]}"
-done > lines
-split -l 1 -d lines line-
-for each in {1..12}; do mv "line-$(printf %02d $((each - 1)))" "${versions[each - 1]}"; done
+lay_version() { # NUMBER
+  local id=int note='"string"' default=',"default":0'
+  [ "$1" -lt 4 ] || id=long
+  # Bytes that are not UTF-8 are read by the first branch: such a schema does not read all of its own data.
+  [[ $1 != [567] ]] || note='["string","bytes"]'
+  [ $(($1 % 4)) != 0 ] || default=''
+  cat << END
+{"type":"record","name":"Order","fields":[{"name":"id","type":"$id"},{"name":"note","type":$note},
+ {"name":"f$1","type":"int"$default}]}
+END
+}
+for each in {1..12}; do lay_version "$each" > "${versions[each - 1]}"; done
 tried=0 wrong=0
 
 # Runs words, which must end with a status and put a line, or nothing, on standard error.
