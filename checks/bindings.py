@@ -13,8 +13,10 @@ examples/, and texts that are empty, nested, 1 MiB long and one byte longer.
 - Limits of 1 give the program's answers, and limits out of range its status 64.
 - Four threads with 512 KiB of stack each judge and explain all pairs at once, and answer the same.
 
-- Where Debian's libavro-dev and libjna-java are there, a program uses Apache Avro C's library beside this one, and
-  bindings/java/Example.java answers as the program does.
+- The library's name for programs that are linked with it is libavrojudge.so.1; texts and data may be a bytearray or a
+  memoryview, and a datum that is judged is parsed as one that is read.
+- Where Debian's libavro-dev and libjna-java are there, a program uses Apache Avro C's library beside this one, and the
+  example in Java answers as the program does.
 
 The last line is 'N pairs, M calls, K differ; a call of judge takes C us from C, P us from Python'. It is also a failure if a status
 did not occur. It needs Python 3.11 and a C compiler, CC or cc.
@@ -108,7 +110,8 @@ def text_of(verdict: avrojudge.Verdict) -> str:
         return f"undecided {verdict.cause}\n" if verdict.cause else "yes\n"
     kind = verdict.fault.kind + (f" {verdict.fault.field}" if verdict.fault.field is not None else "")
     path = "".join(f"/{step}" for step in verdict.fault.path) or "/"
-    return f"no\nfault {kind} at {path}\nnodes {verdict.nodes}\ndatum {verdict.datum}\n"
+    datum = json.dumps(verdict.datum, ensure_ascii=False, separators=(",", ":"))
+    return f"no\nfault {kind} at {path}\nnodes {verdict.nodes}\ndatum {datum}\n"
 
 
 def faults_of(explanation: avrojudge.Explanation) -> str:
@@ -307,6 +310,26 @@ def check_usage(check: Check, pair: Pair) -> None:
     check.compare("version", told[1].decode().split()[1], avrojudge.version())
 
 
+def check_kinds(check: Check, pair: Pair) -> None:
+    """Texts and data that are no bytes, and words that are none."""
+    for kind in (bytearray, memoryview, lambda text: memoryview(text * 2)[: len(text)]):
+        check.compare("judge", avrojudge.judge(*pair), avrojudge.judge(*map(kind, pair)))
+        check.compare("read", (1, 1), avrojudge.read(kind(b'"int"'), kind(b"00\2"), skip=2))
+        check.compare("read_all", [(1, 1), (-1, 1)], avrojudge.read_all(b'"int"', [kind(b"\2"), kind(b"\1")]))
+    for wrong in (5, None):
+        with contextlib.suppress(TypeError):
+            avrojudge.judge(wrong, pair[1])
+            check.tell(f"{wrong} is taken as a text")
+    judged, read = avrojudge.judge(b'["int","string"]', b'"string"').datum, avrojudge.read(b'["int","string"]', b"\0\0")[0]
+    check.compare("data", judged, read)
+    check.calls += 15
+
+
+def check_soname(check: Check, library: str) -> None:
+    said = subprocess.run(["objdump", "-p", library], capture_output=True, text=True, check=True).stdout
+    check.compare("SONAME", "libavrojudge.so.1", next((line.split()[1] for line in said.splitlines() if "SONAME" in line), None))
+
+
 def check_threads(check: Check, pairs: list[Pair], answers: list[tuple[tuple[int, bytes], tuple[int, bytes]]]) -> None:
     """Four threads ask all pairs at once."""
     library = avrojudge.library()
@@ -390,13 +413,13 @@ def check_java(check: Check, folder: str) -> None:
     jar = pathlib.Path("/usr/share/java/jna.jar")
     if not jar.exists() or shutil.which("javac") is None:
         return
-    files = [str(BINDINGS / "java" / name) for name in ("AvroJudge.java", "Example.java")]
+    files = [str(file) for file in sorted((BINDINGS / "java" / "src").rglob("*.java"))]
     subprocess.run(["javac", "-cp", str(jar), "-d", folder, *files], check=True)
     names = sorted(EXAMPLES.glob("*.avsc"))
     for writer, reader in [(writer, reader) for writer in names for reader in names][:: len(names) - 1]:
         told = check.run("judge", str(writer), str(reader))
         more = check.run("explain", str(writer), str(reader))[1] if told[0] == 1 else b""
-        done = subprocess.run(["java", "-cp", f"{jar}:{folder}", "Example", str(writer), str(reader)], capture_output=True)
+        done = subprocess.run(["java", "-cp", f"{jar}:{folder}", "org.avrojudge.Example", str(writer), str(reader)], capture_output=True)
         check.compare("Example.java", (told[0], told[1] + more), (done.returncode, done.stdout + done.stderr))
         check.calls += 1
 
@@ -446,6 +469,8 @@ def main() -> int:
             if check.wrong > before:
                 print(f"these were of pair {number}")
         check_usage(check, pairs[0])
+        check_kinds(check, pairs[0])
+        check_soname(check, library)
         check_both(check, library, folder)
         check_java(check, folder)
         check_threads(check, pairs, answers)
