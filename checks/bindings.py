@@ -216,6 +216,9 @@ def check_certificate(check: Check, pair: Pair, told: tuple[int, bytes]) -> None
         check.compare("certify", text.decode(), f"avro: {refused.text}: {refused.code}\n")
     told = check.run("explain", "writer", "reader", "--json")
     check.call("explain_json", told, *words_of(*pair), 0)
+    told = check.run("judge", "writer", "reader", "--json")
+    check.call("judge_json", told, *words_of(*pair), avrojudge.c_limits(avrojudge.Limits()))
+    check.compare("judge_json", told[1].decode(), typed(avrojudge.judge_json, *pair))
 
 
 def data_of(chance: random.Random) -> Iterator[bytes]:
@@ -274,6 +277,8 @@ def check_limits(check: Check, pair: Pair) -> None:
         limits = avrojudge.Limits(**{option: 1})
         check.call("judge", told, *words_of(*pair), avrojudge.c_limits(limits))
         check.compare("judge", told[1].decode(), typed(avrojudge.judge, *pair, limits))
+        told = check.run("judge", "writer", "reader", "--json", f"--max-{option}", "1")
+        check.call("judge_json", told, *words_of(*pair), avrojudge.c_limits(limits))
     told = check.run("explain", "writer", "reader", "--max-pairs", "1")
     check.call("explain", told, *words_of(*pair), 1)
     told = check.run("explain", "writer", "reader", "--max-pairs", "1", "--json")
@@ -288,6 +293,7 @@ def check_usage(check: Check, pair: Pair) -> None:
     none = (64, b"")
     for limits in (avrojudge.Limits(pairs=16_777_217), avrojudge.Limits(size=1_048_577), avrojudge.Limits(depth=257)):
         check.call("judge", none, *words_of(*pair), avrojudge.c_limits(limits))
+        check.call("judge_json", none, *words_of(*pair), avrojudge.c_limits(limits))
         check.call("history", none, *words_of(b"".join(pair)), (ctypes.c_size_t * 2)(*map(len, pair)), 2, avrojudge.c_limits(limits))
         with contextlib.suppress(avrojudge.OutOfRange):
             avrojudge.judge(*pair, limits)
@@ -442,7 +448,7 @@ def times(calls: str) -> tuple[float, float]:
 def missing_of(seen: collections.Counter[tuple[str, int]]) -> list[tuple[str, int]]:
     """The statuses of functions that must occur and did not."""
     wanted = {"judge": (0, 1, 2, 3, 64), "explain": (0, 1, 2, 3, 64), "confirm": (0, 1, 3), "history": (0, 1, 3, 64), "schema": (0, 3, 64)}
-    wanted |= {"explain_json": (0, 1, 2, 3, 64), "certify": (0, 1, 2, 3, 64), "read": (0, 3, 64), "read_all": (0, 1, 3, 64)}
+    wanted |= {"judge_json": (0, 1, 2, 3, 64), "explain_json": (0, 1, 2, 3, 64), "certify": (0, 1, 2, 3, 64), "read": (0, 3, 64), "read_all": (0, 1, 3, 64)}
     return [(name, status) for name, statuses in wanted.items() for status in statuses if not seen[name, status]]
 
 

@@ -91,6 +91,11 @@ enum avrojudge_shown {
 uint32_t avrojudge_judge_text(const uint8_t *writer, size_t writer_length, const uint8_t *reader, size_t reader_length,
                               const avrojudge_limits *limits, uint8_t *out, size_t room, size_t *wanted);
 
+/* The same as a line of JSON, as `avro judge --json`. */
+uint32_t avrojudge_judge_json_text(const uint8_t *writer, size_t writer_length, const uint8_t *reader,
+                                   size_t reader_length, const avrojudge_limits *limits, uint8_t *out, size_t room,
+                                   size_t *wanted);
+
 /*
  * All faults of two schemas by names, as `avro explain`: AVROJUDGE_YES where there is none, AVROJUDGE_NO with a line
  * for each, or AVROJUDGE_UNDECIDED where the roots lead to more than `max_pairs` pairs of nodes. `max_pairs` is 1 to

@@ -26,7 +26,7 @@ from dataclasses import dataclass
 
 __all__ = [
     "Answer", "AvroError", "Explanation", "Fault", "HistoryLine", "Limits", "NamedFault", "OutOfMemory", "OutOfRange", "Refused", "Verdict",
-    "canonical", "certify", "confirm", "explain", "fingerprint", "history", "judge", "nodes", "read", "read_all", "version",
+    "canonical", "certify", "confirm", "explain", "fingerprint", "history", "judge", "judge_json", "nodes", "read", "read_all", "version",
 ]
 
 FIRST_ROOM = 4096
@@ -155,6 +155,7 @@ def library() -> ctypes.CDLL:
     limits = ctypes.POINTER(CLimits)
     for name, types in (
         ("avrojudge_judge_text", [*text, *text, limits]),
+        ("avrojudge_judge_json_text", [*text, *text, limits]),
         ("avrojudge_explain_text", [*text, *text, ctypes.c_uint32]),
         ("avrojudge_explain_json_text", [*text, *text, ctypes.c_uint32]),
         ("avrojudge_certify_text", [*text, *text, limits]),
@@ -247,6 +248,12 @@ def judge(writer: Text, reader: Text, limits: Limits = Limits()) -> Verdict:
     if answer is Answer.UNDECIDED:
         return Verdict(answer, cause=lines[0].removeprefix("undecided "))
     return Verdict(answer)
+
+
+def judge_json(writer: Text, reader: Text, limits: Limits = Limits()) -> str:
+    """The same as the line of JSON that `avro judge --json` prints."""
+    old, new = _bytes(writer), _bytes(reader)
+    return _lines(library().avrojudge_judge_json_text, old, len(old), new, len(new), c_limits(limits))[1][0]
 
 
 def explain(writer: Text, reader: Text, max_pairs: int = 0) -> Explanation:

@@ -6,7 +6,7 @@
 
 ghost use Rattle.std.specs.Prelude.{◌≡◌, ◌≤◌, ◌<◌, ◌↔◌, ◌⊎◌, codes, length, sum};
 ghost use Rattle.avro_judge.specs.JudgeRanges.{AreJudgeLimits};
-ghost use Rattle.avro_answer.specs.JudgeAnswer.{JudgeAnswer};
+ghost use Rattle.avro_answer.specs.JudgeAnswer.{JudgeAnswer, JudgeStatus};
 ghost use Rattle.avro_answer.specs.ExplainAnswer.{ExplainAnswer};
 ghost use Rattle.avro_answer.specs.ConfirmAnswer.{ConfirmAnswer, HasCertificate, RefusesOneOf};
 ghost use Rattle.avro_answer.specs.HistoryAnswer.{HistoryAnswer, cut_texts, RefusesHistory, AllHaveSchemas};
@@ -58,6 +58,33 @@ pub extern "C" fn avrojudge_judge_text(
     };
     match judge_text(alloc, writer, reader, &limits, Form::Text, out.len()) {
         Ok(cut) => tell_cut(&cut, out, wanted),
+        Err(refusal) => tell_refusal(alloc, refusal, out, wanted),
+    }
+}
+
+/// The same as a line of JSON.
+#[unsafe(no_mangle)]
+pub extern "C" fn avrojudge_judge_json_text(
+    alloc: Global,
+    writer: &[u8],
+    reader: &[u8],
+    limits: &AvroLimits,
+    out: &mut [u8],
+    wanted: &mut usize,
+) -> u32
+    ensures answered { result ≤ 2 → IsTold (λ _. JudgeStatus writer.now reader.now (asked_limits limits.now.pairs limits.now.size limits.now.depth)) out.old out.new wanted.new result }
+    ensures refused { result ≡ 3 → IsRefused (RefusesPair writer.now reader.now) out.old out.new wanted.new }
+    ensures nothing { 3 < result → IsUntouched out.old out.new wanted.new }
+    ensures known { (result ≤ 3) ⊎ (result ≡ 5) ⊎ (result ≡ 64) }
+    ensures usage { (result ≡ 64) ↔ (AreJudgeLimits (asked_limits limits.now.pairs limits.now.size limits.now.depth) → ⊥) }
+    ensures complete { AreJudgeLimits (asked_limits limits.now.pairs limits.now.size limits.now.depth) → HaveSchemas writer.now reader.now → (result ≤ 2) ⊎ (result ≡ 5) }
+{
+    let Some(limits) = limits_of(limits) else {
+        return put_nothing(status::USAGE, wanted);
+    };
+    // The whole text is kept: of its front in this form no clause of `judge_text` speaks.
+    match judge_text(alloc, writer, reader, &limits, Form::Json, usize::MAX) {
+        Ok(whole) => tell(&whole.answer, out, wanted),
         Err(refusal) => tell_refusal(alloc, refusal, out, wanted),
     }
 }

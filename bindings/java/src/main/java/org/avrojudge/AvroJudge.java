@@ -71,6 +71,9 @@ public final class AvroJudge {
         int avrojudge_judge_text(byte[] writer, NativeLong writerLength, byte[] reader, NativeLong readerLength,
                 CLimits limits, byte[] out, NativeLong room, long[] wanted);
 
+        int avrojudge_judge_json_text(byte[] writer, NativeLong writerLength, byte[] reader, NativeLong readerLength,
+                CLimits limits, byte[] out, NativeLong room, long[] wanted);
+
         int avrojudge_explain_text(byte[] writer, NativeLong writerLength, byte[] reader, NativeLong readerLength,
                 int maxPairs, byte[] out, NativeLong room, long[] wanted);
 
@@ -149,6 +152,13 @@ public final class AvroJudge {
     public static Answer judge(byte[] writer, byte[] reader, Limits limits) {
         return ask((out, room, wanted) ->
                 LIBRARY.avrojudge_judge_text(some(writer), length(writer), some(reader), length(reader),
+                    new CLimits(limits), out, room, wanted));
+    }
+
+    /** The same as a line of JSON. */
+    public static Answer judgeJson(byte[] writer, byte[] reader, Limits limits) {
+        return ask((out, room, wanted) ->
+                LIBRARY.avrojudge_judge_json_text(some(writer), length(writer), some(reader), length(reader),
                     new CLimits(limits), out, room, wanted));
     }
 
