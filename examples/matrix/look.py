@@ -107,7 +107,8 @@ class Browser:
         return done["result"]["value"]
 
     def load(self) -> None:
-        while self.value("document.readyState") != "complete":
+        """Waits until the page is there; the empty one before it is complete, too."""
+        while self.value("location.protocol == 'file:' && document.readyState") != "complete":
             pass
 
     def close(self) -> None:
