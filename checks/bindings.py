@@ -298,6 +298,8 @@ def check_usage(check: Check, pair: Pair) -> None:
         with contextlib.suppress(avrojudge.OutOfRange):
             avrojudge.judge(*pair, limits)
             check.tell(f"{limits} is taken")
+    for struct_size in (0, 12, 20):
+        check.call("judge", none, *words_of(*pair), avrojudge.CLimits(struct_size, 0, 0, 0))
     most = avrojudge.Limits(16_777_216, 1_048_576, 256)
     check.call("judge", avrojudge.ask(avrojudge.library().avrojudge_judge_text, *words_of(*pair), avrojudge.c_limits(most)), *words_of(*pair), avrojudge.c_limits(most))
     check.call("explain", none, *words_of(*pair), 16_777_217)

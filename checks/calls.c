@@ -36,7 +36,7 @@ int main(int count, char **words) {
     size_t writer_length = read_file(words[1], writer, sizeof writer);
     size_t reader_length = read_file(words[2], reader, sizeof reader);
     long calls = atol(words[3]);
-    avrojudge_limits limits = {0};
+    avrojudge_limits limits = {.struct_size = sizeof limits};
     size_t wanted;
     double start = seconds();
     for (long call = 0; call < calls; call++) {

@@ -50,8 +50,10 @@ enum avrojudge_status {
     AVROJUDGE_USAGE = 64
 };
 
-/* Limits of judging. A limit of 0 is the default one. */
+/* Limits of judging. A limit of 0 is the default one: avrojudge_limits limits = {.struct_size = sizeof limits}; */
 typedef struct avrojudge_limits {
+    /* sizeof(avrojudge_limits). A struct of another version of this header is AVROJUDGE_USAGE. */
+    uint32_t struct_size;
     /* The product of the two numbers of nodes: 1 to 16,777,216, and 4,194,304 by default. */
     uint32_t pairs;
     /* The number of nodes of a datum that fails: 1 to 1,048,576, and 4,096 by default. */

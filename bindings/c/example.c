@@ -36,7 +36,7 @@ static struct text read_file(const char *name) {
 
 /* Prints the verdict. The text of most verdicts fits the first room; a longer one is asked for once more. */
 static uint32_t judge(struct text writer, struct text reader) {
-    avrojudge_limits limits = {0};
+    avrojudge_limits limits = {.struct_size = sizeof limits};
     size_t room = 4096, wanted = 0;
     uint8_t *out = malloc(room);
     uint32_t status = AVROJUDGE_OUT_OF_MEMORY;

@@ -136,7 +136,9 @@ class CReading(ctypes.Structure):
 class CLimits(ctypes.Structure):
     """`avrojudge_limits` of avrojudge.h."""
 
-    _fields_ = [("pairs", ctypes.c_uint32), ("size", ctypes.c_uint32), ("depth", ctypes.c_uint32)]
+    _fields_ = [
+        ("struct_size", ctypes.c_uint32), ("pairs", ctypes.c_uint32), ("size", ctypes.c_uint32), ("depth", ctypes.c_uint32),
+    ]
 
 
 def _path() -> str:
@@ -188,7 +190,7 @@ def _number(number: int) -> int:
 
 def c_limits(limits: Limits) -> CLimits:
     """The limits as the library takes them."""
-    return CLimits(_number(limits.pairs), _number(limits.size), _number(limits.depth))
+    return CLimits(ctypes.sizeof(CLimits), _number(limits.pairs), _number(limits.size), _number(limits.depth))
 
 
 def ask(function: Callable[..., int], *words: object, room: int = FIRST_ROOM) -> tuple[int, bytes]:

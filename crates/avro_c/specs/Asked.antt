@@ -2,7 +2,7 @@
 use Rattle.std.specs.Prelude.{◌≡◌, ℕ, ◌≤◌, ◌==◌, if◌then◌else◌, List, length, sum, Option, Some, None}
 use Rattle.avro_schema.specs.Fits.{LimitValues}
 use Rattle.avro_schema.specs.Ranges.{AreLimits}
-use Rattle.avro_judge.specs.JudgeRanges.{JudgeLimitValues}
+use Rattle.avro_judge.specs.JudgeRanges.{JudgeLimitValues, AreJudgeLimits}
 use Rattle.avro_answer.specs.declared.schemas.Shown.{Shown}
 
 -- 0 asks for the default
@@ -16,6 +16,10 @@ asked_limits pairs size depth = record {
   size = asked_or size 4096;
   limits = record { depth = asked_or depth 128; nodes = 1048576; blob = 16777216 };
 }
+
+-- limits of judging in their ranges, in a struct of the size that it has here
+abbrev pub AreAskedLimits : ℕ → ℕ → ℕ → ℕ → Type 0
+AreAskedLimits struct_size pairs size depth = (struct_size ≡ 16) × AreJudgeLimits (asked_limits pairs size depth)
 
 -- what is shown of a schema; only 0 to 2 ask for something
 abbrev pub asked_shown : ℕ → Shown

@@ -2,8 +2,7 @@
 
 ghost use Rattle.std.specs.Prelude.{◌≡◌, ◌≤◌, ◌↔◌, IsTrue, length, sum, SomeIff, option_copied};
 ghost use Rattle.avro_schema.specs.Ranges.{AreLimits};
-ghost use Rattle.avro_judge.specs.JudgeRanges.{AreJudgeLimits};
-ghost use Rattle.avro_c.specs.Asked.{asked_or, asked_limits, asked_shown, asked_reader, asked_data_limits, IsReading};
+ghost use Rattle.avro_c.specs.Asked.{asked_or, asked_limits, AreAskedLimits, asked_shown, asked_reader, asked_data_limits, IsReading};
 
 use avro_answer::Shown;
 use avro_judge::JudgeLimits;
@@ -13,6 +12,8 @@ use avro_schema::Limits;
 #[repr(C)]
 #[derive(Drop)]
 pub struct AvroLimits {
+    /// How many bytes the caller's struct has.
+    pub struct_size: u32,
     /// The greatest product of the two numbers of nodes.
     pub pairs: u32,
     /// The greatest number of nodes of a datum that refutes.
@@ -58,10 +59,13 @@ pub(crate) fn reader_of(has_reader: u32, reader: &[u8]) -> Option<&[u8]>
     if has_reader == 0 { None } else { Some(reader) }
 }
 
-/// The limits that a caller asks for, or nothing where one is out of range.
+/// The limits that a caller asks for, or nothing where one is out of range, or where the struct is of another size.
 pub(crate) fn limits_of(asked: &AvroLimits) -> Option<JudgeLimits>
-    ensures { SomeIff result (AreJudgeLimits (asked_limits asked.now.pairs asked.now.size asked.now.depth)) (asked_limits asked.now.pairs asked.now.size asked.now.depth) }
+    ensures { SomeIff result (AreAskedLimits asked.now.struct_size asked.now.pairs asked.now.size asked.now.depth) (asked_limits asked.now.pairs asked.now.size asked.now.depth) }
 {
+    if asked.struct_size != 16 {
+        return None;
+    }
     let pairs = or_default(asked.pairs, 4_194_304);
     let size = or_default(asked.size, 4096);
     let depth = or_default(asked.depth, 128);

@@ -5,7 +5,6 @@
 #![tactic(auto)]
 
 ghost use Rattle.std.specs.Prelude.{◌≡◌, ◌≤◌, ◌<◌, ◌↔◌, ◌⊎◌, codes, length, sum};
-ghost use Rattle.avro_judge.specs.JudgeRanges.{AreJudgeLimits};
 ghost use Rattle.avro_answer.specs.JudgeAnswer.{JudgeAnswer, JudgeStatus};
 ghost use Rattle.avro_answer.specs.ExplainAnswer.{ExplainAnswer};
 ghost use Rattle.avro_answer.specs.ConfirmAnswer.{ConfirmAnswer, HasCertificate, RefusesOneOf};
@@ -17,7 +16,7 @@ ghost use Rattle.avro_answer.specs.ReadsAnswer.{ReadsAnswer};
 ghost use Rattle.avro_answer.specs.declared.form.Form.{Form};
 ghost use Rattle.avro_answer.specs.SchemaAnswer.{SchemaAnswer};
 ghost use Rattle.avro_answer.specs.RefusalText.{RefusesOne, RefusesPair, HaveSchemas};
-ghost use Rattle.avro_c.specs.Asked.{asked_or, asked_limits, asked_shown, asked_reader, asked_data_limits, AreLengthsOf, IsReading};
+ghost use Rattle.avro_c.specs.Asked.{asked_or, asked_limits, AreAskedLimits, asked_shown, asked_reader, asked_data_limits, AreLengthsOf, IsReading};
 ghost use Rattle.avro_c.specs.Room.{IsPut, IsUntouched};
 ghost use Rattle.avro_c.specs.Told.{IsTold, IsRefused};
 
@@ -50,8 +49,8 @@ pub extern "C" fn avrojudge_judge_text(
     ensures refused { result ≡ 3 → IsRefused (RefusesPair writer.now reader.now) out.old out.new wanted.new }
     ensures nothing { 3 < result → IsUntouched out.old out.new wanted.new }
     ensures known { (result ≤ 3) ⊎ (result ≡ 5) ⊎ (result ≡ 64) }
-    ensures usage { (result ≡ 64) ↔ (AreJudgeLimits (asked_limits limits.now.pairs limits.now.size limits.now.depth) → ⊥) }
-    ensures complete { AreJudgeLimits (asked_limits limits.now.pairs limits.now.size limits.now.depth) → HaveSchemas writer.now reader.now → (result ≤ 2) ⊎ (result ≡ 5) }
+    ensures usage { (result ≡ 64) ↔ (AreAskedLimits limits.now.struct_size limits.now.pairs limits.now.size limits.now.depth → ⊥) }
+    ensures complete { AreAskedLimits limits.now.struct_size limits.now.pairs limits.now.size limits.now.depth → HaveSchemas writer.now reader.now → (result ≤ 2) ⊎ (result ≡ 5) }
 {
     let Some(limits) = limits_of(limits) else {
         return put_nothing(status::USAGE, wanted);
@@ -76,8 +75,8 @@ pub extern "C" fn avrojudge_judge_json_text(
     ensures refused { result ≡ 3 → IsRefused (RefusesPair writer.now reader.now) out.old out.new wanted.new }
     ensures nothing { 3 < result → IsUntouched out.old out.new wanted.new }
     ensures known { (result ≤ 3) ⊎ (result ≡ 5) ⊎ (result ≡ 64) }
-    ensures usage { (result ≡ 64) ↔ (AreJudgeLimits (asked_limits limits.now.pairs limits.now.size limits.now.depth) → ⊥) }
-    ensures complete { AreJudgeLimits (asked_limits limits.now.pairs limits.now.size limits.now.depth) → HaveSchemas writer.now reader.now → (result ≤ 2) ⊎ (result ≡ 5) }
+    ensures usage { (result ≡ 64) ↔ (AreAskedLimits limits.now.struct_size limits.now.pairs limits.now.size limits.now.depth → ⊥) }
+    ensures complete { AreAskedLimits limits.now.struct_size limits.now.pairs limits.now.size limits.now.depth → HaveSchemas writer.now reader.now → (result ≤ 2) ⊎ (result ≡ 5) }
 {
     let Some(limits) = limits_of(limits) else {
         return put_nothing(status::USAGE, wanted);
@@ -157,8 +156,8 @@ pub extern "C" fn avrojudge_certify_text(
     ensures refused { result ≡ 3 → IsRefused (RefusesPair writer.now reader.now) out.old out.new wanted.new }
     ensures nothing { 3 < result → IsUntouched out.old out.new wanted.new }
     ensures known { (result ≤ 3) ⊎ (result ≡ 5) ⊎ (result ≡ 64) }
-    ensures usage { (result ≡ 64) ↔ (AreJudgeLimits (asked_limits limits.now.pairs limits.now.size limits.now.depth) → ⊥) }
-    ensures complete { AreJudgeLimits (asked_limits limits.now.pairs limits.now.size limits.now.depth) → HaveSchemas writer.now reader.now → (result ≤ 2) ⊎ (result ≡ 5) }
+    ensures usage { (result ≡ 64) ↔ (AreAskedLimits limits.now.struct_size limits.now.pairs limits.now.size limits.now.depth → ⊥) }
+    ensures complete { AreAskedLimits limits.now.struct_size limits.now.pairs limits.now.size limits.now.depth → HaveSchemas writer.now reader.now → (result ≤ 2) ⊎ (result ≡ 5) }
 {
     let Some(limits) = limits_of(limits) else {
         return put_nothing(status::USAGE, wanted);
@@ -206,8 +205,8 @@ pub extern "C" fn avrojudge_history_text(
     ensures refused { result ≡ 3 → IsRefused (RefusesHistory (cut_texts texts.now lengths.now)) out.old out.new wanted.new }
     ensures nothing { 3 < result → IsUntouched out.old out.new wanted.new }
     ensures known { (result ≤ 3) ⊎ (result ≡ 5) ⊎ (result ≡ 64) }
-    ensures usage { (result ≡ 64) ↔ (AreLengthsOf lengths.now texts.now × AreJudgeLimits (asked_limits limits.now.pairs limits.now.size limits.now.depth) → ⊥) }
-    ensures complete { AreLengthsOf lengths.now texts.now → AreJudgeLimits (asked_limits limits.now.pairs limits.now.size limits.now.depth) → AllHaveSchemas (cut_texts texts.now lengths.now) → (result ≤ 2) ⊎ (result ≡ 5) }
+    ensures usage { (result ≡ 64) ↔ (AreLengthsOf lengths.now texts.now × AreAskedLimits limits.now.struct_size limits.now.pairs limits.now.size limits.now.depth → ⊥) }
+    ensures complete { AreLengthsOf lengths.now texts.now → AreAskedLimits limits.now.struct_size limits.now.pairs limits.now.size limits.now.depth → AllHaveSchemas (cut_texts texts.now lengths.now) → (result ≤ 2) ⊎ (result ≡ 5) }
 {
     if lengths.len() < 2 || !are_lengths_of(lengths, texts) {
         return put_nothing(status::USAGE, wanted);

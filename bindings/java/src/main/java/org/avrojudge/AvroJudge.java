@@ -43,11 +43,12 @@ public final class AvroJudge {
     public enum Shown { COUNT, CANONICAL, FINGERPRINT }
 
     /** `avrojudge_limits` of avrojudge.h. */
-    @Structure.FieldOrder({"pairs", "size", "depth"})
+    @Structure.FieldOrder({"structSize", "pairs", "size", "depth"})
     public static final class CLimits extends Structure {
-        public int pairs, size, depth;
+        public int structSize, pairs, size, depth;
 
         CLimits(Limits limits) {
+            structSize = size();
             pairs = limits.pairs();
             size = limits.size();
             depth = limits.depth();
