@@ -1,7 +1,7 @@
 #!/usr/bin/env bash
 # Tries what stands in this folder in scratch repositories of git: the check, the hook, the hook of the framework
-# pre-commit (where `pre-commit` is on the PATH), and the lines of the workflow, which needs Python's module yaml; and the
-# check against a registry, by a small server. Then it spoils both checks in several ways, and each must be found.
+# pre-commit (where `pre-commit` is on the PATH), and the lines of the workflow, which needs Python's module yaml. Then
+# it spoils the check in several ways, and each must be found.
 #
 #     try.sh [PROGRAM]
 #
@@ -204,21 +204,21 @@ commands_of_workflow() {
 # A symbolic link is the file to which it leads in the same tree.
 try_links() {
   repository links
-  mkdir v1 v2
+  mkdir v1 v2 links
   cp "$orders/order-1.avsc" v1/order.avsc
   cp "$orders/order-3.avsc" v2/order.avsc
-  ln -s v1 current
-  ln -s current/order.avsc latest.avsc
+  ln -s ../v1 links/current
+  ln -s links/current/order.avsc latest.avsc
   commit 'a link' v1
   exactly 0 '3 schemas against v1: 3 yes' avro-breaking
   exactly 0 '3 schemas against v1: 3 yes' avro-breaking --staged
-  ln -sfn v2 current
+  ln -sfn ../v2 links/current
   expect 1 'latest.avsc: v1: no' avro-breaking
   exactly 0 '3 schemas against v1: 3 yes' avro-breaking --staged
   git add -A
   expect 1 'latest.avsc: v1: no' avro-breaking --staged
   expect 1 $'\n''3 schemas against v1: 2 unchanged, 1 no' avro-breaking --staged --changed
-  ln -sfn latest.avsc current
+  ln -sfn ../latest.avsc links/current
   git add -A
   exactly 1 $'latest.avsc: v1: gone\n3 schemas against v1: 2 yes, 1 gone' avro-breaking --staged
 }
