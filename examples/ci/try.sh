@@ -315,7 +315,7 @@ try_all_tags() {
   pair '' > pair.avsc
   exactly 0 '1 schema against v3: 1 yes' avro-breaking
   expect 1 'pair.avsc: v2: no' avro-breaking --all
-  exactly 0 '1' count_of ': no' avro-breaking --all
+  exactly 1 '1' count_of ': no' avro-breaking --all
   expect 1 '1 schema against 3 tags: 1 no' avro-breaking --all
   expect 1 '1 schema against 2 tags: 1 no' avro-breaking --since v2
   expect 1 '1 schema against 2 tags: 1 no' avro-breaking --all --since v2
@@ -556,12 +556,15 @@ lines_of_allow() { # WORDS..
 try_notes() {
   local decimal='{"type":"bytes","logicalType":"decimal","precision":9,"scale":'
   repository notes
+  amount "$decimal 4,\"doc\":\"in cents\"}" > order.avsc
+  commit 'a decimal' v0
   amount "$decimal 4}" > order.avsc
-  commit 'a decimal' v1
+  commit 'no doc' v1
   exactly 0 '1 schema against v1: 1 yes' avro-breaking
   amount "$decimal 2}" > order.avsc
   exactly 0 $'note order.avsc: /fields/1: decimal scale 2, was 4\n1 schema against v1: 1 yes' avro-breaking
   exactly 0 'note order.avsc: /fields/1: decimal scale 2, was 4' avro-breaking --quiet --mode full
+  exactly 0 'note order.avsc: /fields/1: decimal scale 2, was 4' avro-breaking --quiet --all
   expect 0 '::notice file=order.avsc::/fields/1: decimal scale 2, was 4' env GITHUB_ACTIONS=true avro-breaking
   amount "[\"null\",$decimal 2}]" | sed 's/"name":"amount"/"name":"sum","aliases":["amount"]/' > order.avsc
   exactly 0 'note order.avsc: /fields/1: decimal scale 2, was 4' avro-breaking --quiet
