@@ -42,7 +42,7 @@ fn is_of_zero(refutation: &Refutation) -> bool {
 }
 
 /// What a verdict is.
-fn found(verdict: &Verdict<'_>) -> Found {
+fn kind_of(verdict: &Verdict<'_>) -> Found {
     match verdict {
         Verdict::Approved(_) => Found::Approved,
         Verdict::Refuted(refutation) => {
@@ -64,7 +64,7 @@ fn found_of(
     limits: &JudgeLimits,
 ) -> Result<Found, Memory> {
     let verdict = judge(alloc, writer, reader, limits)?;
-    Ok(found(&verdict))
+    Ok(kind_of(&verdict))
 }
 
 /// The limits of a row.
