@@ -248,13 +248,13 @@ latticed() { # COMMAND OLD NEW
 
 # Each number is read as itself and as a wider one, alone and in a union, and as nothing else.
 try_widenings() {
-  local one other numbers=(int long float double) status
-  for one in 0 1 2 3; do
-    for other in 0 1 2 3; do
-      status=$((one > other))
-      expect "$status" '' latticed judge "\"${numbers[one]}\"" "\"${numbers[other]}\""
-      expect "$status" '' latticed judge "$(record "$(field a "\"${numbers[one]}\"")")" \
-        "$(record "$(field a "[\"null\",{\"type\":\"${numbers[other]}\",\"logicalType\":\"x\"},\"string\"]")")"
+  local old new numbers=(int long float double)
+  for old in 0 1 2 3; do
+    for new in 0 1 2 3; do
+      expect "$((old > new))" '' latticed judge \
+        "$(record "$(field a "\"${numbers[old]}\"")" "$(field b "[\"null\",\"${numbers[old]}\"]")")" \
+        "$(record "$(field a "\"${numbers[new]}\"")" \
+          "$(field b "[\"null\",{\"type\":\"${numbers[new]}\",\"logicalType\":\"x\"},\"string\"]")")"
     done
   done
 }
@@ -381,7 +381,7 @@ try_tree() {
   cp -r order.avsc types tree
   cp whole.avsc tree/types/whole.avsc
   expect 0 '' filter /dev/null bundle.py --tree tree bundled
-  compare 'its files' "$(cd tree && find . -type f | sort)" "$(cd bundled && find . -type f | sort)"
+  compare 'its files' "$(cd tree && find . -type f | sort)" "$(cd bundled 2> told && find . -type f | sort)"
   for file in order.avsc types/money.avsc types/others.avsc; do
     (cd tree && filter /dev/null bundle.py "$file" $(find . -name '*.avsc' -printf '%P\n' | sort | grep -vx "$file")) > one.avsc
     same_bytes "$file" "bundled/$file" one.avsc
@@ -392,7 +392,7 @@ try_tree() {
   expect 3 'bundle: cut.avsc: this is not JSON, at line 2, column 1' filter /dev/null bundle.py --tree tree bundled
   compare 'each is told' 'bundle: other.avsc: /fields/1/type: no type com.acme.Curency' "$(sed 1d said)"
   compare 'the others' './order.avsc ./types/currency.avsc ./types/money.avsc ./types/others.avsc' \
-    "$(cd bundled && find . -type f | sort | xargs)"
+    "$(cd bundled 2> told && find . -type f | sort | xargs)"
   expect 0 '' filter /dev/null bundle.py --tree tree named types/money.avsc
   compare 'those that are named' ./types/money.avsc "$(cd named && find . -type f)"
   expect 4 'bundle: tree/nowhere.avsc: cannot read' filter /dev/null bundle.py --tree tree named nowhere.avsc
@@ -475,7 +475,7 @@ try_lattice	lattice.py	s/"double": ("int", "long", "float")/"double": ("long", "
 try_lattice	lattice.py	s/"long": ("int",)/"long": ("int", "float")/
 try_lattice	lattice.py	s/^    reserved, stood_for = .*/    reserved, stood_for = RESERVED, "a number"/
 try_lattice	lattice.py	s/ZERO if word in WIDENED else read/read/
-try_lattice	lattice.py	s/(<|\\"|/(|/;s/(<|\\")/()/
+try_lattice	lattice.py	s/\[>\\"\]/[>]/
 try_lattice	lattice.py	s/.replace(ZEROS, b"0")$//
 try_verdicts	tame.py	s/"Float32", 4, "<f"/"Double64", 8, "<d"/
 try_pipe	tame.py	s/"<d"/">d"/
@@ -488,7 +488,7 @@ try_bundle	bundle.py	s/ChainMap(mine, others)/ChainMap(others, mine)/
 try_bundle	bundle.py	s/without(field, "doc")/field/
 try_bundle	bundle.py	s/"name", "namespace", "doc")/"name", "namespace")/
 try_chain	bundle.py	s/left - 1, name)/left, name)/
-try_tree	bundle.py	s/ else print_bundle(words)/ and 0 if is_tree else print_bundle(words)/
+try_tree	bundle.py	s/status = fail(str(fault), 3)/return fail(str(fault), 3)/
 try_tree	bundle.py	s/for file in files or names:/for file in names:/
 END
 }

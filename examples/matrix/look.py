@@ -46,15 +46,14 @@ SHOWN = """(() => {
   };
   const wide = document.querySelector(".wide");
   wide.scrollLeft = wide.scrollWidth;
-  const stays = (head) => document.elementFromPoint(wide.getBoundingClientRect().left + 4,
-    head.getBoundingClientRect().top + 4) == head;
+  const left = (element) => element.getBoundingClientRect().left;
   const heads = [...document.querySelectorAll("tbody th")];
   return {
     width: document.documentElement.scrollWidth,
     table: [wide.clientWidth, document.querySelector("table").offsetWidth],
     columns: [...document.querySelectorAll("thead th")].map((head) => head.innerText),
     heads: heads.map((head) => head.innerText),
-    stay: heads.filter((head) => head.getBoundingClientRect().top + 4 < innerHeight).every(stays),
+    stay: heads.every((head) => left(head) >= left(wide)),
     page: colors(document.body),
     texts: [...document.querySelectorAll("h1, h2, p, span, code, th, td")].map((e) => [e.innerText, ...colors(e)]),
     rows: [...document.querySelectorAll("tbody tr")].map((row) => [...row.querySelectorAll("td")].map((cell) =>
