@@ -5,11 +5,12 @@
 
 Each row is a command, run with each choice of closed streams, by a shell and under `strace`. Its status, what it prints on the streams
 that are open, and its files are to be those of the row; where the standard output is closed and would be written, status 4, and
-where the standard input is closed and would be read, too. `/dev/null` is to be opened three times for reading first of
-all and closed last of all, and no file that is opened between may be descriptor 0, 1 or 2. A line a row, and the last line
-is 'N runs, K wrong'.
+where the standard input is closed and would be read, too, also by the names of these streams. `/` is to be opened three times
+for reading first of all and closed last of all, and no file that is opened between may be descriptor 0, 1 or 2. A line a row,
+and the last line is 'N runs, K wrong'.
 """
 
+import hashlib
 import itertools
 import os
 import re
@@ -24,9 +25,13 @@ STREAMS = ["<&-", ">&-", "2>&-"]
 INTS = header('"int"') + block(1, b"\x0a")
 LONGS = header('"long"') + block(1, b"\x0a")
 FILES = {"i.avro": INTS, "a.avsc": b'"int"', "b.avsc": b'"long"', "c.txt": certificate((0, 0)).encode()}
+MARKER = hashlib.sha256(b'"long"').digest()[:16]
+REFUTED = header('"long"', MARKER, True) + block(1, b"\0", MARKER)
 COUNTS = b"data 1 blocks 1\n"
 NO = b"no\nfault NoMatch at /\nnodes 1\ndatum 0\n"
-HELD = 'openat(AT_FDCWD, "/dev/null", O_RDONLY'
+JSON_NO = b'{"verdict":"no","fault":{"kind":"NoMatch","path":[],"at":"$"},"nodes":1,"datum":0}\n'
+HELD = 'openat(AT_FDCWD, "/", O_RDONLY'
+NAMES = ["/dev/stdin", "/dev/stdout", "/dev/stderr"]
 # Words, status, what is printed on the standard output and error, and the files that are written.
 ROWS = [
     ("copy i.avro o.avro", 0, COUNTS, b"", {"o.avro": INTS}),
@@ -45,18 +50,29 @@ ROWS = [
     ("confirm a.avsc b.avsc c.txt", 0, b"confirmed\n", b"", {}),
     ("history a.avsc b.avsc", 0, b"a.avsc yes\n", b"", {}),
     ("--version", 0, b"avro 1.0.0\n", b"", {}),
+    ("check /dev/stdin", 0, COUNTS, b"", {}),
+    ("copy i.avro /dev/stderr", 0, COUNTS, INTS, {}),
+    ("copy i.avro /dev/stdout", 64, b"", b"avro: /dev/stdout is the standard output: use avro pipe\n", {}),
+    ("judge a.avsc b.avsc --certificate /dev/stderr", 0, b"yes\n", FILES["c.txt"], {}),
+    ("judge b.avsc a.avsc --refutation /dev/stderr --json", 1, JSON_NO, REFUTED, {}),
+    ("history a.avsc b.avsc --certificates /dev/stderr", 0, b"a.avsc yes\n", FILES["c.txt"], {}),
 ]
 
 
 def wanted(row, closed):
     """What a row answers where these streams are closed."""
     words, status, out, err, written = row
+    named = next((name for at, name in enumerate(NAMES) if at in closed and name in words.split()), None)
     if words.startswith("pipe") and 0 in closed:
         status, out, err = 4, b"", b"avro: -: cannot read\n"
+    elif named is not None and (1 not in closed or words.startswith("c")):
+        verb = "read" if named == "/dev/stdin" else "write"
+        # A verdict is printed before its evidence.
+        status, out, err = 4, b"" if words.startswith("c") else out, f"avro: {named}: cannot {verb}\n".encode()
     elif out and 1 in closed:
         # A file that an option asks for is written after the output; a copy is whole before its counts.
         written = written if words.startswith("copy") else {}
-        status, err = 4, b"avro: output: cannot write\n"
+        status, err = 4, (err if words.startswith("copy") else b"") + b"avro: output: cannot write\n"
     return status, b"" if 1 in closed else out, b"" if 2 in closed else err, {**FILES, **written}
 
 

@@ -22,7 +22,7 @@ from refusal_rows import rows
 
 SECONDS = 20
 # What the program opens for standard streams that are closed; these are open.
-HELD = "/dev/null"
+HELD = "/"
 
 
 class Run:

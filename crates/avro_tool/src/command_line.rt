@@ -2,7 +2,7 @@
 
 use crate::failure::Failure;
 use crate::grammar::{history_command, program};
-use crate::number_options::{limits_in, lines_in, pairs_in, skip_in};
+use crate::number_options::{limits_in, lines_in, marker_in, pairs_in, skip_in};
 use crate::request::{
     Copying, Evidence, Explaining, History, Judging, Mode, Piping, Reading, Request,
 };
@@ -96,6 +96,13 @@ fn request_in<'a>(matches: &ArgMatches<'a>) -> Result<Option<Request<'a>>, Failu
         let skip = skip_in(read)?;
         return Ok(reading_in(read, skip));
     }
+    if let Some(pipe) = matches.subcommand_matches("pipe") {
+        let sync = marker_in(pipe)?;
+        return Ok(Some(piping_in(pipe, sync)));
+    }
+    if let Some(copy) = matches.subcommand_matches("copy") {
+        return copying_in(copy);
+    }
     Ok(plain_request_in(matches))
 }
 
@@ -120,36 +127,39 @@ fn plain_request_in<'a>(matches: &ArgMatches<'a>) -> Option<Request<'a>> {
             form: form_in(confirm),
         });
     }
-    if let Some(header) = matches.subcommand_matches("header") {
-        let file = header.get_str("file")?;
-        return Some(Request::Header {
-            file,
-            is_metadata: header.get_flag("metadata"),
-        });
-    }
-    copy_request_in(matches)
+    let header = matches.subcommand_matches("header")?;
+    let file = header.get_str("file")?;
+    Some(Request::Header {
+        file,
+        is_metadata: header.get_flag("metadata"),
+    })
 }
 
-/// The request for a copy, of words that have the form of the program's.
-fn copy_request_in<'a>(matches: &ArgMatches<'a>) -> Option<Request<'a>> {
-    if let Some(pipe) = matches.subcommand_matches("pipe") {
-        return Some(Request::Pipe(Piping {
-            reader: pipe.get_str("reader"),
-            sync: pipe.get_str("sync"),
-            is_counted: pipe.get_flag("counts"),
-            is_watched: pipe.get_flag("progress"),
-        }));
+/// The request of the words that copy a stream.
+fn piping_in<'a>(pipe: &ArgMatches<'a>, sync: Option<[u8; 16]>) -> Request<'a> {
+    Request::Pipe(Piping {
+        reader: pipe.get_str("reader"),
+        sync,
+        is_counted: pipe.get_flag("counts"),
+        is_watched: pipe.get_flag("progress"),
+    })
+}
+
+/// The request of the words that copy a file, into another one.
+fn copying_in<'a>(copy: &ArgMatches<'a>) -> Result<Option<Request<'a>>, Failure<'a>> {
+    let (Some(source), Some(output)) = (copy.get_str("input"), copy.get_str("output")) else {
+        return Ok(None);
+    };
+    if source == output {
+        return Err(Failure::OneWord);
     }
-    let copy = matches.subcommand_matches("copy")?;
-    let source = copy.get_str("input")?;
-    let output = copy.get_str("output")?;
-    Some(Request::Copy(Copying {
+    Ok(Some(Request::Copy(Copying {
         source,
         output,
         reader: copy.get_str("reader"),
-        sync: copy.get_str("sync"),
+        sync: marker_in(copy)?,
         is_watched: copy.get_flag("progress"),
-    }))
+    })))
 }
 
 /// The request of the words of a verdict on two schemas.

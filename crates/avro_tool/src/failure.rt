@@ -49,10 +49,14 @@ pub(crate) enum Failure<'a> {
     NoMarker,
     /// A file was to be copied into itself, by another name.
     OneFile,
-    /// The standard output is the file that is shown.
-    FileIsOutput,
-    /// The standard output is the file that a copy goes into.
-    CopyIsOutput,
+    /// A file of the words is the standard output.
+    IsOutput(&'a str),
+    /// A copy goes into the pipe that the standard output is.
+    IsPipe(&'a str),
+    /// A file of the words is the standard error.
+    IsError(&'a str),
+    /// A file of the words is both, so that no line can be written.
+    IsStreams,
     /// A file that is to be written is one of those that are read.
     IsRead(&'a str),
     /// A file that is to be written holds a schema.
@@ -153,8 +157,8 @@ impl<'a> Failure<'a> {
             Failure::CannotRead(_) | Failure::CannotWrite(_) | Failure::CannotPrint => 4,
             Failure::OutOfMemory => 5,
             Failure::Usage(_) | Failure::NotText | Failure::OneWord | Failure::NoMarker => 64,
-            Failure::OneFile | Failure::FileIsOutput | Failure::CopyIsOutput => 64,
-            Failure::IsRead(_) | Failure::IsSchema(_) => 64,
+            Failure::IsOutput(_) | Failure::IsPipe(_) | Failure::IsError(_) => 64,
+            Failure::IsStreams | Failure::OneFile | Failure::IsRead(_) | Failure::IsSchema(_) => 64,
             Failure::OutOfRange(_) | Failure::NoLimit | Failure::NoSkip => 64,
         }
     }
@@ -178,6 +182,11 @@ impl<'a> Failure<'a> {
             Failure::CannotRead(word) => format!(in alloc; "avro: {word}: cannot read\n"),
             Failure::CannotWrite(word) => format!(in alloc; "avro: {word}: cannot write\n"),
             Failure::Usage(text) => format!(in alloc; "{text}"),
+            Failure::IsOutput(word) => format!(in alloc; "avro: {word} is the standard output\n"),
+            Failure::IsPipe(word) => {
+                format!(in alloc; "avro: {word} is the standard output: use avro pipe\n")
+            }
+            Failure::IsError(word) => format!(in alloc; "avro: {word} is the standard error\n"),
             Failure::IsRead(word) => {
                 format!(in alloc; "avro: {word} is one of the files that are read\n")
             }
@@ -196,8 +205,6 @@ impl<'a> Failure<'a> {
             Failure::OneWord => "avro: IN and OUT are one word\n",
             Failure::NoMarker => "avro: --sync takes 32 hexadecimal digits\n",
             Failure::OneFile => "avro: IN and OUT are one file\n",
-            Failure::FileIsOutput => "avro: FILE is the standard output\n",
-            Failure::CopyIsOutput => "avro: OUT is the standard output\n",
             Failure::NoLimit => "avro: --limit takes 0 to 18446744073709551615\n",
             Failure::NoSkip => "avro: --skip takes 0 to 16777216\n",
             _ => "",

@@ -17,6 +17,7 @@ use commands::{
     check, confirm, copy, explain, header, history, judge, pipe, read, schema, show, version,
 };
 use failure::Failure;
+use files::kept::refuse_files;
 use request::Request;
 use std::alloc::Global;
 use std::io;
@@ -82,7 +83,8 @@ pub fn refuse_words<E: Write>(error: &io::Error, err: &mut E) -> u8 {
 
 /// Runs the program on its words, without its name, and returns its exit status: 0 good or yes, 1
 /// no, 2 undecided, 3 refused input, 4 a file's fault, 5 out of memory, 64 usage. Answers go to
-/// `out`, errors and usage texts to `err`. Only the command that copies `input` reads it.
+/// `out`, errors and usage texts to `err`; that a file is the standard error goes to `out`, since it would stand in the
+/// file. Only the command that copies `input` reads it.
 pub fn run<R: Files + Clock + AllocGlobal, I: Read, O: Write, E: Write>(
     rt: &R,
     words: &[String],
@@ -92,6 +94,7 @@ pub fn run<R: Files + Clock + AllocGlobal, I: Read, O: Write, E: Write>(
 ) -> u8 {
     match answer(rt, words, input, out, err) {
         Ok(finding) => finding.status(),
+        Err(failure) if matches!(failure, Failure::IsError(_)) => report(rt.alloc(), &failure, out),
         Err(failure) => report(rt.alloc(), &failure, err),
     }
 }
@@ -125,6 +128,7 @@ fn answer<'a, R: Files + Clock + AllocGlobal, I: Read, O: Write, E: Write>(
     err: &mut E,
 ) -> Result<Finding, Failure<'a>> {
     let request = request_of(rt.alloc(), words)?;
+    refuse_files(rt, &request)?;
     answer_request(rt, &request, input, out, err)
 }
 

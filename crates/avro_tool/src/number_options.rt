@@ -1,9 +1,10 @@
-//! Options that take a number.
+//! Options that take a number, or the digits of a marker.
 
 use crate::failure::Failure;
 use avro_judge::JudgeLimits;
 use avro_schema::Limits;
 use clap::ArgMatches;
+use hex::FromHex;
 
 /// The most bytes that are skipped.
 const MAX_SKIP: u32 = 16_777_216;
@@ -91,5 +92,16 @@ pub(crate) fn skip_in<'a>(matches: &ArgMatches<'a>) -> Result<u32, Failure<'a>> 
     match word.parse::<u32>() {
         Ok(skip) if skip <= MAX_SKIP => Ok(skip),
         _ => Err(Failure::NoSkip),
+    }
+}
+
+/// The marker that the words give, if any.
+pub(crate) fn marker_in<'a>(matches: &ArgMatches<'a>) -> Result<Option<[u8; 16]>, Failure<'a>> {
+    let Some(digits) = matches.get_str("sync") else {
+        return Ok(None);
+    };
+    match <[u8; 16] as FromHex>::from_hex(digits) {
+        Ok(sync) => Ok(Some(sync)),
+        Err(_) => Err(Failure::NoMarker),
     }
 }

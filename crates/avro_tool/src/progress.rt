@@ -25,6 +25,8 @@ pub(crate) struct Watched<I, C, E> {
 #[derive(Clone, Copy)]
 struct Meter {
     read: u64,
+    /// Whether anything was read, or the end.
+    is_begun: bool,
     /// The length of the whole, if it is known.
     length: Option<u64>,
     begun: Option<Instant>,
@@ -44,6 +46,7 @@ impl<I: Input, C: Clock, E: Write> Watched<I, C, E> {
             err,
             meter: Meter {
                 read: 0,
+                is_begun: false,
                 length,
                 begun,
                 told: 0,
@@ -52,8 +55,11 @@ impl<I: Input, C: Clock, E: Write> Watched<I, C, E> {
         }
     }
 
-    /// Tells for the last time how far the input was read.
+    /// Tells for the last time how far the input was read, if it can be read.
     pub(crate) fn finish(&mut self) {
+        if !self.meter.is_begun {
+            return;
+        }
         let millis = self.meter.elapsed(&self.clock);
         self.meter.tell(millis.unwrap_or(0), &mut self.err, "\n");
     }
@@ -79,6 +85,7 @@ impl<I: Input, C: Clock, E: Write> Input for Watched<I, C, E> {
 
 /// Notes that so many bytes more were read, and tells it where that is due.
 fn note<C: Clock, E: Write>(meter: &mut Meter, clock: &C, err: &mut E, count: usize) {
+    meter.is_begun = true;
     meter.read = meter.read.saturating_add(count as u64);
     let Some(millis) = meter.elapsed(clock) else {
         return;

@@ -1,7 +1,10 @@
 //! What the program can be asked for.
 
+use crate::failure::Failure;
+use crate::files::kept::STANDARD_INPUT;
 use avro_answer::{Form, Shown};
 use avro_judge::JudgeLimits;
+use std::alloc::{AllocError, Global};
 
 /// What the words ask for.
 #[derive(Drop)]
@@ -53,14 +56,92 @@ pub(crate) enum Request<'a> {
     Version,
 }
 
-/// A copy of a container, resolved to a reader's schema if there is one, with the digits of its marker if given, and whether
-/// its progress is reported.
+impl<'a> Request<'a> {
+    /// The words of the files that are read, in order.
+    pub(crate) fn files_read(&self, alloc: Global) -> Result<Vec<&'a str>, AllocError> {
+        match self {
+            Request::Judge(asked) => given(alloc, &[Some(asked.writer), Some(asked.reader)]),
+            Request::Explain(asked) => given(alloc, &[Some(asked.writer), Some(asked.reader)]),
+            Request::Confirm {
+                writer,
+                reader,
+                certificate,
+                ..
+            } => given(alloc, &[Some(*writer), Some(*reader), Some(*certificate)]),
+            Request::History(asked) => asked.files_read(alloc),
+            Request::Schema { file, .. } | Request::Header { file, .. } => {
+                given(alloc, &[Some(*file)])
+            }
+            Request::Check { files, .. } => files.to_vec(alloc),
+            Request::Show { file, reader, .. } => given(alloc, &[Some(*file), *reader]),
+            Request::Copy(asked) => given(alloc, &[Some(asked.source), asked.reader]),
+            Request::Pipe(asked) => given(alloc, &[Some(STANDARD_INPUT), asked.reader]),
+            Request::Read(asked) => {
+                given(alloc, &[Some(asked.writer), Some(asked.data), asked.reader])
+            }
+            Request::Version => Ok(Vec::new(alloc)),
+        }
+    }
+
+    /// The words of the files that are written, in order.
+    pub(crate) fn files_written(&self) -> [Option<&'a str>; 2] {
+        match self {
+            Request::Judge(asked) => [asked.certificate, asked.refutation],
+            Request::Copy(asked) => [Some(asked.output), None],
+            Request::History(asked) => match asked.evidence {
+                Evidence::Written(word) => [Some(word), None],
+                _ => [None, None],
+            },
+            _ => [None, None],
+        }
+    }
+
+    /// Whether more than an error goes to the standard error.
+    pub(crate) fn is_told(&self) -> bool {
+        match self {
+            Request::Check { is_watched, .. } => *is_watched,
+            Request::Copy(asked) => asked.is_watched,
+            Request::Pipe(asked) => asked.is_watched || asked.is_counted,
+            _ => false,
+        }
+    }
+
+    /// What is reported of a file that the standard output is.
+    pub(crate) fn output_failure(&self, word: &'a str) -> Failure<'a> {
+        match self {
+            Request::Pipe(_) if word == STANDARD_INPUT => Failure::OneFile,
+            _ => Failure::IsOutput(word),
+        }
+    }
+
+    /// What is reported of a file that is read, and is to be written by another word.
+    pub(crate) fn read_failure(&self, word: &'a str, output: &'a str) -> Failure<'a> {
+        match self {
+            Request::Copy(asked) if word == asked.source => Failure::OneFile,
+            _ => Failure::IsRead(output),
+        }
+    }
+}
+
+/// Those of some words that are given.
+fn given<'a>(alloc: Global, words: &[Option<&'a str>]) -> Result<Vec<&'a str>, AllocError> {
+    let mut present = Vec::new(alloc);
+    for word in words {
+        if let Some(word) = word {
+            present.push(*word)?;
+        }
+    }
+    Ok(present)
+}
+
+/// A copy of a container, resolved to a reader's schema if there is one, with its marker if given, and whether its progress is
+/// reported.
 #[derive(Clone, Copy)]
 pub(crate) struct Copying<'a> {
     pub(crate) source: &'a str,
     pub(crate) output: &'a str,
     pub(crate) reader: Option<&'a str>,
-    pub(crate) sync: Option<&'a str>,
+    pub(crate) sync: Option<[u8; 16]>,
     pub(crate) is_watched: bool,
 }
 
@@ -68,7 +149,7 @@ pub(crate) struct Copying<'a> {
 #[derive(Clone, Copy)]
 pub(crate) struct Piping<'a> {
     pub(crate) reader: Option<&'a str>,
-    pub(crate) sync: Option<&'a str>,
+    pub(crate) sync: Option<[u8; 16]>,
     pub(crate) is_counted: bool,
     pub(crate) is_watched: bool,
 }
@@ -115,6 +196,18 @@ pub(crate) struct History<'a> {
     pub(crate) is_next: bool,
     pub(crate) limits: JudgeLimits,
     pub(crate) form: Form,
+}
+
+impl<'a> History<'a> {
+    /// The words of the files that are read, in order.
+    fn files_read(&self, alloc: Global) -> Result<Vec<&'a str>, AllocError> {
+        let mut words = self.writers.to_vec(alloc)?;
+        words.push(self.reader)?;
+        if let Evidence::Given(word) = self.evidence {
+            words.push(word)?;
+        }
+        Ok(words)
+    }
 }
 
 /// Which data are to be read in a history.

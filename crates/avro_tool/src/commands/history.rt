@@ -1,7 +1,6 @@
 use crate::Finding;
 use crate::failure::Failure;
 use crate::files::certificate::{read_history_file, write_history_file};
-use crate::files::kept::{refuse_read_file, refuse_schema_file};
 use crate::files::schema::read_schema_file;
 use crate::printing::print_bytes;
 use crate::request::{Evidence, History, Mode};
@@ -39,22 +38,8 @@ pub(crate) fn history_of_files<'a, R: Files + AllocGlobal, O: Write>(
     history: &History<'a>,
     out: &mut O,
 ) -> Result<Finding, Failure<'a>> {
-    refuse_evidence(rt, history)?;
     let earlier = read_schema_files(rt, &history.writers)?;
     history_of_earlier(rt, history, &earlier, out)
-}
-
-/// Refuses a file for the certificates that is read, or that holds a schema.
-fn refuse_evidence<'a, R: Files + AllocGlobal>(
-    rt: &R,
-    history: &History<'a>,
-) -> Result<(), Failure<'a>> {
-    let Evidence::Written(word) = history.evidence else {
-        return Ok(());
-    };
-    refuse_read_file(rt, Some(word), &history.writers)?;
-    refuse_read_file(rt, Some(word), &[history.reader])?;
-    refuse_schema_file(rt, Some(word))
 }
 
 /// The answer for the earlier schemas; the last one is read first.

@@ -1,7 +1,6 @@
 use crate::Finding;
 use crate::failure::Failure;
 use crate::files::certificate::write_certificate_file;
-use crate::files::kept::{refuse_read_file, refuse_schema_file};
 use crate::files::refutation::write_refutation_file;
 use crate::files::schema::{read_schema_file, read_text_file};
 use crate::request::Judging;
@@ -20,21 +19,8 @@ pub(crate) fn judge_files<'a, R: Files + AllocGlobal, O: Write>(
     asked: &Judging<'a>,
     out: &mut O,
 ) -> Result<Finding, Failure<'a>> {
-    refuse_evidence(rt, asked)?;
     let writer = read_text_file(rt, asked.writer)?;
     judge_written(rt, asked, &writer, out)
-}
-
-/// Refuses files for the evidence that are read, or that hold a schema.
-fn refuse_evidence<'a, R: Files + AllocGlobal>(
-    rt: &R,
-    asked: &Judging<'a>,
-) -> Result<(), Failure<'a>> {
-    let words = [asked.writer, asked.reader];
-    refuse_read_file(rt, asked.certificate, &words)?;
-    refuse_read_file(rt, asked.refutation, &words)?;
-    refuse_schema_file(rt, asked.certificate)?;
-    refuse_schema_file(rt, asked.refutation)
 }
 
 /// Judges a writer's schema and the reader's, which is read first.

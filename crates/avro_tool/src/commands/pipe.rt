@@ -1,10 +1,10 @@
 //! A container from one stream to another.
 
 use crate::Finding;
-use crate::commands::copy::{copy_into, marker_of};
+use crate::commands::copy::copy_into;
 use crate::failure::Failure;
 use crate::files::container::{ROOM, length_of, print_counts};
-use crate::files::kept::{STANDARD_INPUT, STANDARD_OUTPUT, is_one_file};
+use crate::files::kept::STANDARD_INPUT;
 use crate::files::schema::read_reader;
 use crate::progress::Watched;
 use crate::request::Piping;
@@ -28,15 +28,11 @@ pub(crate) fn pipe_streams<'a, R: Files + Clock + AllocGlobal, I: Read, O: Write
     out: &mut O,
     err: &mut E,
 ) -> Result<Finding, Failure<'a>> {
-    let sync = marker_of(asked.sync)?;
-    if is_one_file(rt, STANDARD_INPUT, STANDARD_OUTPUT)? {
-        return Err(Failure::OneFile);
-    }
     let reader = read_reader(rt, asked.reader)?;
     let counts = if asked.is_watched {
-        pipe_watched(rt, reader.as_ref(), sync, input, out, err)?
+        pipe_watched(rt, reader.as_ref(), asked.sync, input, out, err)?
     } else {
-        pipe_for(rt.alloc(), reader.as_ref(), sync, input, out)?
+        pipe_for(rt.alloc(), reader.as_ref(), asked.sync, input, out)?
     };
     if asked.is_counted {
         // If standard error fails, the copy is still whole.

@@ -2,20 +2,25 @@
 
 use crate::Finding;
 use crate::failure::Failure;
-use crate::files::schema::{bytes_of, read_reader, read_schema_file};
+use crate::files::container::open_file;
+use crate::files::schema::{read_reader, read_schema_file};
 use crate::printing::print_bytes;
 use crate::request::Reading;
 use avro_answer::read_schemas;
-use avro_binary::ReadError;
+use avro_binary::{Nothing, ReadError, read_own};
 use avro_resolve::ReadResolveError;
-use avro_schema::{Limits, Schema};
+use avro_schema::{Limits, Memory, Schema};
 use avro_schema_json::ReaderText;
 use std::alloc::Global;
-use std::io::Write;
+use std::io;
+use std::io::{BufRead, Write};
 use std::rt::Files;
 
 /// The most bytes that one datum may take, as in a block of a container.
 const MAX_DATUM: usize = 16_777_216;
+
+/// So many bytes may be walked over in vain, besides twice those that there are.
+const FREE: usize = 1_048_576;
 
 /// Prints the datum that the data in a file begin with, after the bytes that are passed over, and how many bytes it
 /// takes; what follows it is left.
@@ -48,7 +53,7 @@ fn read_for<'a, R: Files + AllocGlobal, O: Write>(
     out: &mut O,
 ) -> Result<Finding, Failure<'a>> {
     let most = MAX_DATUM + asked.skip as usize;
-    let bytes = bytes_of(rt, asked.data, most as u64)?;
+    let bytes = take_datum(rt, asked, writer, most)?;
     let is_cut = bytes.len() > most;
     let data = &bytes[..bytes.len().min(most)];
     match text_of(rt.alloc(), asked, writer, reader, data) {
@@ -56,6 +61,69 @@ fn read_for<'a, R: Files + AllocGlobal, O: Write>(
         Err(error) => return Err(Failure::of_data(asked.data, told_of(error, is_cut))),
     }
     Ok(Finding::Good)
+}
+
+/// The bytes of a file up to the end of its datum at least, or up to its end, or more than some. They are walked over after each
+/// read, but for reads that would make the time of it more than proportional to their number.
+fn take_datum<'a, R: Files + AllocGlobal>(
+    rt: &R,
+    asked: &Reading<'a>,
+    writer: &Schema,
+    most: usize,
+) -> Result<Vec<u8>, Failure<'a>> {
+    let mut file = open_file(rt, asked.data)?;
+    let mut bytes = Vec::new(rt.alloc());
+    let mut walked: usize = 0;
+    for _ in 0..=most {
+        let is_end = match append_next(&mut file, &mut bytes) {
+            Ok(count) => count == 0,
+            Err(e) => return Err(Failure::of_reading(asked.data, &e)),
+        };
+        if is_end || bytes.len() > most {
+            break;
+        }
+        if walked / 2 > bytes.len().saturating_add(FREE) {
+            continue;
+        }
+        if is_whole(rt.alloc(), asked, writer, &bytes)? {
+            break;
+        }
+        walked = walked.saturating_add(bytes.len());
+    }
+    Ok(bytes)
+}
+
+/// Appends what a reader gives at its next read, and returns how many bytes.
+fn append_next<B: BufRead>(reader: &mut B, bytes: &mut Vec<u8>) -> io::Result<usize> {
+    let next = reader.fill_buf()?;
+    let count = next.len();
+    bytes.extend_from_slice(next)?;
+    reader.consume(count);
+    Ok(count)
+}
+
+/// Whether a datum does not end after these bytes of it: all of it is there, or its fault.
+fn is_whole(
+    alloc: Global,
+    asked: &Reading<'_>,
+    writer: &Schema,
+    bytes: &[u8],
+) -> Result<bool, Memory> {
+    let skip = asked.skip as usize;
+    if bytes.len() < skip {
+        return Ok(false);
+    }
+    match read_own(
+        alloc,
+        writer,
+        &bytes[skip..],
+        &Limits::default(),
+        &mut Nothing,
+    ) {
+        Err(ReadError::EndOfInput { .. }) => Ok(false),
+        Err(ReadError::OutOfMemory) => Err(Memory),
+        _ => Ok(true),
+    }
 }
 
 /// The text of the datum in data.

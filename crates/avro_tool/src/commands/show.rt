@@ -3,7 +3,6 @@ ghost use Rattle.std.specs.Prelude.{◌≤◌, IfOk, IfSome, length};
 use crate::Finding;
 use crate::failure::Failure;
 use crate::files::container::{ROOM, open_container};
-use crate::files::kept::is_output;
 use crate::files::schema::read_reader;
 use avro_binary::{Nothing, decode};
 use avro_device::{Input, Output, WriteOutput, put_all};
@@ -49,9 +48,6 @@ pub(crate) fn show_file<'a, R: Files + AllocGlobal, O: Write>(
     limit: Option<u64>,
     out: &mut O,
 ) -> Result<Finding, Failure<'a>> {
-    if is_output(rt, word)? {
-        return Err(Failure::FileIsOutput);
-    }
     let reader = read_reader(rt, reader)?;
     let limit = limit.unwrap_or(u64::MAX);
     show_for(rt, word, reader.as_ref(), limit, out)

@@ -21,9 +21,17 @@ pub(crate) fn open_container<'a, R: Files + AllocGlobal>(
     rt: &R,
     word: &'a str,
 ) -> Result<ReadInput<BufReader<R::File>>, Failure<'a>> {
+    Ok(ReadInput::new(open_file(rt, word)?))
+}
+
+/// A file, of which nothing is read yet.
+pub(crate) fn open_file<'a, R: Files + AllocGlobal>(
+    rt: &R,
+    word: &'a str,
+) -> Result<BufReader<R::File>, Failure<'a>> {
     match fs::open(rt, word) {
         Ok(file) => match BufReader::with_capacity(rt.alloc(), ROOM, file) {
-            Ok(reader) => Ok(ReadInput::new(reader)),
+            Ok(reader) => Ok(reader),
             Err(_) => Err(Failure::OutOfMemory),
         },
         Err(e) => Err(Failure::of_reading(word, &e)),
