@@ -74,7 +74,7 @@ fn take_datum<'a, R: Files + AllocGlobal>(
     let mut file = open_file(rt, asked.data)?;
     let mut bytes = Vec::new(rt.alloc());
     let mut walked: usize = 0;
-    for _ in 0..=most {
+    for _ in 0..u64::MAX {
         let is_end = match append_next(&mut file, &mut bytes) {
             Ok(count) => count == 0,
             Err(e) => return Err(Failure::of_reading(asked.data, &e)),
