@@ -55,7 +55,7 @@ ROWS = [
     ("copy i.avro /dev/stdout", 64, b"", b"avro: /dev/stdout is the standard output: use avro pipe\n", {}),
     ("judge a.avsc b.avsc --certificate /dev/stderr", 0, b"yes\n", FILES["c.txt"], {}),
     ("judge b.avsc a.avsc --refutation /dev/stderr --json", 1, JSON_NO, REFUTED, {}),
-    ("history a.avsc b.avsc --certificates /dev/stderr", 0, b"a.avsc yes\n", FILES["c.txt"], {}),
+    ("history a.avsc b.avsc --certificates /dev/stderr", 0, b"a.avsc yes\n", b"history 1\n" + FILES["c.txt"] + b"end\n", {}),
 ]
 
 

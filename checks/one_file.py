@@ -149,8 +149,10 @@ def stream_tries():
     """Words, the file that is standard streams, these, and what the output and the error are to get."""
     for stream, rows in (("output", WORDS), ("error", TOLD)):
         number = 1 if stream == "output" else 2
-        for words, file in rows:
-            for name in [*names_of(file), f"/dev/std{stream[:3]}", f"/proc/self/fd/{number}"]:
+        for at, (words, file) in enumerate(rows):
+            # Each by its word and two other names in turn.
+            names = [*names_of(file)[1:], f"/dev/std{stream[:3]}", f"/proc/self/fd/{number}"]
+            for name in (file, names[at % 6], names[(at + 3) % 6]):
                 said = f"avro: {name} is the standard {stream}\n"
                 named = words.format(name).split()
                 yield named, file, {number}, "" if number == 1 else said, said if number == 1 else ""
@@ -287,7 +289,8 @@ def fifo_run(program, words, data):
     except subprocess.TimeoutExpired:
         return "no answer", "", ""
     finally:
-        writer.join()
+        while writer.is_alive():
+            os.read(there, 65_536)
         os.close(there)
 
 
