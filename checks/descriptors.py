@@ -99,7 +99,7 @@ def fault_of_calls(calls):
     """What is wrong with the calls, or None."""
     opened = [re.search(r"= (-?\d+)", line)[1] for line in calls[:3] if line.startswith(HELD)]
     if len(opened) != 3 or "-1" in opened:
-        return f"/dev/null is not opened first: {calls[:3]}"
+        return f"/ is not opened first: {calls[:3]}"
     is_held = True
     for line in calls[3:]:
         call = re.match(r"(\w+)\(([^,)]*).*= (-?\d+)", line)
