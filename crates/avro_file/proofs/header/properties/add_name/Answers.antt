@@ -8,5 +8,5 @@ pub returns-then-is_new-clause-added : goal.returns-then-is_new-clause-added
 returns-then-is_new-clause-added c = λ word.
     let key = string_bytes c.in_ok-kept.kept in
     let same : key ≡ c.args.content.now = c.in_ok-kept.ensures.ok ∙ c.in-Ok.ensures.text.0 in
-    btree_set_updates_text key c.args.names.now c.insert.new.self true c.in-Ok.ensures.updates word
+    btree_set_updates_text key c.args.names.now c.insert.new.self true c.in-Ok-insert.ensures.updates word
     ∙ ap (λ (b : List ℕ). cond (bytes_eq b word) true (contains_text c.args.names.now word)) same
