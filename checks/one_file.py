@@ -70,7 +70,7 @@ WORDS = [
     ("read {} d", "a.avsc"),
     ("read a.avsc {}", "d"),
     ("read none {} --skip 1", "d"),
-    ("read a.avsc d --reader {}", "a.avsc"),
+    ("read a.avsc d --reader {}", "b.avsc"),
 ]
 # Those of the commands that write more than errors to the standard error.
 TOLD = [
