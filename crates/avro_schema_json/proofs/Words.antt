@@ -25,7 +25,7 @@ pub use Rattle.avro_schema_json.specs.declared.raw.RawField.{RawField as KeptFie
 pub use Rattle.avro_schema_json.specs.declared.raw.RawNode.{RawNode as KeptNode}
 pub use Rattle.avro_schema_json.specs.inside.Covers.{Covers, fits, own_ids, owns, place_of}
 pub use Rattle.avro_schema_json.specs.inside.Kinds.{AreKinds, HasKind, HasRow, KeepsKinds, kind_of, pair_cmp}
-pub use Rattle.avro_schema_json.specs.inside.KnownNames.{IsIndexOf, Key, key_cmp, number_of}
+pub use Rattle.avro_schema_json.specs.inside.KnownNames.{AreNumbered, AreWithin, Key, known_in, name_at, number_of}
 pub use Rattle.avro_schema_json.specs.inside.Marks.{ArePartsMarked, IsMarked, IsPartUnder, IsSetOf, Stays, marked, member_at, part_at}
 pub use Rattle.avro_schema_json.specs.inside.OwnDefaults.{all_without_defaults, default_of_fields, fields_seen, node_or_null, own_default, without_defaults}
 pub use Rattle.avro_schema_json.specs.inside.Parents.{AreFields, AreParents, HasField, HasParent, HasParts, IsField, IsParent, IsPart, IsStep, KeepsLabels, KeepsParents, KeepsUnder, Label, words_at, words_of, words_or_none, words_under, has_bit, label_of}

@@ -10,6 +10,7 @@ ghost use Rattle.serde_json.specs.View.{view, items_view, members_view};
 
 mod attributes;
 mod leaves;
+mod name_key;
 mod name_table;
 mod progress;
 mod words;
@@ -22,6 +23,7 @@ use crate::error::SchemaError;
 use crate::raw::{RawField, RawNode, RawRecord};
 use avro_name::Namespace;
 use avro_schema::NodeId;
+use avro_texts::Seeded;
 use serde_json::Value;
 use std::alloc::Global;
 
@@ -224,9 +226,10 @@ impl<'a> Progress<'a> {
     }
 }
 
-/// The nodes that a tree declares, in the order in which they begin.
+/// The nodes that a tree declares, in the order in which they begin. The hashes of its names begin with the seed.
 pub(crate) fn declarations<'a>(
     alloc: Global,
+    seed: Seeded,
     tree: &'a Value,
 ) -> Result<Vec<RawNode<'a>>, SchemaError>
     ensures found { IfOk result (λ raws. ((made_of (view tree.now)).faults ≡ []) × (raw_nodes_of raws.items ≡ (made_of (view tree.now)).nodes)) }
@@ -234,7 +237,7 @@ pub(crate) fn declarations<'a>(
 {
     let mut progress = Progress {
         nodes: Vec::new(alloc),
-        names: NameTable::new(alloc),
+        names: NameTable::new(alloc, seed),
     };
     let root = progress.names.space(&Namespace::null(alloc))?;
     progress.read_type(alloc, &root, tree)?;

@@ -16,6 +16,7 @@ use crate::declarations::declarations;
 use crate::error::SchemaError;
 use crate::floats::has_float;
 use avro_schema::Schema;
+use avro_texts::Seeded;
 use serde_json::Value;
 use std::alloc::Global;
 
@@ -42,7 +43,7 @@ pub fn read_schema(alloc: Global, text: &[u8]) -> Result<Schema, SchemaError>
         return Err(SchemaError::LimitExceeded);
     }
     let tree = read_tree(alloc, text)?;
-    declared_schema(alloc, &tree)
+    declared_schema(alloc, Seeded::of_text(text), &tree)
 }
 
 /// The tree of a JSON text.
@@ -61,8 +62,8 @@ fn read_tree(alloc: Global, text: &[u8]) -> Result<Value, SchemaError>
     }
 }
 
-/// The schema that a tree declares.
-fn declared_schema(alloc: Global, tree: &Value) -> Result<Schema, SchemaError>
+/// The schema that a tree declares. The hashes of its names begin with the seed.
+fn declared_schema(alloc: Global, seed: Seeded, tree: &Value) -> Result<Schema, SchemaError>
     ensures found { IfOk result (λ schema. DeclaresSchema (view tree.now) (schema_nodes schema)) }
     ensures refused { IfErr result (λ e. (e ≡ OutOfMemory) ⊎ HasFault (view tree.now) e) }
     ensures json { IfErr result (λ e. e ≢ NotJson) }
@@ -70,6 +71,6 @@ fn declared_schema(alloc: Global, tree: &Value) -> Result<Schema, SchemaError>
     if has_float(tree) {
         return Err(SchemaError::UnsupportedNumber);
     }
-    let raws = declarations(alloc, tree)?;
+    let raws = declarations(alloc, seed, tree)?;
     schema_of(alloc, raws)
 }

@@ -1,12 +1,12 @@
 -- How contracts see the names that are known, and the numbers of their namespaces.
 use Rattle.std.specs.Prelude.{◌≡◌, ℕ, List, Some}
 use Rattle.avro_schema_json.specs.Declares.{Known}
-use Rattle.avro_schema_json.specs.inside.KnownNames.{number_of}
+use Rattle.avro_schema_json.specs.inside.KnownNames.{number_of, known_in}
 use Rattle.avro_schema_json.specs.declared.declarations.name_table.NameTable.{NameTable}
 use Rattle.avro_schema_json.specs.declared.declarations.name_table.Space.{Space}
 
 abbrev pub known_of : NameTable → Known
-known_of names = names.order.items
+known_of names = known_in names.numbers.keys names.ids.entries
 
 -- the namespace has this number
 abbrev pub IsNumbered : NameTable → Space → Type 0

@@ -1,10 +1,13 @@
 //! The names that are known.
 
-ghost use Rattle.avro_schema_json.specs.inside.KnownNames.{IsIndexOf};
+ghost use Rattle.std.proofs.Props.{props};
+ghost use Rattle.avro_schema_json.specs.inside.KnownNames.{AreNumbered};
 
+use crate::declarations::name_key::NameKey;
 use avro_name::{FullName, Namespace};
+use avro_texts::Seeded;
+use indexmap::{IndexMap, IndexSet};
 use std::alloc::{AllocError, Global};
-use std::collections::BTreeMap;
 
 /// A namespace, and its number in a table of names.
 #[derive(Drop)]
@@ -16,14 +19,13 @@ pub(crate) struct Space {
 /// The names of the definitions that have begun, in their order, with the ids of their nodes.
 ///
 /// The namespaces are numbered, and a name is found by the number of its namespace and its simple
-/// part, so that a long namespace is not looked at for each name in it. Names are found by their
-/// order, not by a hash, so that no choice of names makes it slow.
+/// part, so that a long namespace is not looked at for each name in it. The hashes of names begin
+/// with a digest of the whole text, so that no choice of names makes it slow.
 #[derive(Drop)]
 pub(crate) struct NameTable {
-    order: Vec<(FullName, u32)>,
-    numbers: BTreeMap<Namespace, u32>,
-    ids: BTreeMap<(u32, String), u32>,
-    ghost agree: { IsIndexOf order.items numbers ids },
+    numbers: IndexSet<Namespace, Seeded>,
+    ids: IndexMap<(u32, String), u32, Seeded>,
+    ghost agree: { AreNumbered numbers ids } by { Prim.hlevel props },
 }
 
 impl NameTable {
@@ -33,13 +35,12 @@ impl NameTable {
     ghost use Rattle.avro_schema_json.specs.inside.KnownSeen.{known_of, IsNumbered, KeepsNumbers};
 
     /// No names.
-    pub fn new(alloc: Global) -> NameTable
+    pub fn new(alloc: Global, seed: Seeded) -> NameTable
         ensures { known_of result ≡ [] }
     {
         NameTable {
-            order: Vec::new(alloc),
-            numbers: BTreeMap::new(alloc),
-            ids: BTreeMap::new(alloc),
+            numbers: IndexSet::with_hasher(alloc, seed),
+            ids: IndexMap::with_hasher(alloc, seed),
         }
     }
 
@@ -51,34 +52,23 @@ impl NameTable {
         ensures kept { KeepsNumbers self.old self.new }
     {
         let copy = namespace.clone()?;
-        match self.numbers.get(namespace).copied() {
-            Some(number) => Ok(Space {
-                namespace: copy,
-                number,
-            }),
-            None => {
-                let number = self.add_number(namespace)?;
-                Ok(Space {
-                    namespace: copy,
-                    number,
-                })
-            }
-        }
+        let number = self.add_number(namespace)?;
+        Ok(Space {
+            namespace: copy,
+            number,
+        })
     }
 
-    /// Gives a number to a namespace that has none.
+    /// The number of a namespace, which it is given where it has none.
     fn add_number(&mut self, namespace: &Namespace) -> Result<u32, AllocError>
-        requires { number_of self.old.numbers namespace.now ≡ None }
         ensures numbered { IfOk result (λ number. number_of self.new.numbers namespace.now ≡ Some number) }
         ensures known { known_of self.new ≡ known_of self.old }
         ensures kept { KeepsNumbers self.old self.new }
     {
-        let Ok(number) = u32::try_from(self.numbers.len()) else {
-            return Err(AllocError);
-        };
         let key = namespace.clone()?;
-        match self.numbers.insert(key, number) {
-            Ok(_) => Ok(number),
+        let (number, _) = self.numbers.insert_full(key)?;
+        match u32::try_from(number) {
+            Ok(number) => Ok(number),
             Err(_) => Err(AllocError),
         }
     }
@@ -87,20 +77,29 @@ impl NameTable {
     pub fn id(&self, alloc: Global, name: &FullName) -> Result<Option<u32>, AllocError>
         ensures { IfOk result (λ id. id ≡ id_of name.now (known_of self.now)) }
     {
-        match self.numbers.get(name.space()) {
-            Some(number) => self.id_in(alloc, *number, name.simple()),
+        match self.numbers.get_index_of(name.space()) {
+            Some(i) => {
+                let Ok(number) = u32::try_from(i) else {
+                    return Err(AllocError);
+                };
+                self.id_in(alloc, number, name.simple())
+            }
             None => Ok(None),
         }
     }
 
     /// The id of the definition of a simple name in the namespace of this number.
-    pub fn id_in(&self, alloc: Global, number: u32, simple: &str) -> Result<Option<u32>, AllocError>
+    pub fn id_in(
+        &self,
+        _alloc: Global,
+        number: u32,
+        simple: &str,
+    ) -> Result<Option<u32>, AllocError>
         ensures { IfOk result (λ id. (namespace : List ℕ) → number_of self.now.numbers namespace ≡ Some number
             → id ≡ id_of (record { namespace = namespace; simple = simple.now }) (known_of self.now)) }
     {
-        let text = String::from_str(alloc, simple)?;
-        let key = (number, text);
-        Ok(self.ids.get(&key).copied())
+        let key = NameKey { number, simple };
+        Ok(self.ids.get(key).copied())
     }
 
     /// Adds a name that is not known, in a numbered namespace.
@@ -117,13 +116,7 @@ impl NameTable {
     {
         let text = String::from_str(alloc, name.simple())?;
         let key = (space.number, text);
-        self.order.push((name.clone()?, id))?;
-        match self.ids.insert(key, id) {
-            Ok(_) => Ok(()),
-            Err(_) => {
-                self.order.pop();
-                Err(AllocError)
-            }
-        }
+        self.ids.insert(key, id)?;
+        Ok(())
     }
 }

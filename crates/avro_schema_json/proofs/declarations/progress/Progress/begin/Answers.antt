@@ -1,4 +1,4 @@
-use Rattle.avro_schema_json.proofs.Words.{arith, refl, subst, sym, ap, ◌∙◌, is_some, members_view, Node, name_in, RawNode, defining, id_of, State, IsAdded, state_of}
+use Rattle.avro_schema_json.proofs.Words.{refl, subst, sym, ap, ◌∙◌, is_some, members_view, Node, name_in, RawNode, defining, id_of, State, IsAdded, state_of}
 use Rattle.avro_schema_json.proofs.KnownFound.{found_in}
 use Rattle.avro_schema_json.proofs.PartsRead.{ok-or_memory, not_some, name_faults-new, beginning-known}
 use Rattle.avro_schema_json.proofs.declarations.progress.Progress.begin.Goals as goal
@@ -17,7 +17,7 @@ pub add-requires : goal.add-requires
 add-requires c =
     let name = c.in_ok-name.name in
     let space = c.in_ok-space.space in
-    let is = found_in c.space_of.new.self.names space name c.simple.result.now c.in_ok-known.known c.space_of.new.self.names.order.items
+    let is = found_in c.space_of.new.self.names space name c.simple.result.now c.in_ok-known.known _
     c.in_ok-space.ensures.numbered c.in_ok-space.ensures.namespace c.simple.ensures.part refl c.in_ok-known.ensures in
     let absent = not_some _ (ap is_some (sym is) ∙ sym c.is_some.ensures ∙ c.if-is_some.false) in (
       c.reserve.ensures.kept space.namespace space.number c.in_ok-space.ensures.numbered,
@@ -30,7 +30,13 @@ returns-in_err-add-clause-kept c = λ namespace number h.
     c.add.ensures.kept namespace number (c.reserve.ensures.kept namespace number (c.space_of.ensures.kept namespace number h))
 
 pub returns-clause-kept : goal.returns-clause-kept
-returns-clause-kept c = grind arith
+returns-clause-kept c = λ namespace number h.
+    c.add.ensures.kept namespace number (c.reserve.ensures.kept namespace number (c.space_of.ensures.kept namespace number h))
+
+pub returns-clause-numbered : goal.returns-clause-numbered
+returns-clause-numbered c =
+    let space = c.in_ok-space.space in
+    c.add.ensures.kept space.namespace space.number (c.reserve.ensures.kept space.namespace space.number c.in_ok-space.ensures.numbered)
 
 pub returns-clause-begun : goal.returns-clause-begun
 returns-clause-begun c =
