@@ -2,6 +2,10 @@
 //! element in place, or returns its fault and the offset of the fault.
 //!
 //! `specs/` defines the encodings, and the first fault of bytes that are not one.
+//!
+//! A node without parts is counted in place ([`Cursor::count`]), and only the others are entered, which is faster. The keys of a map that
+//! is read are slices of the input: [`Keys`] stores the first three inline, without memory, and the others in an ordered tree, so that no
+//! choice of keys makes them slow.
 #![tactic(auto)]
 
 mod block;
