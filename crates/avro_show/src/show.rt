@@ -20,7 +20,7 @@ use avro_schema::Datum;
 ///
 /// # Errors
 ///
-/// The output failed, or took none of the bytes; memory ran out. Some of the text was put, or none.
+/// The output failed, or took none of the bytes; memory ran out. Some of the text may have been put.
 pub fn put_resolved_line<O: Output>(
     out: &mut O,
     text: &mut Text,
