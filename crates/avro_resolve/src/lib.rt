@@ -7,6 +7,11 @@
 //! [`PlanTable`] keeps; a [`PlanRef`] borrows the table and the schemas. The contracts of a builder are
 //! about the values it builds; a [`Put`] may instead write to an output as it goes.
 //!
+//! [`resolve`] makes a plan of the pairs that the roots lead to, and gives the datum to it part by part (`giving.rt`), as reading gives
+//! what bytes start with: so resolution of data and of bytes have one maker and one proof. What each writer's field resolves to is stored
+//! in the slot of its index, and moved from there to the reader's field; no slot is used twice, since the names and aliases of a record's
+//! fields are distinct. The path of a fault is built from its end, and reversed once.
+//!
 //! # How a plan is kept
 //!
 //! A table keeps the comparison of each pair that it is given (`Plan::new`, `PlanTable::of`) or that the roots lead to
