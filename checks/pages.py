@@ -302,8 +302,12 @@ def items_of(crate: str, known: set[str]) -> Iterator[Function]:
                 held.setdefault(holder, []).append(function)
             else:
                 free[(module, function.name)] = function
-    for path, module, name in sorted(reached(crate), key=lambda it: ("::" in it[0], it[0].lower())):
+    seen = set()
+    for path, module, name in sorted(reached(crate), key=lambda it: ("::" in it[0], place_in(crate, it))):
         text = modules(crate)[module]
+        if (module, name) in seen:
+            continue
+        seen.add((module, name))
         if (module, name) in free and re.search(rf"^pub (?:\w+ )*(?:extern \S+ )?fn {name}\b", text, re.MULTILINE):
             yield free[(module, name)]._replace(name=path)
         elif re.search(rf"^pub trait {name}\b", text, re.MULTILINE):
@@ -311,6 +315,14 @@ def items_of(crate: str, known: set[str]) -> Iterator[Function]:
         elif re.search(rf"^pub (?:struct|enum) {name}\b", text, re.MULTILINE):
             for function in held.get(name, []):
                 yield function._replace(name=f"{path}::{function.name}")
+
+
+def place_in(crate: str, item: tuple[str, tuple[str, ...], str]) -> tuple[str, int]:
+    """Where an item stands: laws in the order of their file, others by their names."""
+    path, module, name = item
+    if "::" not in path:
+        return path.lower(), 0
+    return path.split("::")[0], re.search(rf"^pub .*\b{name}\b", modules(crate)[module], re.MULTILINE).start()
 
 
 def trait_of(path: str, functions: list[Function]) -> Function:

@@ -1,5 +1,5 @@
-//! A cursor over the binary encoding of data (Avro 1.11, "Binary Encoding"). Each call reads one
-//! element in place, or returns its fault and the offset of the fault.
+//! A cursor over the binary encoding of data (Avro 1.11, "Binary Encoding"). Each call reads one element in place, or returns its fault
+//! and the offset of the fault, and then the cursor has not moved.
 //!
 //! `specs/` defines the encodings, and the first fault of bytes that are not one.
 //!
