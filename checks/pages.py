@@ -81,6 +81,8 @@ DEFINED = re.compile(r"^( *)((?:(?:abbrev|data|record|unfoldable) )*)pub ((?:(?:
 MUTUAL = re.compile(r"^(?:abbrev |data )?mutual$")
 FUNCTION = re.compile(r'^( *)(pub )?(?:const |unsafe )?(?:extern "C" )?fn (\w+)')
 HOLDER = re.compile(r"^(?:pub trait (\w+)|impl\b(.*))")
+TYPE = re.compile(r"^pub (?:struct|enum) (\w+)")
+EXTERN = re.compile(r"^pub extern \S+ fn (\w+)", re.MULTILINE)
 CLAUSE = re.compile(r"^\s*(requires|ensures|reads)\b ?(\w+)? ?\{ ?(.*)")
 LINK = re.compile(r"\[(`[^`\]]+`)\](?:\([^)]*\))?")
 PROMISE = "It breaks: "
@@ -195,7 +197,10 @@ def stated(name: str | None, body: str, known: set[str]) -> str:
 
 
 def functions_of(file: Path, known: set[str]) -> Iterator[tuple[str, Function]]:
-    """The public functions of a file, and the methods of its public traits, each with the type or trait that has it."""
+    """The public functions of a file, and the methods of its public traits, each with the type or trait that has it.
+
+    A type, a trait, and a trait that a type implements stand among them without a name.
+    """
     lines = file.read_text(encoding="utf-8").splitlines()
     text: list[str] = []
     holder, is_trait = "", False
@@ -206,12 +211,19 @@ def functions_of(file: Path, known: set[str]) -> Iterator[tuple[str, Function]]:
             continue
         if bare.startswith("#["):
             continue
+        place = f"{file.relative_to(ROOT)}:{number}"
+        it = TYPE.match(line)
+        if it:
+            yield it[1], Function(place, "", "\n".join(text), [], [])
         it = HOLDER.match(line)
         if it:
             is_trait = bool(it[1])
-            holder = it[1] or owner_of(it[2])
+            holder, done = (it[1], "") if is_trait else owner_of(it[2])
             if is_trait:
-                yield holder, Function(f"{file.relative_to(ROOT)}:{number}", "", "\n".join(text), [], [])
+                yield holder, Function(place, "", "\n".join(text), [], [])
+            elif done:
+                yield holder, Function(place, "", "", [], [f"those of `{done}`"])
+                holder = ""
         elif line == "}":
             holder, is_trait = "", False
         it = FUNCTION.match(line)
@@ -219,14 +231,15 @@ def functions_of(file: Path, known: set[str]) -> Iterator[tuple[str, Function]]:
             requires, ensures = [], []
             for clause in clauses_of(lines[number - 1 :], it[1]):
                 (requires if clause[1] == "requires" else ensures).append(stated(clause[2], clause[3], known))
-            yield holder, Function(f"{file.relative_to(ROOT)}:{number}", it[3], "\n".join(text), requires, ensures)
+            yield holder, Function(place, it[3], "\n".join(text), requires, ensures)
         text = []
 
 
-def owner_of(header: str) -> str:
-    """The type of a block of functions of its own; none for one that implements a trait."""
+def owner_of(header: str) -> tuple[str, str]:
+    """The type of a block of functions, and the trait that it implements there, if it does."""
     header = re.sub(r"^<(?:[^<>]|<[^<>]*>)*>", "", header.strip()).strip()
-    return "" if " for " in header else re.match(r"\w*", header)[0]
+    done, _, owner = header.rpartition(" for ")
+    return re.match(r"\w*", owner)[0], re.match(r"\w*", done)[0]
 
 
 def clauses_of(lines: list[str], indent: str) -> Iterator[re.Match[str]]:
@@ -261,7 +274,7 @@ def reached(crate: str) -> Iterator[tuple[str, tuple[str, ...], str]]:
 def reached_in(crate: str, module: tuple[str, ...], front: str) -> Iterator[tuple[str, tuple[str, ...], str]]:
     """The same of one module."""
     own, again = exports(crate, module)
-    for name in sorted(own):
+    for name in sorted({*own, *EXTERN.findall(modules(crate)[module])}):
         yield front + name, module, name
     for name, path in sorted(again.items()):
         if path[0] in ("crate", "self"):
@@ -293,7 +306,8 @@ def file_of(crate: str, module: tuple[str, ...]) -> Path:
 
 
 def items_of(crate: str, known: set[str]) -> Iterator[Function]:
-    """The public functions and traits of a crate, by the names that callers have."""
+    """The public functions and traits of a crate, and the types that implement one, by the names that callers have."""
+    traits = {f"those of `{it}`" for name in crates() for text in modules(name).values() for it in re.findall(r"^pub trait (\w+)", text, re.MULTILINE)}
     free: dict[tuple[tuple[str, ...], str], Function] = {}
     held: dict[str, list[Function]] = {}
     for module in modules(crate):
@@ -313,8 +327,13 @@ def items_of(crate: str, known: set[str]) -> Iterator[Function]:
         elif re.search(rf"^pub trait {name}\b", text, re.MULTILINE):
             yield trait_of(path, held.get(name, []))
         elif re.search(rf"^pub (?:struct|enum) {name}\b", text, re.MULTILINE):
-            for function in held.get(name, []):
-                yield function._replace(name=f"{path}::{function.name}")
+            functions = held.get(name, [])
+            done = [it.ensures[0] for it in functions if not it.name and it.ensures and it.ensures[0] in traits]
+            if done:
+                yield functions[0]._replace(name=path, text=next((it.text for it in functions if it.text and not it.name), ""), ensures=done)
+            for function in functions:
+                if function.name:
+                    yield function._replace(name=f"{path}::{function.name}")
 
 
 def place_in(crate: str, item: tuple[str, tuple[str, ...], str]) -> tuple[str, int]:
@@ -327,8 +346,8 @@ def place_in(crate: str, item: tuple[str, tuple[str, ...], str]) -> tuple[str, i
 
 def trait_of(path: str, functions: list[Function]) -> Function:
     """A trait as one row, with the clauses of all its methods."""
-    clauses = list(dict.fromkeys(clause for function in functions for clause in function.ensures))
-    return functions[0]._replace(name=path, ensures=[it.replace("its clause", "those without a name") for it in clauses])
+    clauses = list(dict.fromkeys(clause for function in functions if function.name for clause in function.ensures))
+    return functions[0]._replace(name=path, ensures=[it for it in clauses if it.startswith("`")] + ["those without a name"] * any(not it.startswith("`") for it in clauses))
 
 
 def merged(clauses: list[str]) -> str:
