@@ -1,5 +1,4 @@
 //! The answers of the program `avro` as a static library for C. `bindings/c/avrojudge.h` declares these functions.
-//!
 //! Each takes the bytes of texts, and answers a status; what the program prints is put into `out`, as much of it as there
 //! is room for, and `wanted` is the length of all of it. With the status of an answer this is a text that is an answer to these
 //! texts, by the clauses of `avro_answer`; with 3 it is the line of a refusal that is true of them, and not due to a lack of memory;

@@ -1,7 +1,8 @@
 //! Object container files (Avro 1.11, "Object Container Files").
 //!
 //! A file is read part by part from an `Input` of `avro_device`: [`Header::read`] takes its header, [`Blocks::next`] takes a
-//! block, and [`Block::read`] reads the data of a block. A caller that keeps its own [`Buffer`] and may take ahead of the
+//! block, and [`Block::read`] reads the data of a block. A [`Checker`] reads those of all blocks, and knows whether one was without
+//! bytes: all further data are then the same. A caller that keeps its own [`Buffer`] and may take ahead of the
 //! part at hand uses [`take_header`] and [`take_block`].
 //!
 //! A [`Buffer`] holds the bytes that were taken but belong to no part yet. The header is taken part by part: the magic, the

@@ -24,7 +24,11 @@
 //! A table also marks records that can be copied as raw bytes: the pair leads to the reader's record, no field is missing,
 //! and each field that has a source is a leaf whose encoding is the same for the reader, as an int's is for a long. Such a
 //! record is made from the encodings of its fields, in the reader's order and with the defaults between them. If an
-//! encoding is padded, it is not the plain one, and the record is read part by part.
+//! encoding is padded, it is not the plain one, and the record is read part by part. Enums are excluded, since their symbols may have
+//! other positions, and so are bytes as a string, which must be UTF-8; a field that no reader's field takes may also be an enum.
+//!
+//! `reached` keeps the pairs that the roots lead to until these have 262,144 parts. A pair that is not kept is found by its names, so this
+//! limit bounds memory and changes no result.
 #![tactic(auto)]
 
 mod error;
