@@ -25,7 +25,7 @@ const PIECE: usize = 1_048_576;
 ///
 /// # Errors
 ///
-/// The output failed, or took none of the bytes; memory ran out. Some of the text may have been put.
+/// The output failed, or took none of the bytes; memory ran out. No clause says what was put then.
 pub fn put_faults<O: Output>(
     out: &mut O,
     alloc: Global,

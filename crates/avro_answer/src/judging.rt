@@ -30,7 +30,7 @@ use std::alloc::Global;
 ///
 /// # Errors
 ///
-/// The output failed, or took none of the bytes; memory ran out. Some of the text may have been put.
+/// The output failed, or took none of the bytes; memory ran out. No clause says what was put then.
 #[tactic(auto, using(crate::proofs::VerdictAnswers::is_small))]
 pub fn judge_schemas<'a, O: Output>(
     out: &mut O,

@@ -21,7 +21,7 @@ use avro_schema::Datum;
 ///
 /// # Errors
 ///
-/// The output failed, or took none of the bytes; memory ran out. Some of the text may have been put.
+/// The output failed, or took none of the bytes; memory ran out. No clause says what was put then.
 pub fn put_resolved_line<O: Output>(
     out: &mut O,
     text: &mut Text,
