@@ -136,9 +136,9 @@ def kit_rows(found: list[tuple[Path, str]]) -> list[str]:
     return [f"| the kit's `{file}` | | {shown[file]} |" for file in sorted(shown)]
 
 
-def table(roots: Roots, known: Roots = ()) -> str:
+def table(roots: Roots, known: Roots = (), named: bool = True) -> str:
     """The table of what the roots reach besides what is known, a row a file in the order of reading, then the kit's
-    files, and a last row of sums, without those."""
+    files, and a last row of sums, without those. The definitions are named or counted."""
     names: dict[Path, list[str]] = {}
     before = set(reached(known))
     besides = [found for found in reached(roots) if found not in before]
@@ -149,7 +149,7 @@ def table(roots: Roots, known: Roots = ()) -> str:
         order = [name for name in read(file).lines if name in names[file]]
         count = sum(len(read(file).lines[name]) for name in order)
         total = [total[0] + len(order), total[1] + count]
-        shown = ", ".join(f"`{name}`" for name in order)
+        shown = ", ".join(f"`{name}`" for name in order) if named else len(order)
         rows.append(f"| `{file.relative_to(ROOT / 'crates')}` | {count} | {shown} |")
     rows += kit_rows(besides)
     rows.append(f"| {len(names)} files | {total[1]} | {total[0]} definitions |")
@@ -158,7 +158,12 @@ def table(roots: Roots, known: Roots = ()) -> str:
 
 def tables() -> list[str]:
     """The tables of the page."""
-    return [table(HEADLINE), table(CONFIRMED), table(ANSWERED, HEADLINE), table(READ, HEADLINE + ANSWERED)]
+    return [
+        table(HEADLINE),
+        table(CONFIRMED),
+        table(ANSWERED, HEADLINE, named=False),
+        table(READ, HEADLINE + ANSWERED),
+    ]
 
 
 def main() -> int:
