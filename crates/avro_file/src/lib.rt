@@ -15,6 +15,7 @@ mod block;
 mod error;
 mod header;
 mod input;
+pub mod laws;
 mod limits;
 
 pub use block::Block;

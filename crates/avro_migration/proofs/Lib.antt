@@ -1,0 +1,3 @@
+pub mod Unresolved
+pub mod Migrated
+pub mod ReadData
