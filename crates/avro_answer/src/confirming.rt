@@ -39,7 +39,7 @@ pub fn confirm_schemas(
     Ok(answer_confirmed(alloc, is_confirmed, form)?)
 }
 
-/// What is answered of what a certificate confirms, or does not confirm.
+/// The answer `confirmed` with status 0, or `not confirmed` with status 1. With JSON output the status alone is proved.
 ///
 /// # Errors
 ///
