@@ -20,6 +20,7 @@ use Rattle.avro_compare.specs.declared.comparison.Comparison.{Comparison}
 abbrev pub AreSourcesFrom : ℕ → List FieldNode → List FieldNode → List (ℕ × ℕ) → Type 0
 AreSourcesFrom n ws rs sources = AreAscending n sources × ((k : ℕ) (f : FieldNode) → n ≤ k → slice_get rs k ≡ Some f → entry_at sources k ≡ source_of ws f)
 
+-- the reader's fields that have a source are there with it, in order
 abbrev pub AreSources : List FieldNode → List FieldNode → List (ℕ × ℕ) → Type 0
 AreSources ws rs sources = AreSourcesFrom 0 ws rs sources
 
@@ -32,6 +33,7 @@ part_or_none (Some at) = at
 abbrev pub AreForFrom : ℕ → List FieldNode → List FieldNode → List (ℕ × At) → Type 0
 AreForFrom n ws rs parts = AreAscending n parts × ((k : ℕ) → n ≤ k → part_or_none (entry_at parts k) ≡ field_for ws rs k)
 
+-- the writer's fields that are for something are there with it, in order
 abbrev pub AreFor : List FieldNode → List FieldNode → List (ℕ × At) → Type 0
 AreFor ws rs parts = AreForFrom 0 ws rs parts
 
@@ -54,6 +56,7 @@ pub record IsComparison (writer reader : List Node) (p : Comparison) : Type 0 wh
   pub aims : p.aim ≡ aim_at writer reader p.w p.r
   pub inside : (q : NodeId) → p.aim ≡ To None q → AreInside (node_at writer p.w.0) (node_at reader p.r.0) p
 
+-- the same of each of several
 abbrev pub AreComparisons : List Node → List Node → List Comparison → Type 0
 AreComparisons writer reader pairs = (k : ℕ) (p : Comparison) → slice_get pairs k ≡ Some p → IsComparison writer reader p
 

@@ -33,7 +33,8 @@ pub(crate) struct Walk {
     faults: Vec<Finding>,
 }
 
-/// Finds all faults of a reader's schema with a writer's at once.
+/// Finds exactly the pairs that the roots lead to, but for dead nodes of the writer's, each once and breadth-first, and
+/// exactly their faults; none if and only if no datum fails.
 ///
 /// # Errors
 ///

@@ -44,7 +44,11 @@ pub(crate) fn index_next(known: &IndexSet<u64, Seeded>, key: u64, next: &mut usi
 }
 
 /// Adds a number if it is not known, which is looked for first after the number that was added before.
-pub(crate) fn add_next(known: &mut IndexSet<u64, Seeded>, key: u64, next: &mut usize) -> Result<(), Memory>
+pub(crate) fn add_next(
+    known: &mut IndexSet<u64, Seeded>,
+    key: u64,
+    next: &mut usize,
+) -> Result<(), Memory>
     ensures { OnOk result (keys known.new ≡ insert_key nat_eq (keys known.old) key) }
 {
     if is_at(known, *next, key) {
