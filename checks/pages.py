@@ -88,12 +88,6 @@ LINK = re.compile(r"\[(`[^`\]]+`)\](?:\([^)]*\))?")
 PROMISE = "It breaks: "
 # What each call that allocates says of errors.
 MEMORY = "Memory ran out."
-# The files whose first definitions still have no comment, and a crate whose edits have no line.
-BARE = {
-    *("avro_compare/Fault", "avro_compare/FaultText", "avro_compare/Leads", "avro_compare/Resolve", "avro_compare/Seen"),
-    *("avro_least/Reached", "avro_least/SeenAsk", "avro_least/SeenLeast", "avro_judge/Answered"),
-    *("avro_schema_json/DeclaredText", "avro_schema_json/PlainTree", "avro_texts"),
-}
 
 
 class Definition(NamedTuple):
@@ -178,8 +172,7 @@ def page_of_definitions(findings: list[str]) -> str:
                     rows[-1][0].append(found.name)
                 else:
                     rows.append(([found.name], ""))
-                    if f"{crate}/{file.stem}" not in BARE:
-                        findings.append(f"{file.relative_to(ROOT)}:{found.line}: {found.name} has no comment")
+                    findings.append(f"{file.relative_to(ROOT)}:{found.line}: {found.name} has no comment")
             if rows:
                 parts.append(f"**`{file.stem}`**: {sentence(head_of(lines, '--'))}\n\n| Definition | In one sentence |\n|---|---|\n")
                 parts.append("".join(f"| {', '.join(f'`{it}`' for it in names)} | {sentence(text)} |\n" for names, text in rows) + "\n")
@@ -393,7 +386,7 @@ def wrong(findings: list[str]) -> Iterator[str]:
             first = file.read_text(encoding="utf-8").splitlines()[0]
             if first.startswith(PROMISE):
                 yield f"| `{crate}/{file.stem}` | {sentence(first[len(PROMISE) :])} |\n"
-            elif crate not in BARE:
+            else:
                 findings.append(f"{file.relative_to(ROOT)}:1: no line '{PROMISE.strip()}'")
 
 
