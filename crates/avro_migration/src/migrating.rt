@@ -66,9 +66,9 @@ pub fn migrate<I: Input, O: Output>(
         → Moved I.gives O.keeps input.old input.new output.old output.new
         (λ taken put. IsNoneWithin limits.now (schema_nodes writer.now) (schema_nodes reader.now.1) (I.ended input.new) taken)) }
 {
-    fault_or_within();
     prefix();
     plain_encodes();
+    fault_or_within();
     resolved_fits();
     declared_is_schema();
     one_schema();
@@ -111,7 +111,7 @@ pub fn copied_after_a_yes<I: Input, O: Output>(
 ///
 /// # Errors
 ///
-/// Those of [`Block::read`] but the last.
+/// `LimitExceeded` or `InvalidDatum`; `BytesLeft` after the last datum; `OutOfMemory`.
 pub fn read_after_a_yes<B: Build>(
     block: &Block<'_>,
     approved: &Approved<'_>,
