@@ -88,7 +88,7 @@ fn put_shown<O: Output>(
 ///
 /// # Errors
 ///
-/// The output failed, or took none of the bytes; memory ran out. Some of the text was put, or none.
+/// The output failed, or took none of the bytes; memory ran out. No clause says what was put then.
 pub fn put_display<O: Output>(
     out: &mut O,
     text: &mut Vec<u8>,

@@ -39,8 +39,9 @@ fn given_marker(sync: Option<[u8; 16]>)
     }
 }
 
-/// Copies a file for a reader's schema that reads everything written under a writer's. If the file is of the writer's schema,
-/// no error says that a datum does not resolve.
+/// Copies a file for a reader's schema that reads everything written under a writer's. A copy that ends well is a file of the
+/// reader's schema, with what resolution gives of each datum, and its own copy. If the file is of the writer's schema, no error says
+/// that a datum does not resolve, and none is one of a block, if the file and its copy are within the limits.
 ///
 /// # Errors
 ///
@@ -79,7 +80,7 @@ pub fn migrate<I: Input, O: Output>(
     copy(alloc, input, output, Some(reader), sync, limits)
 }
 
-/// The same for an approval, whose reader's schema is that of the text.
+/// Copies a file for the reader's schema of an approval, which is that of the text, as [`migrate`] does.
 ///
 /// # Errors
 ///

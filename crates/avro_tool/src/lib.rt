@@ -1,4 +1,6 @@
-//! The program `avro`, as a function over its words, a reader and two writers.
+//! The program `avro`, as a function over its words, a reader and two writers. Of its own functions the exit status of each `Failure` and
+//! the line of each refusal are proved, and that `Watched`, an input around another for `--progress`, takes, ends and counts as the other
+//! does; the rest is safe, and returns.
 #![tactic(auto)]
 
 mod command_line;
