@@ -131,6 +131,7 @@ robust: $(PROGRAM) $(LIBRARY) ## runs checks/ on the proved program, and compare
 	checks/explain.py $(PROGRAM)
 	checks/why.py $(PROGRAM)
 	checks/tamed.py $(PROGRAM)
+	checks/migration.py $(PROGRAM)
 	checks/bindings.py $(PROGRAM) $(LIBRARY)
 	$(if $(OLD),checks/compare.py $(OLD) $(PROGRAM))
 

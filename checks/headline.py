@@ -1,7 +1,8 @@
 #!/usr/bin/env python3
 """Lists the definitions that the headline rests on, file by file, those that a `confirmed` alone rests on, those that
-the answer of `avro judge` to two texts rests on besides, and those that the answer of `avro read` after a yes rests on
-besides these, and compares them with the tables of docs/HEADLINE.md.
+the answer of `avro judge` to two texts rests on besides, those that the answer of `avro read` after a yes rests on
+besides these, and those that a migration rests on besides the first and the third. It compares them with the tables of
+docs/HEADLINE.md.
 
 usage: checks/headline.py [--print]
 
@@ -27,8 +28,16 @@ HEADLINE: Roots = (
 CONFIRMED: Roots = (("Rattle.avro_certificate.specs.Compatible", "AreCompatible"),)
 ANSWERED: Roots = (("Rattle.avro_answer.specs.JudgeAnswer", "JudgeAnswer"),)
 READ: Roots = (("Rattle.avro_answer.specs.ReadHeadline", "ReadsAfterYes"),)
+MIGRATED: Roots = (
+    ("Rattle.avro_migration.specs.Migrates", "Migrates"),
+    ("Rattle.avro_migration.specs.Migrates", "IsOfOther"),
+    ("Rattle.avro_migration.specs.Migrates", "IsNoneWithin"),
+)
 # The crates and their files in the order in which each rests on those before it.
-CRATES = ("name", "schema", "zigzag", "cursor", "binary", "compare", "resolve", "certificate", "judge", "schema_json", "display", "answer")
+CRATES = (
+    "name", "schema", "zigzag", "cursor", "binary", "compare", "resolve", "certificate", "judge", "schema_json", "display", "answer", "file", "container",
+    "migration",
+)
 WORD = re.compile(r"[A-Za-z_][\w\-]*")
 HEAD = re.compile(r"(?:abbrev )?(?:pub )?(?:abbrev )?(?:record |data |type )?(?:pub )?([A-Za-z_][\w\-]*)")
 USE = re.compile(r"^use (Rattle\.[\w.]+)\.\{([^}]*)\}", re.MULTILINE)
@@ -163,6 +172,7 @@ def tables() -> list[str]:
         table(CONFIRMED),
         table(ANSWERED, HEADLINE, named=False),
         table(READ, HEADLINE + ANSWERED),
+        table(MIGRATED, HEADLINE + ANSWERED),
     ]
 
 

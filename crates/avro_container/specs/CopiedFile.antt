@@ -1,7 +1,8 @@
 -- What a copy is a file of: of which header, and of which data.
-use Rattle.std.specs.Prelude.{◌≡◌, ⊤, ℕ, List, [], ◌∷◌, Option, Some, None, length, map}
+use Rattle.std.specs.Prelude.{◌≡◌, ⊤, ℕ, ◌≤◌, List, [], ◌∷◌, Option, Some, None, length, map}
 use Rattle.avro_schema.specs.Value.{Value, Values}
 use Rattle.avro_schema.specs.Node.{Node}
+use Rattle.avro_cursor.specs.Encoding.{plain_values}
 use Rattle.avro_compare.specs.Resolve.{Resolved}
 use Rattle.avro_file.specs.Copied.{Job, EachResolved, copied_property, into, or_else, unchanged}
 use Rattle.avro_file.specs.File.{HeaderValue, IsFile}
@@ -34,3 +35,9 @@ pub record IsFileOfMade (resolve : Value → Resolved) (k : HeaderValue) (blocks
   pub made : List Values
   pub resolved : AreResolved resolve blocks made
   pub is_file : IsFile k made bytes
+
+-- each datum of each block resolves, and what is made of a block has at most this many bytes as plain data
+abbrev pub ResolveWithin : ℕ → (Value → Resolved) → List Values → Type 0
+ResolveWithin limit resolve [] = ⊤
+ResolveWithin limit resolve (vs ∷ blocks) =
+    (us : Values) × EachResolved resolve vs us × (length (plain_values us) ≤ limit) × ResolveWithin limit resolve blocks

@@ -1,18 +1,19 @@
 //! Laws about copies: what a run of steps does, given what each step does, and what a copy is.
 
-ghost use Rattle.std.specs.Prelude.{◌≡◌, ℕ, ◌^◌, ◌<◌, ◌≤◌, List, ◌++◌, length, Option, Some};
+ghost use Rattle.std.specs.Prelude.{◌≡◌, ℕ, ◌^◌, ◌<◌, ◌≤◌, List, [], ◌++◌, length, Option, Some};
 ghost use Rattle.std.specs.List.{sum};
 ghost use Rattle.avro_schema.specs.Node.{Node};
 ghost use Rattle.avro_schema.specs.Value.{Values};
 ghost use Rattle.avro_schema_json.specs.DeclaredText.{DeclaresText};
-ghost use Rattle.avro_file.specs.BlockFails.{FileLimitValues};
-ghost use Rattle.avro_file.specs.Copied.{Job, IsCopied, into, or_else, unchanged};
-ghost use Rattle.avro_file.specs.File.{HeaderValue, IsFile};
-ghost use Rattle.avro_file.specs.FileFault.{FileFault};
-ghost use Rattle.avro_container.specs.CopiedFile.{for_reader, as_written, IsMarker, header_for, IsFileOfMade};
-ghost use Rattle.avro_container.specs.Steps.{Stored, Run, Done, EndStep, CopiedWhole, RefusedStep, PutInAll, FaultStands, Outcome, Steps, TakenAhead, AreMadeWithin, most_ahead};
+ghost use Rattle.avro_cursor.specs.Encoding.{plain_values};
+ghost use Rattle.avro_file.specs.BlockFails.{BlockFails, BlockReading, FileLimitValues, IsNotTooMuch, max_blocks};
+ghost use Rattle.avro_file.specs.Copied.{EachResolved, Job, IsCopied, into, or_else, unchanged};
+ghost use Rattle.avro_file.specs.File.{HeaderValue, IsFile, IsHeader};
+ghost use Rattle.avro_file.specs.FileFault.{BlockFault, FileFault, in_block};
+ghost use Rattle.avro_container.specs.CopiedFile.{for_reader, as_written, IsMarker, header_for, IsFileOfMade, ResolveWithin};
+ghost use Rattle.avro_container.specs.Steps.{BeginsWith, IsBlockWithin, Stored, Run, Done, EndStep, CopiedWhole, RefusedStep, PutInAll, FaultStands, Outcome, Steps, TakenAhead, AreMadeWithin, most_ahead};
 
-use avro_binary::laws::{plain_encodes, prefix};
+use avro_binary::laws::{fault_or_within, plain_encodes, prefix};
 use avro_device::Input;
 use avro_resolve::laws::resolved_fits;
 use avro_schema_json::laws::{declared_is_schema, one_schema};
@@ -83,4 +84,30 @@ pub fn copy_again()
 {
     prefix();
     one_schema();
+}
+
+/// A block within the limits has no fault, whatever follows it, if each of its data resolves and the block of the copy, where one
+/// is made, is within the limit. What is not taken yet is `more`: nothing, where the input has reported its end.
+pub fn block_has_no_fault<I: Input>()
+    ensures { (input : I) (r : BlockReading) (h : HeaderValue) (vs us : Values) (number : ℕ) (front block bytes more later : List ℕ) (f : BlockFault)
+        → IsHeader h front → r.nodes ≡ h.nodes → r.sync ≡ h.sync → IsBlockWithin r.limits h vs block → number < max_blocks
+        → EachResolved r.resolve vs us → IsNotTooMuch r (plain_values us) → bytes ++ more ≡ block ++ later → (I.ended input → more ≡ [])
+        → BlockFails r number (I.ended input) bytes f → ⊥ }
+{
+    prefix();
+    fault_or_within();
+    declared_is_schema();
+}
+
+/// A file within the limits, of which each datum resolves and whose copy is within them, has no fault behind its header: no copy
+/// reports one of a block.
+pub fn copy_has_no_fault<I: Input>()
+    ensures { (input : I) (job : Job) (limits : FileLimitValues) (h : HeaderValue) (blocks : List Values) (taken more put : List ℕ) (n : ℕ) (f : BlockFault)
+        → BeginsWith limits h blocks (taken ++ more) [] → ResolveWithin limits.block (job.resolve h.nodes) blocks → (I.ended input → more ≡ [])
+        → FaultStands job limits (I.ended input) taken put (in_block n f) → ⊥ }
+{
+    prefix();
+    one_schema();
+    fault_or_within();
+    declared_is_schema();
 }

@@ -6,14 +6,14 @@ ghost use Rattle.avro_schema.specs.SeenSchema.{schema_nodes};
 ghost use Rattle.avro_compare.specs.Fault.{ResolutionFault};
 ghost use Rattle.avro_certificate.specs.Compatible.{AreCompatible};
 ghost use Rattle.avro_file.specs.DataRead.{StandForData, reading};
-ghost use Rattle.avro_file.specs.FileFault.{in_block, unresolved_datum};
+ghost use Rattle.avro_file.specs.FileFault.{BlockFault, in_block, unresolved_datum};
 ghost use Rattle.avro_file.specs.FileSeen.{file_fault};
 ghost use Rattle.avro_container.specs.CopiedFile.{IsMarker};
 ghost use Rattle.avro_container.specs.Moved.{Moved};
-ghost use Rattle.avro_migration.specs.Migrates.{IsOfOther, Migrates};
+ghost use Rattle.avro_migration.specs.Migrates.{IsNoneWithin, IsOfOther, Migrates};
 
 use avro_binary::Build;
-use avro_binary::laws::{plain_encodes, prefix};
+use avro_binary::laws::{fault_or_within, plain_encodes, prefix};
 use avro_container::{Counts, copy};
 use avro_device::{Input, Output};
 use avro_file::{Block, CopyError, FileLimits};
@@ -39,8 +39,9 @@ fn given_marker(sync: Option<[u8; 16]>)
     }
 }
 
-/// Copies a file for a reader's schema that reads everything written under a writer's. If the file is of the writer's schema,
-/// no error says that a datum does not resolve.
+/// Copies a file for a reader's schema that reads everything written under a writer's. A copy that ends well is a file of the
+/// reader's schema, with what resolution gives of each datum, and its own copy. If the file is of the writer's schema, no error says
+/// that a datum does not resolve, and none is one of a block, if the file and its copy are within the limits.
 ///
 /// # Errors
 ///
@@ -61,9 +62,14 @@ pub fn migrate<I: Input, O: Output>(
     // A datum that does not resolve is reported only in a file of another schema.
     ensures resolves { IfErr result (λ e. (n m : ℕ) (f : ResolutionFault) → file_fault e ≡ Some (in_block n (unresolved_datum m f))
         → Moved I.gives O.keeps input.old input.new output.old output.new (λ taken put. IsOfOther (schema_nodes writer.now) taken)) }
+    // No fault of a block is reported in a file of this schema within the limits, if its copy is within them.
+    ensures sound { IfErr result (λ e. (n : ℕ) (f : BlockFault) → file_fault e ≡ Some (in_block n f)
+        → Moved I.gives O.keeps input.old input.new output.old output.new
+        (λ taken put. IsNoneWithin limits.now (schema_nodes writer.now) (schema_nodes reader.now.1) (I.ended input.new) taken)) }
 {
     prefix();
     plain_encodes();
+    fault_or_within();
     resolved_fits();
     declared_is_schema();
     one_schema();
@@ -74,7 +80,7 @@ pub fn migrate<I: Input, O: Output>(
     copy(alloc, input, output, Some(reader), sync, limits)
 }
 
-/// The same for an approval, whose reader's schema is that of the text.
+/// Copies a file for the reader's schema of an approval, which is that of the text, as [`migrate`] does.
 ///
 /// # Errors
 ///
@@ -93,6 +99,9 @@ pub fn copied_after_a_yes<I: Input, O: Output>(
         (Migrates reader.now.0 (schema_nodes approved.now.1) sync)) }
     ensures resolves { IfErr result (λ e. (n m : ℕ) (f : ResolutionFault) → file_fault e ≡ Some (in_block n (unresolved_datum m f))
         → Moved I.gives O.keeps input.old input.new output.old output.new (λ taken put. IsOfOther (schema_nodes approved.now.0) taken)) }
+    ensures sound { IfErr result (λ e. (n : ℕ) (f : BlockFault) → file_fault e ≡ Some (in_block n f)
+        → Moved I.gives O.keeps input.old input.new output.old output.new
+        (λ taken put. IsNoneWithin limits.now (schema_nodes approved.now.0) (schema_nodes reader.now.1) (I.ended input.new) taken)) }
 {
     let (writer, _) = approved.schemas();
     migrate(alloc, input, output, writer, reader, sync, limits)
@@ -103,7 +112,7 @@ pub fn copied_after_a_yes<I: Input, O: Output>(
 ///
 /// # Errors
 ///
-/// Those of [`Block::read`] but the last.
+/// `LimitExceeded` or `InvalidDatum`; `BytesLeft` after the last datum; `OutOfMemory`.
 pub fn read_after_a_yes<B: Build>(
     block: &Block<'_>,
     approved: &Approved<'_>,

@@ -77,12 +77,12 @@ same_values prefix nodes (value v vs) (value w ws) items others n f g s t e =
     let rest = same_values prefix nodes vs ws s.1 t.1 counts fit.1 fit'.1 s.3 t.3 (same_behind s.0 t.0 (concat s.1) (concat t.1) told.0 joined) in
     λ i. value (told.1 i) (rest i)
 
-block_spread : (bytes count size body sync x : List ℕ) → bytes ≡ count ++ (size ++ (body ++ sync)) → bytes ++ x ≡ count ++ (size ++ (body ++ (sync ++ x)))
+pub block_spread : (bytes count size body sync x : List ℕ) → bytes ≡ count ++ (size ++ (body ++ sync)) → bytes ++ x ≡ count ++ (size ++ (body ++ (sync ++ x)))
 block_spread bytes count size body sync x e =
     ap (λ (b : List ℕ). b ++ x) e ∙ append_assoc count (size ++ (body ++ sync)) x
     ∙ ap (λ (b : List ℕ). count ++ b) (append_assoc size (body ++ sync) x ∙ ap (λ (b : List ℕ). size ++ b) (append_assoc body sync x))
 
-block_told : Prefix → (h : HeaderValue) (vs ws : Values) (a b x y : List ℕ) → IsBlock h vs a → IsBlock h ws b → a ++ x ≡ b ++ y → (vs ≡ ws) × (x ≡ y)
+pub block_told : Prefix → (h : HeaderValue) (vs ws : Values) (a b x y : List ℕ) → IsBlock h vs a → IsBlock h ws b → a ++ x ≡ b ++ y → (vs ≡ ws) × (x ≡ y)
 block_told prefix h vs ws a b x y s t e =
     let body = concat s.items in
     let other = concat t.items in
@@ -99,7 +99,7 @@ block_told prefix h vs ws a b x y s t e =
     )
 
 -- a block has bytes
-block_some : (h : HeaderValue) (vs : Values) (a x : List ℕ) → IsBlock h vs a → a ++ x ≡ [] → ⊥
+pub block_some : (h : HeaderValue) (vs : Values) (a x : List ℕ) → IsBlock h vs a → a ++ x ≡ [] → ⊥
 block_some h vs a x s e =
     let some = are_groups-some s.count s.counted.1.groups in
     let behind = s.size ++ (concat s.items ++ h.sync) in
