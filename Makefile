@@ -58,7 +58,7 @@ program: ## proves and builds the program and the crates below it, and says wher
 	@cd $(dir $(PROGRAM)) && sha256sum avro | tee avro.sha256
 	@echo "the program is $(abspath $(PROGRAM))"
 
-library: ## proves and builds bindings/out/libavrojudge.a and libavrojudge.so, for C and Python (an hour and more)
+library: ## proves and builds bindings/out/libavrojudge.a and libavrojudge.so, for C, Python and Java (an hour and more)
 	@cd crates/avro_c && rt lib
 	@bindings/link.sh crates/avro_c/out/libavro_c.a bindings/out
 	@echo "the libraries are $(abspath bindings/out/libavrojudge.a) and $(abspath $(LIBRARY))"

@@ -12,6 +12,32 @@ const KEPT: usize = 98;
 /// Stands for the byte after a backslash, which tells how long the escape is.
 const ESCAPED: u8 = u8::MAX;
 
+/// A text in two parts, which lack what is cut in any case from the middle of a long one.
+pub(crate) fn without_middle(text: &str) -> (&str, &str) {
+    let bytes = text.as_bytes();
+    if bytes.len() <= MOST * 2 {
+        return (text, "");
+    }
+    let head = boundary(bytes, MOST);
+    let tail = boundary(bytes, bytes.len().saturating_sub(MOST));
+    (
+        text_of(bytes.get(..head).unwrap_or(&[])).unwrap_or(""),
+        text_of(bytes.get(tail..).unwrap_or(&[])).unwrap_or(""),
+    )
+}
+
+/// Where the first character at or after an offset begins.
+fn boundary(text: &[u8], from: usize) -> usize {
+    let mut at = from;
+    for byte in text.get(from..).unwrap_or(&[]) {
+        if !matches!(*byte, 0x80..=0xBF) {
+            break;
+        }
+        at = at.saturating_add(1);
+    }
+    at
+}
+
 /// A text that is escaped, as it is or cut in the middle.
 pub(crate) fn shortened(alloc: Global, text: String) -> Result<String, AllocError> {
     if text.len() <= MOST {

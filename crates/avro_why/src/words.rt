@@ -4,13 +4,21 @@ use crate::fault::Fault;
 use crate::names::Name;
 use crate::nodes::Title;
 use crate::places::{PlaceId, Places, WHOLE};
-use crate::shortened::shortened;
+use crate::shortened::{shortened, without_middle};
 use avro_cursor::text_of;
 use serde_json::Value;
 use std::alloc::{AllocError, Global};
 
-/// A text as in a JSON string, without the quotes.
+/// A text as in a JSON string, without the quotes. A long one lacks what is cut in any case.
 pub(crate) fn escaped(alloc: Global, text: &str) -> Result<String, AllocError> {
+    let (head, tail) = without_middle(text);
+    let mut escaped = escaped_whole(alloc, head)?;
+    escaped.push_str(escaped_whole(alloc, tail)?.as_str())?;
+    Ok(escaped)
+}
+
+/// A text as in a JSON string, without the quotes.
+fn escaped_whole(alloc: Global, text: &str) -> Result<String, AllocError> {
     let quoted = Value::String(String::from_str(alloc, text)?).to_string(alloc)?;
     let inner = quoted.strip_prefix('"').unwrap_or("");
     String::from_str(alloc, inner.strip_suffix('"').unwrap_or(""))
