@@ -43,10 +43,10 @@ field_part d missing = []
 
 -- what is wrong, by the name of what is missing and the types of both nodes
 abbrev pub reason_text : Detail → List ℕ → List ℕ → List ℕ → List ℕ
-reason_text Detail.NoMatch missing written read = written ++ codes " is read as " ++ read
-reason_text Detail.NoBranch missing written read = codes "no branch takes " ++ written
-reason_text Detail.NotUtf8 missing written read = codes "bytes are read as string"
-reason_text (Detail.NoSymbol k) missing written read = missing ++ (codes " of the writer is none of " ++ (read ++ codes ", which has no default"))
+reason_text Detail.NoMatch missing written read = written ++ codes " cannot be read as " ++ read
+reason_text Detail.NoBranch missing written read = codes "no branch of the reader's union accepts " ++ written
+reason_text Detail.NotUtf8 missing written read = codes "bytes read as string may not be UTF-8"
+reason_text (Detail.NoSymbol k) missing written read = missing ++ (codes " is not a symbol of the reader's " ++ (read ++ codes ", which has no default"))
 reason_text (Detail.MissingField k) missing written read = written ++ codes " of the writer has no such field, and there is no default"
 
 -- the kind between colons
