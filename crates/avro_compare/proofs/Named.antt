@@ -1,38 +1,13 @@
--- The indices of fields and of symbols, as they are gathered from the last.
-use Rattle.std.proofs.Common.{◌≡◌, ℕ, zero, suc, ◌+◌, ◌<◌, cond, List, [], ◌∷◌, length, Option, Some, None, drop, refl, ap, sym, subst, ◌∙◌, arith}
+-- The symbols of an enum, by their indices.
+use Rattle.std.proofs.Common.{◌≡◌, ℕ, zero, suc, ◌<◌, List, [], ◌∷◌, length, Option, Some, None, refl, ap, sym, subst, ◌∙◌, arith}
 use Rattle.std.specs.Prelude.{String, string_bytes, slice_get, slice_index_or, unwrap_or, option_and_then, bytes_eq, position, IfSome}
-use Rattle.std.specs.List.{position_from}
 use Rattle.std.specs.declared.alloc.Global.{Global}
 use Rattle.std.proofs.lemmas.List.Quantifiers.{position-Some}
-use Rattle.avro_schema.specs.Node.{Node, FieldNode, symbols_of}
-use Rattle.avro_schema.specs.Seen.{seen_fields, field_of, texts_of}
-use Rattle.avro_schema.specs.declared.schema.Field.{Field}
+use Rattle.avro_schema.specs.Node.{Node, symbols_of}
+use Rattle.avro_schema.specs.Seen.{texts_of}
 use Rattle.avro_compare.specs.Pairs.{IsSymbol}
 use Rattle.avro_compare.specs.Planned.{AreSymbols}
 use Rattle.avro_compare.specs.Resolve.{enum_as, symbol_at}
-use Rattle.avro_compare.proofs.public.Lists.{next_in}
-use Rattle.avro_compare.proofs.public.Lists.{seen_next}
-
--- the first index of a name among the fields from an index on
-abbrev pub field_from : List ℕ → List Field → ℕ → Option ℕ
-field_from name fields n = position_from (λ f. bytes_eq f.name name) n (seen_fields (drop n fields))
-
-pub field_next : (fields : List Field) (n : ℕ) (f : Field) (name : List ℕ) (before after : Option ℕ) → n < length fields → f ≡ slice_index_or fields n f
-    → before ≡ field_from name fields (n + 1) → after ≡ cond (bytes_eq (string_bytes f.name) name) (Some n) before → after ≡ field_from name fields n
-field_next fields n f name before after low is known put =
-    put ∙ ap (λ o. cond (bytes_eq (string_bytes f.name) name) (Some n) o) known
-    ∙ sym (ap (λ (gs : List FieldNode). position_from (λ g. bytes_eq g.name name) n gs) (seen_next fields n f low ∙ ap (λ (g : Field). field_of g ∷ seen_fields (drop (n + 1) fields)) (sym is)))
-
--- the first index of a word among the symbols from an index on
-abbrev pub symbol_from : List ℕ → List (String Global) → ℕ → Option ℕ
-symbol_from word symbols n = position_from (λ s. bytes_eq s word) n (texts_of (drop n symbols))
-
-pub symbol_next : (symbols : List (String Global)) (n : ℕ) (symbol : String Global) (word : List ℕ) (before after : Option ℕ) → n < length symbols → symbol ≡ slice_index_or symbols n symbol
-    → before ≡ symbol_from word symbols (n + 1) → after ≡ cond (bytes_eq (string_bytes symbol) word) (Some n) before → after ≡ symbol_from word symbols n
-symbol_next symbols n symbol word before after low is known put =
-    let here : drop n symbols ≡ symbol ∷ drop (n + 1) symbols = next_in symbols n symbol low ∙ ap (λ (s : String Global). s ∷ drop (n + 1) symbols) (sym is) in
-    put ∙ ap (λ o. cond (bytes_eq (string_bytes symbol) word) (Some n) o) known
-    ∙ sym (ap (λ (ss : List (String Global)). position_from (λ s. bytes_eq s word) n (texts_of ss)) here)
 
 pub symbol_there : (symbols : List (String Global)) (i : ℕ) (symbol : String Global) → i < length symbols → symbol ≡ slice_index_or symbols i symbol
     → unwrap_or (slice_get (texts_of symbols) i) [] ≡ string_bytes symbol
