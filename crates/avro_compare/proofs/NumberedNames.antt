@@ -1,6 +1,6 @@
 -- Names by number: lists of numbers as they grow, and a number's place in one as that of its name.
 use Rattle.std.proofs.Common.{◌≡◌, ◌∙◌, ℕ, zero, suc, ◌+◌, ◌<◌, ◌==◌, Bool, true, false, cond, List, [], ◌∷◌, ◌++◌, length, Option, Some, None, refl, sym, ap, subst, arith}
-use Rattle.std.specs.Prelude.{String, string_bytes, slice_get, slice_index_or, bytes_eq, position}
+use Rattle.std.specs.Prelude.{String, string_bytes, option_map, slice_get, slice_index_or, bytes_eq, position, unwrap_or}
 use Rattle.std.specs.Global.{Vec}
 use Rattle.std.specs.List.{IsDistinct, position_from}
 use Rattle.std.specs.declared.alloc.Global.{Global}
@@ -11,9 +11,12 @@ use Rattle.avro_texts.specs.Texts.{AreDistinct, KeepsNumbers}
 use Rattle.avro_texts.proofs.public.Numbers.{one_number}
 use Rattle.avro_schema.specs.Node.{Node, FieldNode, node_at}
 use Rattle.avro_schema.specs.Seen.{texts_of}
+use Rattle.avro_compare.specs.Resolve.{fields_at, symbol_at}
 use Rattle.avro_compare.specs.Source.{field_index, first_index, or_else}
-use Rattle.avro_compare.specs.inside.PartNumbers.{AreAliases, AreLists, AreNumbersOf, AreParts, Grows, HasList, HasParts, KeepsLists, Lists, first_number, first_of, names_of}
+use Rattle.avro_compare.specs.inside.NameTables.{symbols_at}
+use Rattle.avro_compare.specs.inside.PartNumbers.{AreAliases, AreLists, AreNumbersOf, AreParts, Grows, HasList, HasParts, IsNumberAt, KeepsLists, Lists, first_number, first_of, names_of}
 use Rattle.avro_compare.specs.declared.part_numbers.NodeParts.{NodeParts}
+use Rattle.avro_compare.proofs.Named.{symbol_text}
 use Rattle.avro_compare.proofs.public.Planning.{Holds, holds_push, same_some}
 
 -- ---- Texts and lists that are added
@@ -140,3 +143,26 @@ module _ (T : List (List ℕ)) (distinct : AreDistinct T) where
 pub none_distinct : AreDistinct []
 unfolding IsDistinct
 none_distinct = tt
+
+-- ---- Numbers that are found
+
+pub number_of_list : (T : List (List ℕ)) (L : Lists) (id index n : ℕ) (names : List (List ℕ)) → HasList T L id names → IsNumberAt L id index n → (t : List ℕ) → slice_get names index ≡ Some t
+    → slice_get T n ≡ Some t
+number_of_list T L id index n names has at t is =
+    has.are.0 index n (subst (λ (v : Vec ℕ). slice_get v.items index ≡ Some n) (same_some at.there has.there) at.is) t is
+
+got_there : (xs : List (List ℕ)) (k : ℕ) → k < length xs → slice_get xs k ≡ Some (unwrap_or (slice_get xs k) [])
+got_there [] k low = absurd (omega (arith, low))
+got_there (x ∷ xs) zero low = refl
+got_there (x ∷ xs) (suc k) low = got_there xs k (omega (arith, low))
+
+pub number_of_symbol : (T : List (List ℕ)) (L : Lists) (id index n : ℕ) (w : Node) → HasList T L id (symbols_at w) → IsNumberAt L id index n → slice_get T n ≡ Some (symbol_at w index)
+number_of_symbol T L id index n w has at =
+    let low = got_low has.list.items n index (subst (λ (v : Vec ℕ). slice_get v.items index ≡ Some n) (same_some at.there has.there) at.is) in
+    number_of_list T L id index n (symbols_at w) has at (symbol_at w index)
+    (got_there (symbols_at w) index (omega (arith, low, has.are.1)) ∙ ap (λ (t : List ℕ). Some t) (sym (symbol_text w index (symbols_at w) refl)))
+
+pub aliases_of_field : (T : List (List ℕ)) (L : Lists) (nodes : List Node) (all : List (Vec ℕ)) (r index id : ℕ) (f : FieldNode) → AreAliases T L nodes all → IsNumberAt all r index id
+    → slice_get (fields_at (node_at nodes r)) index ≡ Some f → HasList T L id f.aliases
+aliases_of_field T L nodes all r index id f are at is =
+    subst (λ (names : List (List ℕ)). HasList T L id names) (ap (λ (o : Option FieldNode). unwrap_or (option_map (λ (g : FieldNode). g.aliases) o) []) is) (are r at.list at.there index id at.is)

@@ -16,20 +16,18 @@ use std::alloc::Global;
 use std::collections::BTreeMap;
 use std::marker::Model;
 
-/// A writer's schema and a reader's, with tables of names, by which names are found without
-/// looking at all of them: the branches of the reader's unions, for the first match of a record,
-/// an enum or a fixed, the fields of the writer's records, the aliases of the reader's fields, and
-/// the symbols of the reader's enums. A union of few branches, or with more aliases than branches,
-/// a record of few fields, a field of few aliases and an enum of few symbols are looked through,
-/// and take no memory here. The names and aliases of types are
-/// numbered, and compared by their numbers. Contracts see the two schemas.
+/// A writer's schema and a reader's, with tables by which names are found without looking at all of
+/// them: the branches of the reader's unions, for the first match of a record, an enum or a fixed,
+/// the fields of the writer's records, the aliases of the reader's fields, and the symbols of the
+/// reader's enums. A union of few branches, or with more aliases than branches, is looked through,
+/// and takes no memory here. All names are numbered, and compared by their numbers. Contracts see the
+/// two schemas.
 #[derive(Drop)]
 pub struct Names<'a> {
     writer: &'a Schema,
     reader: &'a Schema,
     numbers: NameNumbers<'a>,
-    // Each list rises by its nodes, and that of aliases by the indices of fields too, so that a table is found by
-    // binary search.
+    // The list rises by its nodes, so that a table is found by binary search.
     unions: Vec<(NodeId, BTreeMap<(u64, u32), usize>)>,
     parts: Option<PartNumbers<'a>>,
 }

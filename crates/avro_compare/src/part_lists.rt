@@ -70,7 +70,8 @@ fn list_texts<'a>(
     ensures kept { OnOk result (KeepsLists lists.old.items lists.new.items) }
 {
     let numbers = text_numbers(alloc, texts, names)?;
-    add_list(lists, numbers)
+    let id = add_list(lists, numbers)?;
+    Ok(id)
 }
 
 /// Adds the list of the names of some fields.
@@ -85,7 +86,8 @@ fn list_fields<'a>(
     ensures kept { OnOk result (KeepsLists lists.old.items lists.new.items) }
 {
     let numbers = field_numbers(alloc, texts, fields)?;
-    add_list(lists, numbers)
+    let id = add_list(lists, numbers)?;
+    Ok(id)
 }
 
 /// Adds the lists of a node's fields and of its symbols, each to its own lists.

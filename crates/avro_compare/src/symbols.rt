@@ -108,7 +108,7 @@ pub(crate) fn symbol_of_place(
 
 /// The same, given the enum's node.
 fn placed_symbol(node: &Node, _symbol: &str, index: Option<usize>) -> Option<u32>
-    requires few { HasFewChoices (node_of node.now) }
+    requires below { IfSome index (λ k. k < 2 ^ 32) }
     requires index { index ≡ position (λ s. bytes_eq s _symbol.now) (symbols_at (node_of node.now)) }
     ensures { IsSymbol (enum_as _symbol.now (node_of node.now)) result }
 {

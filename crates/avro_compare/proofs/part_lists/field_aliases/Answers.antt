@@ -30,7 +30,7 @@ loop-index-preserved c =
     ap (λ (o : Option FieldNode). unwrap_or (option_map (λ (f : FieldNode). f.aliases) o) []) (seen_at fields l.index field c.loop-index-test.true c.index-fields-index.is) in (
       holds_push (λ k i. HasList texts lists i (aliases_at (seen_fields fields) k)) l.ids.items c.push.new.self.items id l.index c.in_ok-push.ensures.items
           (lists_kept _ _ made.grows _ _ made.kept (aliases_at (seen_fields fields)) l.ids.items l.invariant.0.0, l.invariant.0.1)
-          (subst (λ (names : List (List ℕ)). HasList texts lists id names) (ap texts_of c.deref.ensures.value ∙ sym there) made.has),
+          (subst (λ (names : List (List ℕ)). HasList texts lists id names) (ap texts_of (c.deref.ensures.value ∙ ap (λ f. f.aliases.items) (sym c.index-fields-index.is)) ∙ sym there) made.has),
       grows_more _ _ _ l.invariant.1 made.grows,
       lists_more _ _ _ l.invariant.2 made.kept,
     )

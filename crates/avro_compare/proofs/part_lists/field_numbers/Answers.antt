@@ -23,7 +23,7 @@ loop-index-preserved c =
     let grows : Grows l.texts c.add.new.self = record { kept = c.add.ensures.kept; distinct = λ _. c.add.ensures.distinct } in (
       number_more (names_of (seen_fields fields)) l.texts c.add.new.self l.numbers.items c.push.new.self.items l.index c.in_ok-number.number (string_bytes field.name)
           (name_there (seen_fields fields) l.index (field_of field) (seen_at fields l.index field c.loop-index-test.true c.index-fields-index.is))
-          (c.in_ok-number.ensures.numbered ∙ ap (λ (t : List ℕ). Some t) c.as_str.ensures.value) c.add.ensures.kept c.in_ok-push.ensures.items l.invariant.0,
+          (c.in_ok-number.ensures.numbered ∙ ap (λ (t : List ℕ). Some t) (c.as_str.ensures.value ∙ ap (λ f. string_bytes f.name) (sym c.index-fields-index.is))) c.add.ensures.kept c.in_ok-push.ensures.items l.invariant.0,
       grows_more _ _ _ l.invariant.1 grows,
     )
 

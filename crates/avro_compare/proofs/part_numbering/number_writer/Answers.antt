@@ -4,7 +4,7 @@ use Rattle.avro_compare.proofs.part_numbering.number_writer.Goals as goal
 
 pub returns : goal.returns
 returns c = λ reader h.
-    let made = c.in_ok-schema_parts.ensures in
+    let made = c.in_ok-numbers.ensures in
     let before = c.args.numbers.now in
     record {
       distinct = made.grows.distinct h.distinct;

@@ -1,4 +1,6 @@
+use Rattle.std.proofs.Common.{subst}
 use Rattle.avro_schema.specs.SeenSchema.{schema_nodes}
+use Rattle.avro_compare.specs.inside.PartNumbers.{FindsAll, Lists}
 use Rattle.avro_compare.proofs.part_numbering.part_numbers.Goals as goal
 
 pub returns : goal.returns
@@ -8,5 +10,5 @@ returns c =
     let made = c.in_ok-number_aliases.ensures writer (c.in_ok-number_reader.ensures writer (c.in_ok-number_writer.ensures reader (c.no_parts-numbers.ensures writer reader).lists)) in
     record {
       lists = record { distinct = made.distinct; writes = made.writes; reads = made.reads; aliases = made.aliases };
-      places = c.in_ok-places_of.ensures;
+      places = subst (λ (lists : Lists). FindsAll _ lists) c.deref.ensures.value c.in_ok-numbers.ensures;
     }
