@@ -1,14 +1,8 @@
 -- Tables of some nodes, as one is found and one is added.
 use Rattle.std.proofs.Common.{◌≡◌, ℕ, List, length, Option, Some, None, refl, subst, sym}
 use Rattle.std.specs.Prelude.{slice_get}
-use Rattle.std.specs.BTreeMap.{BTreeMap}
 use Rattle.std.specs.Option.{IfSome}
-use denote.Ref.{Bor}
-use Rattle.avro_schema.specs.Node.{Node, FieldNode, node_at}
 use Rattle.avro_schema.specs.declared.schema.NodeId.{NodeId}
-use Rattle.avro_compare.specs.Planned.{FindsSymbols}
-use Rattle.avro_compare.specs.Resolve.{fields_at}
-use Rattle.avro_compare.specs.inside.AliasTables.{AliasTable, AreAliasTables, FindsAliases, HasAliasTable}
 use Rattle.avro_compare.specs.inside.ByNode.{HasTable, EachTable, with_table}
 use Rattle.avro_compare.proofs.public.Planning.{holds_push}
 
@@ -20,12 +14,3 @@ pub each_more : {T : Type 0} (is : ℕ → T → Type 0) (old new : List (NodeId
     → EachTable is old → EachTable is new
 each_more {T = T} is old new id None e h each = subst (λ (ts : List (NodeId × T)). EachTable is ts) (sym e) each
 each_more is old new id (Some t) e h each = (holds_push (λ k kept. is kept.0.0 kept.1) old new (id, t) (length old) e (each, refl) h).0
-
--- ---- Tables of the aliases of fields
-
-module _ (reader : List Node) (id : NodeId) (index : ℕ) (first : BTreeMap (Bor (List ℕ)) ℕ) (f : FieldNode) (there : slice_get (fields_at (node_at reader id.0)) index ≡ Some f) where
-  pub aliases_found : (tables : List AliasTable) → AreAliasTables reader tables → HasAliasTable tables id.0 index first → FindsSymbols f.aliases first
-  aliases_found tables each found =
-      let kept = found.1 in
-      let here : FindsAliases reader kept.0.0.0 kept.0.1 first = subst (λ (t : BTreeMap (Bor (List ℕ)) ℕ). FindsAliases reader kept.0.0.0 kept.0.1 t) found.5 (each found.0 kept found.2) in
-      subst (λ (i : ℕ). FindsAliases reader id.0 i first) found.4 (subst (λ (j : ℕ). FindsAliases reader j kept.0.1 first) found.3 here) f there

@@ -1,16 +1,12 @@
 -- What a plan keeps of pairs of nodes.
-use Rattle.std.specs.Prelude.{◌≡◌, ◌⊎◌, ◌≤◌, ℕ, List, [], Option, Some, None, slice_get, unwrap_or, position, bytes_eq, length}
-use Rattle.std.specs.Ordering.{nat_cmp}
-use Rattle.std.specs.Cmp.Lexicographic.{slice_cmp}
-use Rattle.std.specs.BTreeMap.{BTreeMap, get_by}
-use denote.Ref.{Bor}
+use Rattle.std.specs.Prelude.{◌≡◌, ◌⊎◌, ◌≤◌, ℕ, List, [], Option, Some, None, slice_get, unwrap_or, length}
 use Rattle.avro_schema.specs.Node.{Node, FieldNode, node_at, symbols_of}
 use Rattle.avro_schema.specs.declared.schema.NodeId.{NodeId}
 use Rattle.avro_compare.specs.Children.{first_lacking}
 use Rattle.avro_compare.specs.Entries.{AreAscending, entry_at}
 use Rattle.avro_compare.specs.Pairs.{IsSymbol, aim_at, field_for}
 use Rattle.avro_compare.specs.Resolve.{enum_as, symbol_at, fields_at}
-use Rattle.avro_compare.specs.Source.{field_index, source_of, missing_field}
+use Rattle.avro_compare.specs.Source.{source_of, missing_field}
 use Rattle.avro_compare.specs.declared.guided.Aim.TheVariants.{To}
 use Rattle.avro_compare.specs.declared.guided.At.{At}
 use Rattle.avro_compare.specs.declared.guided.At.TheVariants.{Ignored}
@@ -59,11 +55,3 @@ pub record IsComparison (writer reader : List Node) (p : Comparison) : Type 0 wh
 -- the same of each of several
 abbrev pub AreComparisons : List Node → List Node → List Comparison → Type 0
 AreComparisons writer reader pairs = (k : ℕ) (p : Comparison) → slice_get pairs k ≡ Some p → IsComparison writer reader p
-
--- a map finds the first field of each name, and no other name
-abbrev pub FindsFields : List FieldNode → BTreeMap (Bor (List ℕ)) ℕ → Type 0
-FindsFields fields names = (name : List ℕ) → get_by (λ k. slice_cmp nat_cmp name k.now) names ≡ field_index fields name
-
--- the same of symbols
-abbrev pub FindsSymbols : List (List ℕ) → BTreeMap (Bor (List ℕ)) ℕ → Type 0
-FindsSymbols symbols names = (word : List ℕ) → get_by (λ k. slice_cmp nat_cmp word k.now) names ≡ position (λ s. bytes_eq s word) symbols

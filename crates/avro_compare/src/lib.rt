@@ -7,14 +7,12 @@
 //! enums, and `lacking.rt` finds the first symbol that the reader lacks.
 #![tactic(auto)]
 
-mod alias_tables;
 mod by_node;
 mod children;
 mod comparing;
 mod comparison;
 mod entries;
 mod error;
-mod field_tables;
 mod first_branches;
 mod guided;
 mod lacking;
@@ -25,13 +23,16 @@ mod matching;
 mod name_numbers;
 mod named_type;
 mod names;
-mod naming;
 mod numbering;
 mod pairs;
+mod part_finding;
+mod part_lists;
+mod part_numbering;
+mod part_numbers;
+mod places;
 mod reader_numbers;
 mod seed;
 mod sourcing;
-mod symbol_tables;
 mod symbols;
 mod union_tables;
 

@@ -12,8 +12,6 @@ use Rattle.avro_schema.specs.Fits.{is_some_and}
 use Rattle.avro_schema.specs.declared.schema.NodeId.{NodeId}
 use Rattle.avro_compare.specs.Match.{first_match, first_match_from}
 use Rattle.avro_compare.specs.inside.ByNode.{EachTable}
-use Rattle.avro_compare.specs.Planned.{FindsFields, FindsSymbols}
-use Rattle.avro_compare.specs.Resolve.{fields_at}
 
 -- a record, an enum or a fixed by what it is matched by: its kind, its name and its aliases. A kind is that of records, of
 -- enums, or of fixeds of one length.
@@ -76,15 +74,9 @@ branches_at n = unwrap_or (branches_of n) []
 abbrev pub symbols_at : Node → List (List ℕ)
 symbols_at n = unwrap_or (symbols_of n) []
 
--- the tables of a reader's unions, of a writer's records, and of a reader's enums
+-- the tables of a reader's unions
 abbrev pub AreUnionTables : NumberMap → List Node → List (NodeId × BTreeMap NameKey ℕ) → Type 0
 AreUnionTables simples reader tables = EachTable (λ union_at first. FindsFirst simples reader (branches_at (node_at reader union_at)) first) tables
-
-abbrev pub AreFieldTables : List Node → List (NodeId × BTreeMap (Bor (List ℕ)) ℕ) → Type 0
-AreFieldTables writer tables = EachTable (λ record_at names. FindsFields (fields_at (node_at writer record_at)) names) tables
-
-abbrev pub AreSymbolTables : List Node → List (NodeId × BTreeMap (Bor (List ℕ)) ℕ) → Type 0
-AreSymbolTables reader tables = EachTable (λ enum_at names. FindsSymbols (symbols_at (node_at reader enum_at)) names) tables
 
 -- no branch before an index matches, so that the first match is found from there on
 abbrev pub StartsAt : List Node → List Node → Node → Node → ℕ → Type 0
