@@ -5,13 +5,13 @@ pub mod FaultsLed
 pub mod FieldsNoted
 pub mod FirstAlias
 pub mod FirstLacking
-pub mod LongSpaces
+pub mod FirstOfType
+pub mod HeldAliases
 pub mod Named
-pub mod NamedKeys
-pub mod NamedStarts
+pub mod NumberedTexts
+pub mod PlainBranches
 pub mod NoFields
 pub mod NodeTables
 pub mod Shared
 mod RowsMatch
 mod RowsSource
-pub mod ByNumber

@@ -7,7 +7,9 @@
 //! enums, and `lacking.rt` finds the first symbol that the reader lacks.
 #![tactic(auto)]
 
+mod alias_sets;
 mod alias_tables;
+mod alike;
 mod by_node;
 mod children;
 mod comparing;
@@ -15,23 +17,22 @@ mod comparison;
 mod entries;
 mod error;
 mod field_tables;
-mod first_branches;
+mod first_matches;
 mod guided;
 mod lacking;
 pub mod laws;
 mod lead;
-mod long_spaces;
 mod matching;
-mod name_numbers;
 mod named_type;
 mod names;
 mod naming;
-mod numbering;
 mod pairs;
-mod reader_numbers;
+mod seed;
 mod sourcing;
 mod symbol_tables;
 mod symbols;
+mod type_names;
+mod type_numbers;
 mod union_tables;
 
 pub use children::{has_fault, leads};

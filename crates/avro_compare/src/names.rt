@@ -1,12 +1,12 @@
 use crate::alias_tables::{alias_tables, source_by_aliases, table_at};
 use crate::field_tables::{field_tables, source_by};
 use crate::guided::Aim;
-use crate::name_numbers::NameNumbers;
-use crate::numbering::{name_numbers, no_numbers};
-use crate::pairs::{aim_after, first_match_after};
+use crate::pairs::{aim_by, first_match_by};
+use crate::seed::seed_of;
 use crate::sourcing::fields_of;
 use crate::symbol_tables::{symbol_by, symbol_tables};
-use crate::union_tables::{start_by, union_tables};
+use crate::type_names::TypeNames;
+use crate::type_numbers::type_names;
 use avro_schema::{Field, Memory, NodeId, Schema};
 use std::alloc::Global;
 use std::collections::BTreeMap;
@@ -23,10 +23,9 @@ use std::marker::Model;
 pub struct Names<'a> {
     writer: &'a Schema,
     reader: &'a Schema,
-    numbers: NameNumbers<'a>,
+    types: Option<TypeNames<'a>>,
     // Each list rises by its nodes, and that of aliases by the indices of fields too, so that a table is found by
     // binary search.
-    unions: Vec<(NodeId, BTreeMap<(u64, u32), usize>)>,
     fields: Vec<(NodeId, BTreeMap<&'a str, usize>)>,
     aliases: Vec<((NodeId, usize), BTreeMap<&'a str, usize>)>,
     symbols: Vec<(NodeId, BTreeMap<&'a str, usize>)>,
@@ -38,8 +37,9 @@ impl<'a> Model for Names<'a> {
     ghost use Rattle.avro_schema.specs.declared.schema.Schema.{Schema};
     ghost use Rattle.avro_schema.specs.SeenSchema.{schema_nodes};
     ghost use Rattle.avro_compare.specs.inside.AliasTables.{AreAliasTables};
-    ghost use Rattle.avro_compare.specs.inside.NameTables.{AreUnionTables, AreFieldTables, AreSymbolTables};
-    ghost use Rattle.avro_compare.specs.inside.NameNumbers.{AreNumbers};
+    ghost use Rattle.avro_compare.specs.inside.NameTables.{AreFieldTables, AreSymbolTables};
+    ghost use Rattle.avro_compare.specs.inside.TypeNames.{AreTypeNames};
+    ghost use Rattle.std.specs.Option.{IfSome};
 
     ghost Value = { Schema × Schema };
 
@@ -47,8 +47,7 @@ impl<'a> Model for Names<'a> {
 
     ghost view = { λ names. (names.writer.now, names.reader.now) };
 
-    ghost invariant = { λ names. AreNumbers (schema_nodes names.writer.now) (schema_nodes names.reader.now) names.numbers
-        × AreUnionTables names.numbers.table.simples (schema_nodes names.reader.now) names.unions.items
+    ghost invariant = { λ names. IfSome names.types (AreTypeNames (schema_nodes names.writer.now) (schema_nodes names.reader.now))
         × AreFieldTables (schema_nodes names.writer.now) names.fields.items
         × AreAliasTables (schema_nodes names.reader.now) names.aliases.items
         × AreSymbolTables (schema_nodes names.reader.now) names.symbols.items };
@@ -60,7 +59,6 @@ impl<'a> Names<'a> {
     ghost use Rattle.avro_schema.specs.Seen.{field_of};
     ghost use Rattle.avro_schema.specs.SeenSchema.{schema_nodes};
     ghost use Rattle.avro_compare.specs.Match.{first_match_at};
-    ghost use Rattle.avro_compare.specs.inside.NameTables.{StartsAt};
     ghost use Rattle.avro_compare.specs.Pairs.{IsAim, IsSymbol, aim_at};
     ghost use Rattle.avro_compare.specs.Resolve.{enum_as, fields_at};
     ghost use Rattle.avro_compare.specs.Source.{source_of};
@@ -73,16 +71,15 @@ impl<'a> Names<'a> {
     pub fn new(alloc: Global, writer: &'a Schema, reader: &'a Schema) -> Result<Names<'a>, Memory>
         ensures { IfOk result (λ names. names ≡ (writer.now, reader.now)) }
     {
-        let numbers = name_numbers(alloc, writer, reader)?;
-        let unions = union_tables(alloc, &numbers.table.simples, reader)?;
+        let seed = seed_of(writer, reader);
+        let types = Some(type_names(alloc, seed, writer, reader)?);
         let fields = field_tables(alloc, writer)?;
         let aliases = alias_tables(alloc, reader)?;
         let symbols = symbol_tables(alloc, reader)?;
         Ok(Names {
             writer,
             reader,
-            numbers,
-            unions,
+            types,
             fields,
             aliases,
             symbols,
@@ -96,8 +93,7 @@ impl<'a> Names<'a> {
         Names {
             writer,
             reader,
-            numbers: no_numbers(alloc),
-            unions: Vec::new(alloc),
+            types: None,
             fields: Vec::new(alloc),
             aliases: Vec::new(alloc),
             symbols: Vec::new(alloc),
@@ -110,8 +106,7 @@ impl<'a> Names<'a> {
         ensures { result ≡ first_match_at (schema_nodes self.now.0) (schema_nodes self.now.1)
             (node_at (schema_nodes self.now.0) w.0) (node_at (schema_nodes self.now.1) r.0) }
     {
-        let start = self.start(w, r);
-        first_match_after(Some(&self.numbers), self.writer, w, self.reader, r, start)
+        first_match_by(self.types.as_ref(), self.writer, w, self.reader, r)
     }
 
     /// The index of the field of a writer's record that a reader's field takes its value from, as
@@ -156,8 +151,7 @@ impl<'a> Names<'a> {
         ensures leads { IsAim (schema_nodes self.now.0) (schema_nodes self.now.1)
             (node_at (schema_nodes self.now.0) w.0) (node_at (schema_nodes self.now.1) r.0) result }
     {
-        let start = self.start(w, r);
-        aim_after(Some(&self.numbers), self.writer, w, self.reader, r, start)
+        aim_by(self.types.as_ref(), self.writer, w, self.reader, r)
     }
 
     /// The writer's schema.
@@ -172,13 +166,5 @@ impl<'a> Names<'a> {
         ensures { result.now ≡ self.now.1 }
     {
         self.reader
-    }
-
-    /// An index in a reader's union before which no branch matches a writer's node.
-    fn start(&self, w: NodeId, r: NodeId) -> usize
-        ensures { StartsAt (schema_nodes self.now.0) (schema_nodes self.now.1)
-            (node_at (schema_nodes self.now.0) w.0) (node_at (schema_nodes self.now.1) r.0) result }
-    {
-        start_by(&self.unions, &self.numbers, self.writer, w, self.reader, r)
     }
 }

@@ -18,4 +18,4 @@ source_by_aliases-requires c =
     let field = field_of c.args.field.now in
     let found : HasAliasTable tables r.0 index first = search rules in
     let there = subst (λ (v : Schema × Schema). slice_get (fields_at (node_at (schema_nodes v.1) r.0)) index ≡ Some field) (sym c.self.view_is) c.requires in
-    aliases_found (schema_nodes c.self.inside.reader.now) r index first field there tables c.self.invariant.3 found
+    aliases_found (schema_nodes c.self.inside.reader.now) r index first field there tables c.self.invariant.2 found
