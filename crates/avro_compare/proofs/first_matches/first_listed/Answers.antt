@@ -11,4 +11,4 @@ loop-index-preserved c =
     let l = c.loop-index in
     let ks = c.args.types.now.keys in
     let low : l.index < length ks = search rules in
-    l.invariant ∙ listed_next ws rs (node_at ws c.args.w.0) c.args.places.now ks l.index l.best c.place_at.result c.least.result low c.place_at.ensures c.least.ensures
+    l.invariant ∙ listed_next ws rs (node_at ws c.args.w.0) c.args.places.now ks l.index l.best c.place_at.result c.least-best.result low c.place_at.ensures c.least-best.ensures
