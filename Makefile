@@ -33,7 +33,7 @@ EPOCH = $(or $(SOURCE_DATE_EPOCH), $(shell git log -1 --format=%ct))
 TESTS := avro_data_tests avro_answer_tests
 
 .DEFAULT_GOAL := help
-.PHONY: help try files program library jar install install-scripts install-library dist quick test check fmt bench robust surface words clean
+.PHONY: help try files program library jar install install-scripts install-library dist quick test check fmt bench robust pages surface words clean
 
 help: ## lists the targets
 	@awk -F ':.*## ' '/^[a-z]+:.*## / { printf "make %-8s %s\n", $$1, $$2 }' $(MAKEFILE_LIST)
@@ -58,7 +58,7 @@ program: ## proves and builds the program and the crates below it, and says wher
 	@cd $(dir $(PROGRAM)) && sha256sum avro | tee avro.sha256
 	@echo "the program is $(abspath $(PROGRAM))"
 
-library: ## proves and builds bindings/out/libavrojudge.a and libavrojudge.so, for C and Python (an hour and more)
+library: ## proves and builds bindings/out/libavrojudge.a and libavrojudge.so, for C, Python and Java (an hour and more)
 	@cd crates/avro_c && rt lib
 	@bindings/link.sh crates/avro_c/out/libavro_c.a bindings/out
 	@echo "the libraries are $(abspath bindings/out/libavrojudge.a) and $(abspath $(LIBRARY))"
@@ -131,13 +131,18 @@ robust: $(PROGRAM) $(LIBRARY) ## runs checks/ on the proved program, and compare
 	checks/explain.py $(PROGRAM)
 	checks/why.py $(PROGRAM)
 	checks/tamed.py $(PROGRAM)
+	checks/migration.py $(PROGRAM)
 	checks/bindings.py $(PROGRAM) $(LIBRARY)
 	$(if $(OLD),checks/compare.py $(OLD) $(PROGRAM))
 
-surface: ## tests the public items, and what stands on which library, against the tables of checks/surface.py (a second)
-	checks/surface.py
+pages: ## prints docs/DEFINITIONS.md and docs/CONTRACTS.md from the comments of the sources (a second)
+	checks/pages.py
 
-words: surface ## tests these, the words and codes of the man page and completions, and the table of the headline (two seconds)
+surface: ## tests the public items and their libraries against checks/surface.py, and the printed pages (three seconds)
+	checks/surface.py
+	checks/pages.py --check
+
+words: surface ## tests these, the words and codes of the man page and completions, and the table of the headline (five seconds)
 	checks/words.py
 	checks/headline.py
 

@@ -33,7 +33,7 @@ COUNT = 1_000
 SHOWN = 20
 KINDS = {"NoMatch", "NoBranch", "NotUtf8", "NoSymbol", "MissingField"}
 LINE = re.compile(r"(\$.*?): (NoMatch|NoBranch|NotUtf8|NoSymbol|MissingField): (.*) \(writer's (\$.*)\)")
-SYMBOL = re.compile(r"(\w+) of the writer is none of ")
+SYMBOL = re.compile(r"(\w+) is not a symbol of the reader's ")
 
 
 def run(program: str, *words: str) -> tuple[int, str]:

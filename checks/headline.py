@@ -1,7 +1,8 @@
 #!/usr/bin/env python3
 """Lists the definitions that the headline rests on, file by file, those that a `confirmed` alone rests on, those that
-the answer of `avro judge` to two texts rests on besides, and those that the answer of `avro read` after a yes rests on
-besides these, and compares them with the tables of docs/HEADLINE.md.
+the answer of `avro judge` to two texts rests on besides, those that the answer of `avro read` after a yes rests on
+besides these, and those that a migration rests on besides the first and the third. It compares them with the tables of
+docs/HEADLINE.md.
 
 usage: checks/headline.py [--print]
 
@@ -27,8 +28,16 @@ HEADLINE: Roots = (
 CONFIRMED: Roots = (("Rattle.avro_certificate.specs.Compatible", "AreCompatible"),)
 ANSWERED: Roots = (("Rattle.avro_answer.specs.JudgeAnswer", "JudgeAnswer"),)
 READ: Roots = (("Rattle.avro_answer.specs.ReadHeadline", "ReadsAfterYes"),)
+MIGRATED: Roots = (
+    ("Rattle.avro_migration.specs.Migrates", "Migrates"),
+    ("Rattle.avro_migration.specs.Migrates", "IsOfOther"),
+    ("Rattle.avro_migration.specs.Migrates", "IsNoneWithin"),
+)
 # The crates and their files in the order in which each rests on those before it.
-CRATES = ("name", "schema", "zigzag", "cursor", "binary", "compare", "resolve", "certificate", "judge", "schema_json", "display", "answer")
+CRATES = (
+    "name", "schema", "zigzag", "cursor", "binary", "compare", "resolve", "certificate", "judge", "schema_json", "display", "answer", "file", "container",
+    "migration",
+)
 WORD = re.compile(r"[A-Za-z_][\w\-]*")
 HEAD = re.compile(r"(?:abbrev )?(?:pub )?(?:abbrev )?(?:record |data |type )?(?:pub )?([A-Za-z_][\w\-]*)")
 USE = re.compile(r"^use (Rattle\.[\w.]+)\.\{([^}]*)\}", re.MULTILINE)
@@ -136,9 +145,9 @@ def kit_rows(found: list[tuple[Path, str]]) -> list[str]:
     return [f"| the kit's `{file}` | | {shown[file]} |" for file in sorted(shown)]
 
 
-def table(roots: Roots, known: Roots = ()) -> str:
+def table(roots: Roots, known: Roots = (), named: bool = True) -> str:
     """The table of what the roots reach besides what is known, a row a file in the order of reading, then the kit's
-    files, and a last row of sums, without those."""
+    files, and a last row of sums, without those. The definitions are named or counted."""
     names: dict[Path, list[str]] = {}
     before = set(reached(known))
     besides = [found for found in reached(roots) if found not in before]
@@ -149,7 +158,7 @@ def table(roots: Roots, known: Roots = ()) -> str:
         order = [name for name in read(file).lines if name in names[file]]
         count = sum(len(read(file).lines[name]) for name in order)
         total = [total[0] + len(order), total[1] + count]
-        shown = ", ".join(f"`{name}`" for name in order)
+        shown = ", ".join(f"`{name}`" for name in order) if named else len(order)
         rows.append(f"| `{file.relative_to(ROOT / 'crates')}` | {count} | {shown} |")
     rows += kit_rows(besides)
     rows.append(f"| {len(names)} files | {total[1]} | {total[0]} definitions |")
@@ -158,7 +167,13 @@ def table(roots: Roots, known: Roots = ()) -> str:
 
 def tables() -> list[str]:
     """The tables of the page."""
-    return [table(HEADLINE), table(CONFIRMED), table(ANSWERED, HEADLINE), table(READ, HEADLINE + ANSWERED)]
+    return [
+        table(HEADLINE),
+        table(CONFIRMED),
+        table(ANSWERED, HEADLINE, named=False),
+        table(READ, HEADLINE + ANSWERED),
+        table(MIGRATED, HEADLINE + ANSWERED),
+    ]
 
 
 def main() -> int:

@@ -30,7 +30,7 @@ RUNS = 2000
 SECONDS = 20
 NAMES = ["{}", "./{}", "hard.{}", "soft.{}"]
 ONE_WORD = "avro: IN and OUT are one word\n"
-ONE_FILE = "avro: IN and OUT are one file\n"
+ONE_FILE = "avro: IN and OUT are the same file\n"
 IN_STDERR = "avro: /dev/stdin is the standard error\n"
 OUT_STDERR = "avro: /dev/stdout is the standard error\n"
 # How a shell opens a standard stream.
@@ -127,7 +127,7 @@ def tries():
     for other in names_of("a.avro"):
         yield ["copy", "a.avro", other], ONE_WORD if other == "a.avro" else ONE_FILE
     for out in names_of("a.avsc"):
-        is_read = f"avro: {out} is one of the files that are read\n"
+        is_read = f"avro: {out} is also an input\n"
         yield ["judge", "a.avsc", "b.avsc", "--certificate", out], is_read
         yield ["judge", "b.avsc", "a.avsc", "--refutation", out], is_read
         yield ["history", "b.avsc", "a.avsc", "--certificates", out], is_read

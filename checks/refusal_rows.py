@@ -175,7 +175,7 @@ def explain_rows():
 def kept_rows():
     """Files that options ask for: those that are read, those that hold a schema, and others."""
     ints = {"a.avsc": '"int"', "b.avsc": '"long"', "c.avsc": OF_A}
-    text = "avro: a.avsc is one of the files that are read\n"
+    text = "avro: a.avsc is also an input\n"
     yield Row("judge read certificate", "judge a.avsc b.avsc --certificate a.avsc", ints, err=text, status=64)
     yield Row("judge read refutation", "judge b.avsc a.avsc --refutation a.avsc", ints, err=text, status=64)
     yield Row("history read certificates", "history a.avsc b.avsc --certificates a.avsc", ints, err=text, status=64)
@@ -263,10 +263,10 @@ def copying_rows():
     yield Row("copy unresolved", "copy i.avro o.avro --reader r.avsc", files, "", text, 3, {made: header('"string"')}, (made, source, len(ints)))
     text = "avro: IN and OUT are one word\n"
     yield Row("copy one word", "copy i.avro i.avro", {source: file}, err=text, status=64)
-    text = "avro: IN and OUT are one file\n"
+    text = "avro: IN and OUT are the same file\n"
     yield Row("copy one file", "copy i.avro ./i.avro", {source: file}, err=text, status=64)
     files = {source: file, "r.avsc": '"long"'}
-    text = "avro: r.avsc is one of the files that are read\n"
+    text = "avro: r.avsc is also an input\n"
     yield Row("copy into reader", "copy i.avro r.avsc --reader r.avsc", files, err=text, status=64)
     yield Row("copy into schema", "copy i.avro r.avsc", files, err="avro: r.avsc is a schema\n", status=64)
     files = {source: file, made: "kept"}

@@ -218,12 +218,6 @@ EXCEPTIONS = {
         ("avro_display/src/display.rt show_by", "a text that was just made of texts: this check cannot fail"),
     ],
     TREE: [
-        ("avro_compare/src/alias_tables.rt &str", NUMBERED),
-        ("avro_compare/src/field_tables.rt &str", NUMBERED),
-        ("avro_compare/src/names.rt &str", NUMBERED),
-        ("avro_compare/src/naming.rt &str", NUMBERED),
-        ("avro_compare/src/symbol_tables.rt &str", NUMBERED),
-        ("avro_compare/src/symbols.rt &str", NUMBERED),
         ("avro_cursor/src/keys.rt &[u8]", KEYS),
         ("avro_display/src/members.rt &str", ORDERED),
         ("avro_display/src/putting.rt &str", ORDERED),

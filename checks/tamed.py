@@ -83,7 +83,7 @@ def judged(program: str, pair: list[Any], rewriting: Callable[[], Rewriting]) ->
 def is_widened(program: str) -> bool:
     """Whether each fault of the pair in the files is that a number is read as a wider one, or below it."""
     done = subprocess.run([program, "explain", "writer.avsc", "reader.avsc"], capture_output=True, text=True)
-    return all("ieee." in line or "no branch takes" in line for line in done.stdout.splitlines()[1:])
+    return all("ieee." in line or "no branch of the reader's union accepts" in line for line in done.stdout.splitlines()[1:])
 
 
 def kind_of(program: str, name: str, wanted: str, found: str) -> str:

@@ -37,24 +37,30 @@ SPACE = re.compile(r"[ \t\n\r]*")
 NUMBER = re.compile(r"-?(?:0|[1-9]\d*)(?:\.\d+)?(?:[eE][+-]?\d+)?")
 # A word that each code's lines have.
 WORDS = {
-    "S1": r"not JSON|byte order|UTF-8|nested|container",
-    "S2": r"no type",
-    "S3": r"is defined before",
-    "S4": r"is not a name|primitive type",
-    "S5": r"there is no|must be",
-    "S6": r"no branch|is a branch",
+    "S1": r"invalid JSON|byte order|UTF-8|nested|container",
+    "S2": r"unknown type",
+    "S3": r"duplicate type",
+    "S4": r"is not a valid name|is a primitive type",
+    "S5": r'missing "|must be',
+    "S6": r"empty union|cannot be a branch|duplicate branch",
     "S7": r"symbol",
-    # A name that is none is not compared with others.
-    "S8": r"names a field|is not a name",
-    "S9": r"not a datum",
+    # A name that is not valid is not compared with others.
+    "S8": r"duplicate field name|is not a valid name",
+    "S9": r"the default is not a valid|matches no branch",
     "S10": r"not supported",
-    "S11": r"whole number of 64",
-    "S12": r"1048576|node 4097",
+    "S11": r"64-bit integer",
+    "S12": r"1048576|4096 nodes",
 }
 
 
+# What is told of a text with this escape, and how much is told of a long one.
+ESCAPE = re.compile(r"\\u[0-9a-f]{4}|\\.|~.|.", re.DOTALL)
+LONGEST, END = 200, 98
+ANSWER = 'missing "type" (a registry\'s answer? its schema is the string under "schema")'
+
+
 class Number:
-    """A number that is not a whole one of 64 bits, as it is written."""
+    """A number that is not a 64-bit integer, as it is written."""
 
     def __init__(self, text):
         self.text = text
@@ -94,10 +100,40 @@ def places_in(text):
     return found
 
 
+def inner(text):
+    """A text as in a JSON string."""
+    return json.dumps(str(text), ensure_ascii=False)[1:-1]
+
+
+def cut(text):
+    """An escaped text, in whose middle dots stand if it is long: the ends are whole characters and escapes."""
+    if len(text.encode()) <= LONGEST:
+        return text
+    units = ESCAPE.findall(text)
+
+    def whole(some):
+        size, kept = 0, 0
+        for unit in some:
+            size += len(unit.encode())
+            kept += size <= END
+        return kept
+
+    head, tail = whole(units), whole(reversed(units))
+    return "".join([*units[:head], "...", *units[len(units) - tail :]])
+
+
+def told(text):
+    return cut(inner(text))
+
+
 def below(pointer, key):
     """The pointer of a member or an item."""
-    written = json.dumps(str(key), ensure_ascii=False)[1:-1]
-    return f"{pointer}/{written.replace('~', '~0').replace('/', '~1')}"
+    return f"{pointer}/{inner(key).replace('~', '~0').replace('/', '~1')}"
+
+
+def shown(pointer):
+    """How words name a place."""
+    return cut(pointer) or "the root"
 
 
 class Reader:
@@ -111,15 +147,15 @@ class Reader:
 
     def numbers(self, value, at):
         if isinstance(value, Number):
-            self.say(at, f"{value.text} is not a whole number of 64 bits")
+            self.say(at, f"{cut(value.text)} is not a 64-bit integer")
         for key, part in value.items() if isinstance(value, dict) else enumerate(value) if isinstance(value, list) else ():
             self.numbers(part, below(at, key))
 
     def text(self, schema, key, at):
         if key not in schema:
-            self.say(at, f"there is no {key}")
+            self.say(at, f'missing "{key}"')
         elif not isinstance(schema[key], str):
-            self.say(f"{at}/{key}", f"{key} must be a string")
+            self.say(f"{at}/{key}", f'"{key}" must be a string')
         else:
             return schema[key]
         return None
@@ -129,15 +165,15 @@ class Reader:
         if key not in schema:
             return []
         if not isinstance(schema[key], list) or not all(isinstance(it, str) for it in schema[key]):
-            self.say(f"{at}/{key}", f"{key} must be an array of strings")
+            self.say(f"{at}/{key}", f'"{key}" must be an array of strings')
             return []
         return schema[key]
 
     def is_full_name(self, name, at):
         if not all(NAME.fullmatch(part) for part in name.split(".")):
-            self.say(at, f"{json.dumps(name, ensure_ascii=False)} is not a name")
+            self.say(at, f'"{told(name)}" is not a valid name')
         elif name.rpartition(".")[2] in PRIMITIVES + LEFT_OUT:
-            self.say(at, f"{name.rpartition('.')[2]} is the name of a primitive type")
+            self.say(at, f"{name.rpartition('.')[2]} is a primitive type and cannot be defined")
         else:
             return True
         return False
@@ -145,7 +181,7 @@ class Reader:
     def is_simple_name(self, name, at):
         if NAME.fullmatch(name):
             return True
-        self.say(at, f"{json.dumps(name, ensure_ascii=False)} is not a name")
+        self.say(at, f'"{told(name)}" is not a valid name')
         return False
 
     def type(self, schema, space, at):
@@ -156,13 +192,16 @@ class Reader:
         if not isinstance(schema, dict):
             self.say(at, "a type must be a string, an object or an array")
             return None
+        if at == "" and "type" not in schema and isinstance(schema.get("schema"), str):
+            self.say(at, ANSWER)
+            return None
         kind = self.text(schema, "type", at)
         if kind is None:
             return None
         if kind in ("array", "map"):
             key = "items" if kind == "array" else "values"
             if key not in schema:
-                self.say(at, f"there is no {key}")
+                self.say(at, f'missing "{key}"')
                 return (kind, None)
             return (kind, self.type(schema[key], space, f"{at}/{key}"))
         if kind not in NAMED:
@@ -173,24 +212,33 @@ class Reader:
 
     def definition(self, schema, kind, space, at):
         name = self.text(schema, "name", at)
-        if "." not in (name or "") and "namespace" in schema:
-            given = self.text(schema, "namespace", at)
-            if given and not all(NAME.fullmatch(part) for part in given.split(".")):
-                self.say(f"{at}/namespace", f"{json.dumps(given, ensure_ascii=False)} is not a name")
-            elif given is not None:
-                space = given
-        own, _, simple = (name or "").rpartition(".")
-        space = own if "." in (name or "") else space
-        made = {"kind": "record" if kind == "error" else kind, "name": f"{space}.{simple}" if space else simple, "parts": None}
-        if name is not None and self.is_full_name(name, f"{at}/name"):
-            if made["name"] in self.named:
-                self.say(at, f"{made['name']} is defined before, at {self.named[made['name']][1] or '/'}")
+        space = self.space(schema, name or "", space, at)
+        simple = (name or "").rpartition(".")[2]
+        # what is told of a definition without a name is its kind
+        made = {"kind": "record" if kind == "error" else kind, "name": None, "parts": None}
+        if name is not None and self.is_full_name(name, f"{at}/name") and space is not None:
+            made["name"] = full = f"{space}.{simple}" if space else simple
+            if full in self.named:
+                self.say(at, f"duplicate type {told(full)}, first defined at {shown(self.named[full][1])}")
             else:
-                self.named[made["name"]] = made, at
+                self.named[full] = made, at
         for k, alias in enumerate(self.texts(schema, "aliases", at)):
             self.is_full_name(alias, f"{at}/aliases/{k}")
         {"enum": self.enum, "fixed": self.fixed}.get(kind, self.record)(schema, made, space, at)
         return made
+
+    def space(self, schema, name, around, at):
+        """The namespace of a definition: that of its name, its own, or the one around it; None is unknown."""
+        if "." in name:
+            own = name.rpartition(".")[0]
+            return own if is_space(own) else None
+        if "namespace" not in schema:
+            return around
+        own = self.text(schema, "namespace", at)
+        if own is not None and not is_space(own):
+            self.say(f"{at}/namespace", f'"{told(own)}" is not a valid name')
+            return None
+        return own
 
     def word(self, word, space, at):
         if word in LEFT_OUT:
@@ -200,72 +248,74 @@ class Reader:
             return word
         if not self.is_full_name(word, at):
             return None
+        if "." not in word and space is None:
+            return None
         full = word if "." in word or not space else f"{space}.{word}"
         if full not in self.named:
-            self.say(at, f"no type {full} is defined before this")
+            self.say(at, f"unknown type {told(full)} (a type must be defined before it is used)")
             return None
         return self.named[full][0]
 
     def union(self, branches, space, at):
         if not branches:
-            self.say(at, "the union has no branch")
+            self.say(at, "empty union")
         seen, made = {}, []
         for i, branch in enumerate(branches):
             place = f"{at}/{i}"
             found = self.type(branch, space, place)
             made.append(found)
             if isinstance(found, list):
-                self.say(place, "a union is a branch of a union")
+                self.say(place, "a union cannot be a branch of a union")
                 continue
             key = found if isinstance(found, str) else found[0] if isinstance(found, tuple) else id(found)
             if found is not None and key in seen:
-                self.say(place, f"{self.title(found)} is a branch before, at {seen[key]}")
+                self.say(place, f"duplicate branch {self.title(found)}, first at {shown(seen[key])}")
             seen.setdefault(key, place)
         return made
 
     def title(self, made):
-        return made if isinstance(made, str) else made[0] if isinstance(made, tuple) else made["name"]
+        if isinstance(made, dict):
+            return made["kind"] if made["name"] is None else told(made["name"])
+        return made if isinstance(made, str) else made[0]
 
     def enum(self, schema, made, _space, at):
         if "symbols" not in schema:
-            self.say(at, "there is no symbols")
+            self.say(at, 'missing "symbols"')
         elif schema["symbols"] == []:
-            self.say(f"{at}/symbols", "the enum has no symbol")
+            self.say(f"{at}/symbols", "an enum needs at least one symbol")
         symbols = self.texts(schema, "symbols", at)
         seen = {}
         for i, symbol in enumerate(symbols):
             place = f"{at}/symbols/{i}"
             self.is_simple_name(symbol, place)
             if symbol in seen:
-                self.say(place, f"{symbol} is a symbol before, at {seen[symbol]}")
+                self.say(place, f"duplicate symbol {told(symbol)}, first at {shown(seen[symbol])}")
             seen.setdefault(symbol, place)
-        if not isinstance(schema.get("symbols"), list) or len(symbols) != len(schema["symbols"]):
-            return
-        made["parts"] = seen
-        if "default" in schema:
-            if not isinstance(schema["default"], str):
-                self.say(f"{at}/default", "default must be a string")
-            elif schema["default"] not in seen:
-                self.say(f"{at}/default", "the default is none of the symbols")
+        if isinstance(schema.get("symbols"), list) and len(symbols) == len(schema["symbols"]):
+            made["parts"] = seen
+        if "default" in schema and not isinstance(schema["default"], str):
+            self.say(f"{at}/default", '"default" must be a string')
+        elif "default" in schema and made["parts"] is not None and schema["default"] not in seen:
+            self.say(f"{at}/default", "the default is not one of the symbols")
 
     def fixed(self, schema, made, _space, at):
         size = schema.get("size")
         if "size" not in schema:
-            self.say(at, "there is no size")
+            self.say(at, 'missing "size"')
         elif isinstance(size, Number):
             pass
         elif not isinstance(size, int) or isinstance(size, bool):
-            self.say(f"{at}/size", "size must be a whole number")
+            self.say(f"{at}/size", '"size" must be an integer')
         elif not 0 <= size <= 1_048_576:
-            self.say(f"{at}/size", "size must be 0 to 1048576")
+            self.say(f"{at}/size", '"size" must be 0 to 1048576')
         else:
             made["parts"] = size
 
     def record(self, schema, made, space, at):
         if "fields" not in schema:
-            self.say(at, "there is no fields")
+            self.say(at, 'missing "fields"')
         elif not isinstance(schema["fields"], list):
-            self.say(f"{at}/fields", "fields must be an array")
+            self.say(f"{at}/fields", '"fields" must be an array')
         else:
             seen = {}
             fields = [self.field(field, seen, space, f"{at}/fields/{i}") for i, field in enumerate(schema["fields"])]
@@ -281,11 +331,11 @@ class Reader:
         for place, word in names:
             if self.is_simple_name(word, place):
                 if word in seen:
-                    self.say(place, f"{word} names a field before, at {seen[word]}")
+                    self.say(place, f"duplicate field name {told(word)}, first at {shown(seen[word])}")
                 seen.setdefault(word, place)
         made = None
         if "type" not in field:
-            self.say(at, "there is no type")
+            self.say(at, 'missing "type"')
         else:
             made = self.type(field["type"], space, f"{at}/type")
         if "default" in field:
@@ -295,7 +345,12 @@ class Reader:
     def check_defaults(self):
         for value, made, at in self.defaults:
             if not fits(value, made):
-                self.say(at, f"the default is not a datum of {'any branch' if isinstance(made, list) else self.title(made)}")
+                is_union = isinstance(made, list)
+                self.say(at, "the default matches no branch of the union" if is_union else f"the default is not a valid {self.title(made)}")
+
+
+def is_space(text):
+    return not text or all(NAME.fullmatch(part) for part in text.split("."))
 
 
 def is_bytes(value):
@@ -342,11 +397,12 @@ def reasons(file, data, code):
     reader.type(tree, "", "")
     reader.check_defaults()
     at = places_in(text)
-    told = []
+    lines = []
     for pointer, words in reader.said:
         before = text[: at[pointer]].encode()
-        told.append((before.count(b"\n") + 1, len(before) - before.rfind(b"\n"), pointer or "/", words))
-    return [f"{file}:{line}:{column}: {pointer}: {words}" for line, column, pointer, words in sorted(told)]
+        words = f"{cut(pointer)}: {words}" if pointer else words
+        lines.append((before.count(b"\n") + 1, len(before) - before.rfind(b"\n"), words))
+    return [f"{file}:{line}:{column}: {words}" for line, column, words in sorted(lines)]
 
 
 def is_in_order(lines):

@@ -7,7 +7,7 @@
 
 Each command's arguments, and its options in their order, are to be the same in the man page's synopsis; its options in
 the man page's sections, and its options and the commands in the completions. What a command does is to have the same
-words in the man page and the completions. The bash completion is run, the other two are read. The codes in the man page
+words in the program's help, the man page and the completions. The bash completion is run, the other two are read. The codes in the man page
 are to be those of docs/COMMANDS.md. Each difference has a line, and the last line is 'N commands, M options, L codes, K
 differences'.
 """
@@ -30,7 +30,7 @@ NONE = ""
 CONSTANT = re.compile(r"^const (\w+): [^=]*=\s(.*?);$", re.MULTILINE | re.DOTALL)
 # An argument or a command where it is written, or the name of the constant that has it.
 ARGUMENT = re.compile(r'\(\s*"([\w-]+)",\s*Takes::(\w+)(?:\("([^"]*)"\))?,\s*"[^"]*",?\s*\)|\b([A-Z_]+)\b')
-COMMAND = re.compile(r'\(\s*"(\w+)",\s*"[^"]*",\s*&(\w+),?\s*\)|\b([A-Z_]+)\b')
+COMMAND = re.compile(r'\(\s*"(\w+)",\s*"([^"]*)",\s*&(\w+),?\s*\)|\b([A-Z_]+)\b')
 # What an option takes, and the name of its value.
 TAKEN = re.compile(r'Takes::(\w+)(?:\(\w+\))? => option\(arg, id, "(\w+)"\)')
 
@@ -68,14 +68,18 @@ class Source:
     def usages(self):
         """Each command, by its name."""
         found = {NONE: Usage(options=[("version", None)] if ".version(" in self.text else [])}
-        for name, arguments in self.commands("COMMANDS"):
+        for name, _, arguments in self.commands("COMMANDS"):
             found[name] = self.command(arguments)
         return found
 
+    def deeds(self):
+        """What each command does, as the completions have it."""
+        return {name: deed[:1].lower() + deed[1:] for name, deed, _ in self.commands("COMMANDS")}
+
     def commands(self, item):
-        """The name of each command of a constant, and that of its arguments."""
-        for name, arguments, other in COMMAND.findall(self.items[item]):
-            yield from self.commands(other) if other else [(name, arguments)]
+        """The name of each command of a constant, what it does, and the name of its arguments."""
+        for name, deed, arguments, other in COMMAND.findall(self.items[item]):
+            yield from self.commands(other) if other else [(name, deed, arguments)]
 
     def arguments(self, item):
         """Each argument of a constant: its name, what it takes, and the word for that."""
@@ -258,7 +262,8 @@ def main(words):
         return 0
     if len(words) > 1 or any(word.startswith("-") for word in words):
         sys.exit(__doc__)
-    usages = Source(text_of(GRAMMAR)).usages()
+    source = Source(text_of(GRAMMAR))
+    usages = source.usages()
     lines = {name: usage.line() for name, usage in usages.items()}
     man = text_of(MAN)
     differences = compare(MAN, lines, {name: usage.line() for name, usage in synopsis_of_man(man).items()})
@@ -267,8 +272,9 @@ def main(words):
     differences += compare_completion(BASH, usages, *words_of_bash([name for name in usages if name != NONE]))
     differences += compare_completion(ZSH, usages, *words_of_zsh())
     differences += compare_completion(FISH, usages, *words_of_fish())
+    differences += compare(MAN, source.deeds(), deeds_of_man(man))
     for shell, deeds in zip((ZSH, FISH), deeds_of_completions()):
-        differences += compare(MAN, deeds, deeds_of_man(man), of=shell)
+        differences += compare(shell, source.deeds(), deeds)
     codes, wrong = compare_codes(man)
     differences += wrong
     if words:

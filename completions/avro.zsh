@@ -4,22 +4,22 @@
 _avro() {
     local -a commands options
     commands=(
-        "judge:judge whether one schema reads what another wrote"
-        "explain:print all faults of two schemas, by names"
+        "judge:check that one schema reads all data written with another"
+        "explain:list all faults of two schemas, by name"
         "confirm:recheck the certificate of a yes"
-        "history:judge whether the last schema reads what each earlier one wrote"
-        "schema:test a schema, and print its canonical form or fingerprint"
-        "check:read each block of a container file"
+        "history:check that the last schema reads data written with each earlier one"
+        "schema:check a schema, and print its canonical form or fingerprint"
+        "check:check container files, and count their data and blocks"
         "show:print each datum of a container file"
-        "copy:write a container file anew"
+        "copy:copy a container file, each datum in its plain encoding"
         "pipe:copy a container file from standard input to standard output"
-        "header:print the schema in the header of a container file"
-        "read:print the datum that encoded data begin with"
-        "help:print the usage"
+        "header:print the schema of a container file, whatever its codec"
+        "read:print the first datum in DATA, and its length in bytes"
+        "help:print help"
     )
     options=(
         "--version:print the version"
-        "--help:print the usage"
+        "--help:print help"
     )
     if ((CURRENT == 2)); then
         _describe command commands
@@ -31,46 +31,46 @@ _avro() {
     ((CURRENT--))
     case $command in
         judge)
-            _arguments '--certificate[write the certificate of a yes]:OUT:_files' \
-                '--refutation[write the datum of a no as a container file]:OUT:_files' \
-                '--max-pairs[judge greater schemas, where undecided Pairs]:N: ' \
-                '--max-size[look for greater data, where undecided Size]:N: ' \
-                '--max-depth[look for deeper data, where undecided Depth]:N: ' '--json[print a line of JSON]' \
-                '--help[print the usage]' ':WRITER:_files' ':READER:_files' ;;
+            _arguments '--certificate[write the certificate of a yes to OUT]:OUT:_files' \
+                '--refutation[write the refuting datum to OUT, as a container]:OUT:_files' \
+                '--max-pairs[raise this limit if the answer is undecided Pairs]:N: ' \
+                '--max-size[raise this limit if the answer is undecided Size]:N: ' \
+                '--max-depth[raise this limit if the answer is undecided Depth]:N: ' '--json[print each answer as a line of JSON]' \
+                '--help[print help]' ':WRITER:_files' ':READER:_files' ;;
         explain)
-            _arguments '--max-pairs[compare more pairs of nodes, where undecided Pairs]:N: ' '--json[print a line of JSON]' \
-                '--help[print the usage]' ':WRITER:_files' ':READER:_files' ;;
+            _arguments '--max-pairs[raise this limit if the answer is undecided Pairs]:N: ' '--json[print each answer as a line of JSON]' \
+                '--help[print help]' ':WRITER:_files' ':READER:_files' ;;
         confirm)
-            _arguments '--json[print a line of JSON]' '--help[print the usage]' ':WRITER:_files' ':READER:_files' ':CERT:_files' ;;
+            _arguments '--json[print each answer as a line of JSON]' '--help[print help]' ':WRITER:_files' ':READER:_files' ':CERT:_files' ;;
         history)
-            _arguments '--certificates[write the certificates]:OUT:_files' \
-                '--confirm[recheck certificates, and judge nothing]:CERT:_files' \
-                '--mode[whose data are to be read]:MODE:(backward forward full)' \
-                '--next[judge each schema with the next one alone]' \
-                '--max-pairs[judge greater schemas, where undecided Pairs]:N: ' \
-                '--max-size[look for greater data, where undecided Size]:N: ' \
-                '--max-depth[look for deeper data, where undecided Depth]:N: ' '--json[print lines of JSON]' \
-                '--help[print the usage]' '*:SCHEMA:_files' ;;
+            _arguments '--certificates[write the certificates to OUT if each answer is yes]:OUT:_files' \
+                '--confirm[recheck the certificates in CERT, and judge nothing]:CERT:_files' \
+                '--mode[judge backward, forward or both ways]:MODE:(backward forward full)' \
+                '--next[judge each schema with the next one only]' \
+                '--max-pairs[raise this limit if the answer is undecided Pairs]:N: ' \
+                '--max-size[raise this limit if the answer is undecided Size]:N: ' \
+                '--max-depth[raise this limit if the answer is undecided Depth]:N: ' '--json[print each answer as a line of JSON]' \
+                '--help[print help]' '*:SCHEMA:_files' ;;
         schema)
-            _arguments '--canonical[print the canonical form]' '--fingerprint[print the fingerprint]' \
-                '--why[tell where and why a text is refused]' '--help[print the usage]' ':FILE:_files' ;;
+            _arguments '--canonical[print the Parsing Canonical Form]' '--fingerprint[print the SHA-256 fingerprint]' \
+                '--why[print where and why a schema is refused]' '--help[print help]' ':FILE:_files' ;;
         check)
-            _arguments '--json[print lines of JSON]' '--progress[tell how far it is]' '--help[print the usage]' \
+            _arguments '--json[print each answer as a line of JSON]' '--progress[report progress on standard error]' '--help[print help]' \
                 '*:FILE:_files' ;;
         show)
-            _arguments '--reader[resolve the data to a schema]:SCHEMA:_files' '--limit[stop after a number of lines]:N: ' \
-                '--help[print the usage]' ':FILE:_files' ;;
+            _arguments '--reader[resolve each datum to SCHEMA]:SCHEMA:_files' '--limit[stop after N lines]:N: ' \
+                '--help[print help]' ':FILE:_files' ;;
         copy)
-            _arguments '--reader[resolve the data to a schema]:SCHEMA:_files' '--sync[use this sync marker]:HEX32: ' \
-                '--progress[tell how far it is]' '--help[print the usage]' ':IN:_files' ':OUT:_files' ;;
+            _arguments '--reader[resolve each datum to SCHEMA]:SCHEMA:_files' '--sync[use this sync marker]:HEX32: ' \
+                '--progress[report progress on standard error]' '--help[print help]' ':IN:_files' ':OUT:_files' ;;
         pipe)
-            _arguments '--reader[resolve the data to a schema]:SCHEMA:_files' '--sync[use this sync marker]:HEX32: ' \
-                '--counts[print the numbers of data and blocks]' '--progress[tell how far it is]' '--help[print the usage]' ;;
+            _arguments '--reader[resolve each datum to SCHEMA]:SCHEMA:_files' '--sync[use this sync marker]:HEX32: ' \
+                '--counts[print the numbers of data and blocks on standard error]' '--progress[report progress on standard error]' '--help[print help]' ;;
         header)
-            _arguments '--metadata[print all metadata as JSON]' '--help[print the usage]' ':FILE:_files' ;;
+            _arguments '--metadata[print all metadata instead of the schema]' '--help[print help]' ':FILE:_files' ;;
         read)
-            _arguments '--reader[resolve the datum to a schema]:SCHEMA:_files' '--skip[skip a number of bytes first]:N: ' \
-                '--json[print a line of JSON]' '--help[print the usage]' ':WRITER:_files' ':DATA:_files' ;;
+            _arguments '--reader[resolve each datum to SCHEMA]:SCHEMA:_files' '--skip[skip N bytes first]:N: ' \
+                '--json[print each answer as a line of JSON]' '--help[print help]' ':WRITER:_files' ':DATA:_files' ;;
         help)
             _describe command commands ;;
     esac

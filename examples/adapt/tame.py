@@ -7,7 +7,7 @@
 
 A double becomes the fixed `ieee.Double64` of 8 bytes and a float the fixed `ieee.Float32` of 4, which are the bytes
 that Avro writes for them: the data of a file stay as they are, byte for byte. A yes is a yes. A number that is read as
-a float or double of another type is a no ("long is read as ieee.Double64(8)"), which may be too careful: for verdicts
+a float or double of another type is a no ("long cannot be read as ieee.Double64(8)"), which may be too careful: for verdicts
 alone there is lattice.py.
 
 What else `avro` does not take is left out: attributes that mean nothing to Avro and hold a number with a fraction or of

@@ -266,11 +266,11 @@ try_lattice() {
   expect 1 '' latticed judge "$wide" "$narrow"
   compare 'a datum' $'no\nfault NoBranch at /0\nnodes 2\ndatum {"long":0}' "$(cat out)"
   expect 1 '' latticed explain '{"type":"array","items":"double"}' '{"type":"array","items":"float"}'
-  compare 'all faults' "$(printf '%s\n' 'no 2' "\$: NoMatch: array of double is read as array of float (writer's \$)" \
-    "\$[]: NoMatch: double is read as float (writer's \$[])")" "$(cat out)"
+  compare 'all faults' "$(printf '%s\n' 'no 2' "\$: NoMatch: array of double cannot be read as array of float (writer's \$)" \
+    "\$[]: NoMatch: double cannot be read as float (writer's \$[])")" "$(cat out)"
   expect 1 '' latticed explain "$(record "$(field number "$wide")")" "$(record "$(field number "$narrow")")"
-  compare 'places' "$(printf '%s\n' 'no 2' "\$.number: NoBranch: no branch takes long (writer's \$.number<long>)" \
-    "\$.number: NoBranch: no branch takes float (writer's \$.number<float>)")" "$(cat out)"
+  compare 'places' "$(printf '%s\n' 'no 2' "\$.number: NoBranch: no branch of the reader's union accepts long (writer's \$.number<long>)" \
+    "\$.number: NoBranch: no branch of the reader's union accepts float (writer's \$.number<float>)")" "$(cat out)"
   expect 1 '' latticed 'explain --json' '"double"' '"long"'
   compare 'as JSON' '"at":"$","type":"double" "at":"$","type":"long"' "$(grep -o '"at[^}]*' out | xargs -d '\n')"
   expect 0 '' latticed judge "$(record)" "$(record "$(field a '["string","double"]' 2.5)" "$(field b '"long"' 9)" \

@@ -365,8 +365,8 @@ try_faults_told() {
   commit 'a payment' v1
   cp "$new" payment.avsc
   expect 1 "payment.avsc: v1: $(avro judge "$old" "$new"; avro explain "$old" "$new" | tail -n +2)" unindented
-  expect 1 $'\n''    $.customer.addresses[].zip: NoMatch: string is read as int' avro-breaking
-  expect 1 '%0A$.amount: NoMatch: long is read as int' env GITHUB_ACTIONS=true avro-breaking
+  expect 1 $'\n''    $.customer.addresses[].zip: NoMatch: string cannot be read as int' avro-breaking
+  expect 1 '%0A$.amount: NoMatch: long cannot be read as int' env GITHUB_ACTIONS=true avro-breaking
 }
 
 # What the check prints, without the spaces before its lines.
@@ -463,10 +463,10 @@ try_tame() {
   amount '["null","double"]' > order.avsc
   amount '"double"' > whole.avsc
   exactly 0 '2 schemas against v1: 2 yes' avro-breaking --tame
-  expect 1 $'\n''    $.amount: NoMatch: double is read as int' avro-breaking --tame --mode full
+  expect 1 $'\n''    $.amount: NoMatch: double cannot be read as int' avro-breaking --tame --mode full
   amount '"int"' > order.avsc
   amount '"int"' > whole.avsc
-  expect 1 $'\n''    $.amount: NoMatch: float is read as int' avro-breaking --tame
+  expect 1 $'\n''    $.amount: NoMatch: float cannot be read as int' avro-breaking --tame
   expect 1 '{"file":"order.avsc","base":"v1","mode":"backward","verdict":"no","fault":{"kind":"NoMatch",' \
     avro-breaking --tame --json
   amount '["double",{"type":"fixed","name":"double_","size":8}]' > order.avsc

@@ -26,9 +26,9 @@ FILE = "or der.avsc"
 # What must be found: lines, columns and words.
 WANTED = [
     (3, 26, "/fields/1/type: double is not supported"),
-    (4, 14, "/fields/1/default: 0.0 is not a whole number of 64 bits"),
-    (5, 11, '/fields/2/name: "field-60" is not a name'),
-    (5, 47, "/fields/2/type/2: string is a branch before, at /fields/2/type/1"),
+    (4, 14, "/fields/1/default: 0.0 is not a 64-bit integer"),
+    (5, 11, '/fields/2/name: "field-60" is not a valid name'),
+    (5, 47, "/fields/2/type/2: duplicate branch string, first at /fields/2/type/1"),
 ]
 # The settings of docs/COMMANDS.md.
 COMMANDS = os.path.join(HERE, "..", "..", "docs", "COMMANDS.md")

@@ -120,10 +120,10 @@ def words(fault: Answer) -> str:
     writer, reader = fault["writer"]["type"], fault["reader"]["type"]
     return {
         "MissingField": f"{writer} of the writer has no such field, and there is no default",
-        "NoSymbol": f"{fault.get('symbol')} of the writer is none of {reader}, which has no default",
-        "NoMatch": f"{writer} is read as {reader}",
-        "NoBranch": f"no branch takes {writer}",
-        "NotUtf8": "bytes are read as string",
+        "NoSymbol": f"{fault.get('symbol')} is not a symbol of the reader's {reader}, which has no default",
+        "NoMatch": f"{writer} cannot be read as {reader}",
+        "NoBranch": f"no branch of the reader's union accepts {writer}",
+        "NotUtf8": "bytes read as string may not be UTF-8",
     }[fault["fault"]]
 
 

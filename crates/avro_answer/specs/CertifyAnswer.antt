@@ -8,15 +8,15 @@ use Rattle.avro_judge.specs.JudgeRanges.{JudgeLimitValues}
 use Rattle.avro_answer.specs.JudgeAnswer.{StatusAnswer}
 use Rattle.avro_answer.specs.ReadText.{IsReadAs}
 
--- the text is that of a certificate whose sets are closed for these schemas
+-- The text is that of a certificate whose sets are closed for these schemas.
 pub record IsCertifiedBy (writer reader : List Node) (text : List ℕ) : Type 0 where
   pub dead : List ℕ
   pub pairs : List Pair
   pub certifies : CertText dead pairs text
   pub closed : is_closed writer reader dead pairs ≡ true
 
--- What is answered of two texts: both declare schemas and are not too long, the status is that of their verdict, and after a
--- yes the text is that of a certificate.
+-- What is answered of two texts: both declare schemas and are not too long, the status is that of their verdict, and
+-- after a yes the text is that of a certificate whose sets are closed.
 pub record CertifyAnswer (writer reader : List ℕ) (limits : JudgeLimitValues) (text : List ℕ) (status : ℕ) : Type 0 where
   pub written : List Node
   pub read : List Node

@@ -10,24 +10,27 @@ use Rattle.avro_answer.specs.ReadText.{IsReadAs}
 use Rattle.avro_answer.specs.RefusalText.{HasCode, HasSchema}
 use Rattle.avro_answer.specs.declared.refusal.Refusal.{Refusal}
 
+-- the answer `confirmed`, with status 0
 abbrev pub IsConfirmed : List ℕ → ℕ → Type 0
 IsConfirmed text status = (text ≡ codes "confirmed\n") × (status ≡ 0)
 
+-- the answer `not confirmed`, with status 1
 abbrev pub IsNotConfirmed : List ℕ → ℕ → Type 0
 IsNotConfirmed text status = (text ≡ codes "not confirmed\n") × (status ≡ 1)
 
--- What is answered of two schemas and the two sets of a certificate: confirmed exactly where the sets are closed.
+-- What is answered of two schemas and the two sets of a certificate: confirmed if and only if the sets are closed.
 pub record SetsAnswer (writer reader : List Node) (dead : List ℕ) (pairs : List Pair) (text : List ℕ) (status : ℕ) : Type 0 where
   pub confirmed : IsConfirmed text status ↔ (is_closed writer reader dead pairs ≡ true)
   pub refused : IsNotConfirmed text status ↔ (is_closed writer reader dead pairs ≡ false)
 
--- What the status says of them, in each form of the answer: 0 exactly where the sets are closed, 1 exactly where not.
+-- The same of the status alone, in either form of the answer: 0 if and only if the sets are closed, 1 if and only if
+-- not.
 pub record SetsStatus (writer reader : List Node) (dead : List ℕ) (pairs : List Pair) (status : ℕ) : Type 0 where
   pub confirmed : (status ≡ 0) ↔ (is_closed writer reader dead pairs ≡ true)
   pub refused : (status ≡ 1) ↔ (is_closed writer reader dead pairs ≡ false)
 
--- What is answered of three texts: two declare schemas and are not too long, the third is a certificate's of numbers that a
--- schema's nodes can have, and it is the answer of those.
+-- What is answered of three texts: two declare schemas and are not too long, the third is that of a certificate with
+-- numbers up to 4,095, and it is the answer of those.
 pub record ConfirmAnswer (writer reader certificate text : List ℕ) (status : ℕ) : Type 0 where
   pub written : List Node
   pub read : List Node
@@ -39,7 +42,7 @@ pub record ConfirmAnswer (writer reader certificate text : List ℕ) (status : �
   pub small : are_small dead pairs ≡ true
   pub answered : SetsAnswer written read dead pairs text status
 
--- What the status says of three texts, in each form of the answer.
+-- The same of the status alone, in either form of the answer.
 pub record ConfirmStatus (writer reader certificate : List ℕ) (status : ℕ) : Type 0 where
   pub written : List Node
   pub read : List Node
@@ -51,7 +54,7 @@ pub record ConfirmStatus (writer reader certificate : List ℕ) (status : ℕ) :
   pub small : are_small dead pairs ≡ true
   pub answered : SetsStatus written read dead pairs status
 
--- the text is a certificate's, of numbers that a schema's nodes can have
+-- the text is that of a certificate with numbers up to 4,095
 abbrev pub HasCertificate : List ℕ → Type 0
 HasCertificate text = (dead : List ℕ) × (pairs : List Pair) × CertText dead pairs text × (are_small dead pairs ≡ true)
 

@@ -12,15 +12,17 @@ use Rattle.avro_answer.specs.ReadText.{IsReadAs}
 use Rattle.avro_answer.specs.FaultLine.{AreFaultLines}
 use Rattle.avro_answer.specs.JudgeAnswer.{IsYes}
 
+-- the answer `undecided Pairs`, with status 2
 abbrev pub IsOverPairs : List ℕ → ℕ → Type 0
 IsOverPairs text status = (text ≡ codes "undecided Pairs\n") × (status ≡ 2)
 
--- the roots lead to more pairs of nodes than the limit, but for the writer's nodes that no datum has
+-- the roots lead to more pairs of nodes than a limit, except for those whose writer's node has no datum
 abbrev pub IsOverLimit : List Node → List Node → ℕ → Type 0
 IsOverLimit writer reader limit = (dead : List ℕ) × (pairs : List Pair) × IsGreatestDead writer dead × AreTooMany writer reader dead limit pairs
 
--- The text of a no: the pairs of nodes that the roots lead to, each once, in the order and by the steps of a search by
--- breadth, but for the writer's nodes that no datum has; exactly their faults; and a line for each of these, in order.
+-- The text of a no: the pairs of nodes that the roots lead to, each once, in the order and by the steps of a
+-- breadth-first search, except for those whose writer's node has no datum; exactly their faults; and a line for each of
+-- these, in order.
 pub record AreAllFaults (writer reader : List Node) (text : List ℕ) : Type 0 where
   pub dead : List ℕ
   pub greatest : IsGreatestDead writer dead
@@ -34,7 +36,9 @@ pub record AreAllFaults (writer reader : List Node) (text : List ℕ) : Type 0 w
   pub exact : AreFaults writer reader places faults
   pub told : AreFaultLines writer reader places faults text
 
--- What is answered of two schemas, of which at most so many pairs of nodes are gone through.
+-- What is answered of two schemas, of which at most a number of pairs of nodes are gone through: `undecided Pairs` and
+-- status 2 if and only if the roots lead to more, otherwise `yes` and status 0 if and only if no datum fails, and
+-- status 1 with a line for each fault if not every datum resolves; nothing else.
 pub record FaultsAnswer (writer reader : List Node) (limit : ℕ) (text : List ℕ) (status : ℕ) : Type 0 where
   -- yes exactly where the pairs are within the limit and no datum of the writer's fails, of any size
   pub yes : IsYes text status ↔ ((IsOverLimit writer reader limit → ⊥) × AreCompatible writer reader)
@@ -47,7 +51,7 @@ pub record FaultsAnswer (writer reader : List Node) (limit : ℕ) (text : List �
   -- there is no other answer
   pub known : IsYes text status ⊎ (status ≡ 1) ⊎ IsOverPairs text status
 
--- What the status says of two schemas, in each form of the answer.
+-- The same of the status alone, in either form of the answer.
 pub record FaultsStatus (writer reader : List Node) (limit status : ℕ) : Type 0 where
   pub yes : (status ≡ 0) ↔ ((IsOverLimit writer reader limit → ⊥) × AreCompatible writer reader)
   pub no : (status ≡ 1) ↔ ((IsOverLimit writer reader limit → ⊥) × (AreCompatible writer reader → ⊥))
@@ -62,7 +66,7 @@ pub record ExplainAnswer (writer reader : List ℕ) (limit : ℕ) (text : List �
   pub declares_read : IsReadAs reader read
   pub answered : FaultsAnswer written read limit text status
 
--- The same of the status alone, in each form of the answer.
+-- The same of the status alone, in either form of the answer.
 pub record ExplainStatus (writer reader : List ℕ) (limit status : ℕ) : Type 0 where
   pub written : List Node
   pub read : List Node

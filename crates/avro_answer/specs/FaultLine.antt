@@ -10,7 +10,7 @@ use Rattle.avro_explain.specs.declared.found.PathStep.{PathStep}
 use Rattle.avro_explain.specs.declared.found.Place.{Place}
 use Rattle.avro_answer.specs.PlaceText.{field_name_at, type_text, place_text}
 
--- the line before those of the faults, with how many there are
+-- the line before those of the faults, with their number
 abbrev pub no_line : ℕ → List ℕ
 no_line count = codes "no " ++ decimal count ++ codes "\n"
 
@@ -22,10 +22,11 @@ fault_word Detail.NotUtf8 = codes "NotUtf8"
 fault_word (Detail.NoSymbol k) = codes "NoSymbol"
 fault_word (Detail.MissingField k) = codes "MissingField"
 
--- the name of a symbol or of a field of the node of an id, by its index
+-- the name of a symbol of the node of an id, by its index
 abbrev pub symbol_at : List Node → ℕ → ℕ → Option (List ℕ)
 symbol_at nodes id k = option_and_then (λ n. option_and_then (λ symbols. slice_get symbols k) (symbols_of n)) (slice_get nodes id)
 
+-- the name of a field of the node of an id, by its index
 abbrev pub field_at : List Node → ℕ → ℕ → Option (List ℕ)
 field_at nodes id k = option_and_then (λ n. field_name_at n k) (slice_get nodes id)
 
@@ -42,24 +43,25 @@ field_part d missing = []
 
 -- what is wrong, by the name of what is missing and the types of both nodes
 abbrev pub reason_text : Detail → List ℕ → List ℕ → List ℕ → List ℕ
-reason_text Detail.NoMatch missing written read = written ++ codes " is read as " ++ read
-reason_text Detail.NoBranch missing written read = codes "no branch takes " ++ written
-reason_text Detail.NotUtf8 missing written read = codes "bytes are read as string"
-reason_text (Detail.NoSymbol k) missing written read = missing ++ (codes " of the writer is none of " ++ (read ++ codes ", which has no default"))
+reason_text Detail.NoMatch missing written read = written ++ codes " cannot be read as " ++ read
+reason_text Detail.NoBranch missing written read = codes "no branch of the reader's union accepts " ++ written
+reason_text Detail.NotUtf8 missing written read = codes "bytes read as string may not be UTF-8"
+reason_text (Detail.NoSymbol k) missing written read = missing ++ (codes " is not a symbol of the reader's " ++ (read ++ codes ", which has no default"))
 reason_text (Detail.MissingField k) missing written read = written ++ codes " of the writer has no such field, and there is no default"
 
--- the kind between colons, and the writer's place to the end of the line
+-- the kind between colons
 abbrev pub kind_part : Detail → List ℕ
 kind_part d = codes ": " ++ fault_word d ++ codes ": "
 
+-- the writer's place, to the end of the line
 abbrev pub writer_part : List ℕ → List ℕ
 writer_part at = codes " (writer's " ++ at ++ codes ")\n"
 
--- the line of all parts: the reader's place, the kind, what is wrong, the writer's place
+-- a line of these parts: the reader's place, the kind, what is wrong, the writer's place
 abbrev pub line_of : Detail → List ℕ → List ℕ → List ℕ → List ℕ → List ℕ → List ℕ
 line_of d missing writer_at written reader_at read = reader_at ++ field_part d missing ++ kind_part d ++ reason_text d missing written read ++ writer_part writer_at
 
--- the same by the ways to the nodes of a place; a type shows at most 256 arrays and maps within one another
+-- the line of a fault by the ways to the nodes of its place; a type shows at most 256 nested arrays and maps
 abbrev pub fault_line : List Node → List Node → Place → Detail → List PathStep → List PathStep → List ℕ
 fault_line writer reader place d writer_way reader_way =
     line_of d (unwrap_or (missing_of writer reader place d) []) (place_text writer writer_way) (type_text 256 writer place.w.0)
@@ -82,7 +84,7 @@ pub record IsLineAdded (writer reader : List Node) (places : List Place) (fault 
   pub is : IsFaultLine writer reader places fault line
   pub added : after ≡ before ++ line
 
--- a line that counts faults, and a line for each of them, in order
+-- a line with the number of faults, and a line for each of them, in order
 pub record AreFaultLines (writer reader : List Node) (places : List Place) (faults : List Finding) (text : List ℕ) : Type 0 where
   pub lines : List (List ℕ)
   pub each : AllZip (IsFaultLine writer reader places) faults lines

@@ -16,10 +16,11 @@ use Rattle.avro_answer.specs.ReadText.{IsReadAs}
 use Rattle.avro_answer.specs.RefusalText.{HasCode, HasSchema}
 use Rattle.avro_answer.specs.declared.refusal.Refusal.{Refusal}
 
+-- a line of a word and a verdict, with its status
 abbrev pub IsLineOf : List ℕ → List ℕ → ℕ → List ℕ → ℕ → Type 0
 IsLineOf word verdict given text status = (text ≡ word ++ (verdict ++ codes "\n")) × (status ≡ given)
 
--- The line begins with a word, which names the schema.
+-- A line of a history: a word, which names the schema, and the verdict on two schemas.
 pub record LineAnswer (word : List ℕ) (writer reader : List Node) (limits : JudgeLimitValues) (text : List ℕ) (status : ℕ) : Type 0 where
   -- yes exactly where the schemas are within the pair limit and no datum of the writer's fails, of any size
   pub yes : IsLineOf word (codes " yes") 0 text status ↔ (InPairs writer reader limits × AreCompatible writer reader)
@@ -31,7 +32,7 @@ pub record LineAnswer (word : List ℕ) (writer reader : List Node) (limits : Ju
   pub known : IsLineOf word (codes " yes") 0 text status ⊎ IsLineOf word (codes " no") 1 text status
       ⊎ ((cause : Cause) × IsLineOf word (codes " undecided " ++ cause_text cause) 2 text status)
 
--- texts that follow one another, by their lengths; a length past the end is that of what is left
+-- texts that follow one another, divided by their lengths; a length past the end is that of what is left
 abbrev pub cut_texts : List ℕ → List ℕ → List (List ℕ)
 cut_texts texts [] = []
 cut_texts texts (n ∷ lengths) = take n texts ∷ cut_texts (drop n texts) lengths
@@ -40,7 +41,8 @@ cut_texts texts (n ∷ lengths) = take n texts ∷ cut_texts (drop n texts) leng
 abbrev pub worst : List ℕ → ℕ
 worst statuses = if list_any (λ s. s == 1) statuses then 1 else (if list_any (λ s. s == 2) statuses then 2 else 0)
 
--- A line for each writer's schema, in order, which begins with the digits of its number; the first one has the number 0.
+-- A line for each writer's schema, in order, which begins with the digits of its number, from 0 on, and the worst
+-- status.
 pub record LinesAnswer (writers : List (List Node)) (reader : List Node) (limits : JudgeLimitValues) (text : List ℕ) (status : ℕ) : Type 0 where
   pub lines : List (List ℕ)
   pub statuses : List ℕ
@@ -49,18 +51,20 @@ pub record LinesAnswer (writers : List (List Node)) (reader : List Node) (limits
   pub text_is : text ≡ concat lines
   pub status_is : status ≡ worst statuses
 
--- What the status says of each, whatever the form of the lines.
+-- The statuses alone, in either form of the lines.
 pub record LinesStatus (writers : List (List Node)) (reader : List Node) (limits : JudgeLimitValues) (status : ℕ) : Type 0 where
   pub statuses : List ℕ
   pub as_many : length statuses ≡ length writers
   pub each : (k : ℕ) → k < length writers → StatusAnswer (get_or writers k []) reader limits (get_or statuses k 0)
   pub status_is : status ≡ worst statuses
 
--- Of several schemas the last is the reader's, and each other one is a writer's; where there is none, nothing is answered.
+-- What is answered of several schemas, the last of which is the reader's and each other one a writer's; where there is
+-- none, nothing is answered.
 pub record SchemasHistory (schemas : List (List Node)) (limits : JudgeLimitValues) (text : List ℕ) (status : ℕ) : Type 0 where
   pub none : schemas ≡ [] → (text ≡ []) × (status ≡ 0)
   pub lines : (writers : List (List Node)) (reader : List Node) → schemas ≡ writers ++ (reader ∷ []) → LinesAnswer writers reader limits text status
 
+-- The same of the status alone, in either form of the lines.
 pub record SchemasStatus (schemas : List (List Node)) (limits : JudgeLimitValues) (status : ℕ) : Type 0 where
   pub none : schemas ≡ [] → status ≡ 0
   pub lines : (writers : List (List Node)) (reader : List Node) → schemas ≡ writers ++ (reader ∷ []) → LinesStatus writers reader limits status
@@ -71,6 +75,7 @@ pub record HistoryAnswer (texts : List (List ℕ)) (limits : JudgeLimitValues) (
   pub declared : AllZip IsReadAs texts schemas
   pub answered : SchemasHistory schemas limits text status
 
+-- The same of the status alone, in either form of the lines.
 pub record HistoryStatus (texts : List (List ℕ)) (limits : JudgeLimitValues) (status : ℕ) : Type 0 where
   pub schemas : List (List Node)
   pub declared : AllZip IsReadAs texts schemas

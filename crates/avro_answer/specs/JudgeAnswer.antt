@@ -12,27 +12,29 @@ use Rattle.avro_judge.specs.declared.verdict.Cause.{Cause}
 use Rattle.avro_answer.specs.ReadText.{IsReadAs}
 use Rattle.avro_answer.specs.Texts.{fault_text, cause_text}
 
+-- the answer `yes`, with status 0
 abbrev pub IsYes : List ℕ → ℕ → Type 0
 IsYes text status = (text ≡ codes "yes\n") × (status ≡ 0)
 
--- a no with its fault, and with the datum's number of nodes and display
+-- the four lines of a no: its fault, and the datum's number of nodes and display
 abbrev pub no_text : List Node → Value → ResolutionFault → List ℕ
 no_text writer v fault =
     codes "no\nfault " ++ fault_text fault
     ++ codes "\nnodes " ++ decimal (size v)
     ++ codes "\ndatum " ++ display_text writer (root_of writer) v ++ codes "\n"
 
+-- the answer `undecided` with its cause, and status 2
 abbrev pub IsUndecidedBy : Cause → List ℕ → ℕ → Type 0
 IsUndecidedBy cause text status = (text ≡ codes "undecided " ++ cause_text cause ++ codes "\n") × (status ≡ 2)
 
--- a datum that refutes the two schemas, with the fault and in the text of a no
+-- a datum that refutes the two schemas, with its fault, in the text of a no
 pub record IsNo (writer reader : List Node) (limits : JudgeLimitValues) (text : List ℕ) : Type 0 where
   pub datum : Value
   pub fault : ResolutionFault
   pub refutes : Refutes writer reader limits datum fault
   pub written : text ≡ no_text writer datum fault
 
--- What is answered of two schemas.
+-- What is answered of two schemas, and nothing else: yes, a no, or undecided with a cause.
 pub record SchemasAnswer (writer reader : List Node) (limits : JudgeLimitValues) (text : List ℕ) (status : ℕ) : Type 0 where
   -- yes exactly where the schemas are within the pair limit and no datum of the writer's fails, of any size
   pub yes : IsYes text status ↔ (InPairs writer reader limits × AreCompatible writer reader)
@@ -43,7 +45,7 @@ pub record SchemasAnswer (writer reader : List Node) (limits : JudgeLimitValues)
   -- there is no other answer
   pub known : IsYes text status ⊎ (status ≡ 1) ⊎ ((cause : Cause) × IsUndecidedBy cause text status)
 
--- What the status says of two schemas, in each form of the answer.
+-- The same of the status alone, in either form of the answer.
 pub record StatusAnswer (writer reader : List Node) (limits : JudgeLimitValues) (status : ℕ) : Type 0 where
   pub yes : (status ≡ 0) ↔ (InPairs writer reader limits × AreCompatible writer reader)
   pub no : status ≡ 1 → (v : Value) × (fault : ResolutionFault) × Refutes writer reader limits v fault
@@ -58,7 +60,7 @@ pub record JudgeAnswer (writer reader : List ℕ) (limits : JudgeLimitValues) (t
   pub declares_read : IsReadAs reader read
   pub answered : SchemasAnswer written read limits text status
 
--- What the status says of two texts, in each form of the answer: both are such texts, and it is the status of their schemas.
+-- The same of the status alone, in either form of the answer.
 pub record JudgeStatus (writer reader : List ℕ) (limits : JudgeLimitValues) (status : ℕ) : Type 0 where
   pub written : List Node
   pub read : List Node

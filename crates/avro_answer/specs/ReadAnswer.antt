@@ -16,12 +16,12 @@ use Rattle.avro_answer.specs.Texts.{bytes_fault_text, fault_text}
 use Rattle.avro_answer.specs.declared.form.Form.{Form}
 use Rattle.avro_answer.specs.declared.refusal.Refusal.{Refusal}
 
--- the schema of what is answered: the reader's, where there is one
+-- the schema of what is answered: the reader's if there is one, otherwise the writer's
 abbrev pub nodes_for : List Node → Option (List Node) → List Node
 nodes_for writer None = writer
 nodes_for writer (Some reader) = reader
 
--- what a writer's datum is there: what resolution gives, or itself
+-- what a writer's datum becomes: what resolution gives if there is a reader, otherwise itself
 abbrev pub read_as : List Node → Option (List Node) → Value → Resolved
 read_as writer None v = Ok v
 read_as writer (Some reader) v = resolve_root writer reader v
@@ -41,14 +41,14 @@ pub data Found : Type 0 where
   broken : (fault : ReadFault) → Found
   unresolved : (fault : ResolutionFault) → Found
 
--- at the front of bytes
+-- this is found at the front of some bytes
 abbrev pub IsAtFront : List Node → Option (List Node) → LimitValues → List ℕ → Found → Type 0
 IsAtFront writer reader limits bytes (datum u len) = (v : Value) × BeginsWith writer limits bytes v len × (read_as writer reader v ≡ Ok u)
 IsAtFront writer reader limits bytes (broken fault) = Breaks writer limits (root_of writer) bytes fault
 IsAtFront writer reader limits bytes (unresolved fault) =
     (v : Value) × (len : ℕ) × BeginsWith writer limits bytes v len × (read_as writer reader v ≡ Err fault)
 
--- after a number of bytes; where there are fewer, the input ends before the datum begins
+-- this is found after a number of bytes; if there are fewer, the input ends before the datum begins
 abbrev pub IsFound : List Node → Option (List Node) → LimitValues → ℕ → List ℕ → Found → Type 0
 IsFound writer reader limits skip bytes found =
     ((length bytes < skip) × (found ≡ broken (end_of_input 0))) ⊎ ((skip ≤ length bytes) × IsAtFront writer reader limits (drop skip bytes) found)
@@ -58,23 +58,24 @@ pub record IsAllFound (writer : List Node) (reader : Option (List Node)) (limits
   pub there : IsFound writer reader limits skip bytes found
   pub alone : (other : Found) → IsFound writer reader limits skip bytes other → other ≡ found
 
--- the length of the encoding and the datum's display, in two lines or as a line of JSON
+-- the length of the encoding and the display of the datum, as two lines or as a line of JSON
 abbrev pub datum_text : Form → List Node → Value → ℕ → List ℕ
 datum_text Form.Text nodes u len = codes "bytes " ++ decimal len ++ codes "\ndatum " ++ display_text nodes (root_of nodes) u ++ codes "\n"
 datum_text Form.Json nodes u len = codes "{\"bytes\":" ++ decimal len ++ codes ",\"datum\":" ++ display_text nodes (root_of nodes) u ++ codes "}\n"
 
--- what is told of what is found, by the word that names the data: a datum, or the line of the fault
+-- the text of what is found, by the word that names the data: of a datum, or the line of the fault
 abbrev pub found_text : Form → List ℕ → List Node → Found → List ℕ
 found_text form word nodes (datum u len) = datum_text form nodes u len
 found_text form word nodes (broken fault) = refusal_text word (bytes_fault_text fault)
 found_text form word nodes (unresolved fault) = refusal_text word (fault_text fault)
 
+-- the status of what is found: 0 for a datum, 3 for a fault
 abbrev pub found_status : Found → ℕ
 found_status (datum u len) = 0
 found_status (broken fault) = 3
 found_status (unresolved fault) = 3
 
--- What is answered of schemas and of data.
+-- What is answered of schemas and of data: the text and the status of what is found, and nothing else is found.
 pub record DataAnswer (writer : List Node) (reader : Option (List Node)) (limits : LimitValues) (form : Form) (skip : ℕ) (bytes text : List ℕ) (status : ℕ) : Type 0 where
   pub found : Found
   pub is_found : IsAllFound writer reader limits skip bytes found

@@ -14,16 +14,17 @@ found_line nodes (datum u len) = datum_text Form.Json nodes u len
 found_line nodes (broken fault) = codes "{\"fault\":\"" ++ bytes_fault_text fault ++ codes "\"}\n"
 found_line nodes (unresolved fault) = codes "{\"fault\":\"" ++ fault_text fault ++ codes "\"}\n"
 
+-- what is found is a datum
 abbrev pub is_datum : Found → Bool
 is_datum (datum u len) = true
 is_datum (broken fault) = false
 is_datum (unresolved fault) = false
 
--- 0 where each is a datum, else 1
+-- 0 if each is a datum, otherwise 1
 abbrev pub all_status : List Found → ℕ
 all_status all = if list_all is_datum all then 0 else 1
 
--- What is answered of schemas and of several data: what is found in each, in order.
+-- What is answered of schemas and of several data: a line for what is found in each, in order, and the status of all.
 pub record LinesRead (writer : List Node) (reader : Option (List Node)) (limits : LimitValues) (skip : ℕ) (several : List (List ℕ)) (text : List ℕ) (status : ℕ) : Type 0 where
   pub all : List Found
   pub each : AllZip (IsAllFound writer reader limits skip) several all

@@ -12,7 +12,8 @@ use Rattle.avro_answer.specs.declared.refusal.Refusal.{Refusal}
 abbrev pub refusal_text : List ℕ → List ℕ → List ℕ
 refusal_text word code = codes "avro: " ++ word ++ codes ": " ++ code ++ codes "\n"
 
--- The code is one that the text has: it is too long, whatever it holds; or else it is no JSON, or its tree has the fault.
+-- The code is one that the text has: S12 if it is too long, whatever it holds; otherwise that it is not JSON, or a
+-- fault of its tree.
 abbrev pub HasCode : List ℕ → SchemaError → Type 0
 HasCode text e =
     ((max_text < length text) × (e ≡ SchemaError.LimitExceeded))
@@ -23,11 +24,11 @@ HasCode text e =
 abbrev pub HasSchema : List ℕ → Type 0
 HasSchema text = (nodes : List Node) × IsReadAs text nodes
 
--- so does each of both
+-- each of two texts is not too long, and declares a schema
 abbrev pub HaveSchemas : List ℕ → List ℕ → Type 0
 HaveSchemas writer reader = HasSchema writer × HasSchema reader
 
--- What a refusal says of the text of one schema.
+-- What a refusal says of the text of one schema: it has this code. Memory that runs out says nothing.
 abbrev pub RefusesOne : List ℕ → Refusal → Type 0
 RefusesOne text (Refusal.Writer e) = HasCode text e
 RefusesOne text (Refusal.Reader e) = ⊥

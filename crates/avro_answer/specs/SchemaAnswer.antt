@@ -7,7 +7,7 @@ use Rattle.avro_certificate.specs.CertificateText.{decimal}
 use Rattle.avro_answer.specs.ReadText.{IsReadAs}
 use Rattle.avro_answer.specs.declared.schemas.Shown.{Shown}
 
--- the number of nodes, the canonical form, or the digits of the fingerprint, each with the end of a line
+-- the number of nodes, the canonical form, or the digits of the fingerprint, each with a line end
 abbrev pub NodesAnswer : Shown → List Node → List ℕ → Type 0
 NodesAnswer Shown.Count nodes text = text ≡ codes "ok " ++ decimal (length nodes) ++ codes "\n"
 NodesAnswer Shown.Canonical nodes text = (form : List ℕ) × IsCanonical nodes form × (text ≡ form ++ codes "\n")

@@ -7,7 +7,7 @@ use Rattle.avro_compare.specs.Fault.{FaultCause, no_match, no_branch, missing_fi
 use Rattle.avro_certificate.specs.CertificateText.{decimal}
 use Rattle.avro_judge.specs.declared.verdict.Cause.{Cause}
 
--- the kind of a fault; a missing field is the reader's, by its index
+-- the text of a fault's kind; a missing field is the reader's, by its index
 abbrev pub kind_text : FaultCause → List ℕ
 kind_text no_match = codes "NoMatch"
 kind_text no_branch = codes "NoBranch"
@@ -15,18 +15,20 @@ kind_text (missing_field_at k) = codes "MissingField " ++ decimal k
 kind_text no_symbol = codes "NoSymbol"
 kind_text not_utf8 = codes "NotUtf8"
 
--- a step down a datum, and the whole way, the first step first
+-- a step down a datum
 abbrev pub step_text : ℕ → List ℕ
 step_text k = 47 ∷ decimal k
 
+-- the path of a fault, its first step first
 abbrev pub path_text : List ℕ → List ℕ
 path_text [] = codes "/"
 path_text (k ∷ ks) = flat_map step_text (k ∷ ks)
 
+-- a fault: its kind, and its path
 abbrev pub fault_text : ResolutionFault → List ℕ
 fault_text f = kind_text f.cause ++ codes " at " ++ path_text f.path
 
--- the first fault of bytes, with the offset of the part that fails
+-- the code of a fault of bytes, with the offset of the part that fails, if there is one
 abbrev pub bytes_fault_text : ReadFault → List ℕ
 bytes_fault_text (end_of_input place) = codes "B1 at " ++ decimal place
 bytes_fault_text (invalid_number place) = codes "B2 at " ++ decimal place
@@ -38,15 +40,16 @@ bytes_fault_text (wrong_block_size place) = codes "B7 at " ++ decimal place
 bytes_fault_text (duplicate_key place) = codes "B8 at " ++ decimal place
 bytes_fault_text limit_exceeded = codes "B9"
 
--- the same of an error of reading; want of memory is no fault of the bytes
+-- the same of a fault that may be there; that memory ran out is no fault of the bytes
 abbrev pub bytes_fault_or : Option ReadFault → List ℕ
 bytes_fault_or (Some fault) = bytes_fault_text fault
 bytes_fault_or None = codes "B10"
 
+-- the same of an error of reading
 abbrev pub reading_text : ReadError → List ℕ
 reading_text e = bytes_fault_or (read_fault e)
 
--- why a pair of schemas is undecided
+-- why two schemas are undecided
 abbrev pub cause_text : Cause → List ℕ
 cause_text Cause.Pairs = codes "Pairs"
 cause_text Cause.Size = codes "Size"

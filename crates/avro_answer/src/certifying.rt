@@ -20,8 +20,8 @@ use avro_judge::{Approved, JudgeLimits, Verdict};
 use avro_schema::{Memory, Schema};
 use std::alloc::Global;
 
-/// Judges the schemas of two texts, and answers the status of the verdict, with the text of a certificate after a yes and
-/// none after another verdict.
+/// Judges the schemas of two texts, and answers the status of the verdict, with the text of a certificate whose sets are closed after a
+/// yes. That there is none after another verdict is in no clause.
 ///
 /// # Errors
 ///

@@ -19,7 +19,8 @@ use avro_judge::confirm;
 use avro_schema::{Memory, Schema};
 use std::alloc::{AllocError, Global};
 
-/// Says whether a certificate confirms two schemas.
+/// Says whether a certificate confirms two schemas, which it does if and only if its sets are closed: `confirmed` with status 0, otherwise
+/// `not confirmed` with status 1. With JSON output this is proved of the status alone.
 ///
 /// # Errors
 ///
@@ -38,7 +39,7 @@ pub fn confirm_schemas(
     Ok(answer_confirmed(alloc, is_confirmed, form)?)
 }
 
-/// What is answered of what a certificate confirms, or does not confirm.
+/// The answer `confirmed` with status 0, or `not confirmed` with status 1. With JSON output the status alone is proved.
 ///
 /// # Errors
 ///
@@ -69,7 +70,7 @@ fn confirmed_text(is_confirmed: bool) -> &'static str
     }
 }
 
-/// Says whether the certificate of a text confirms the schemas of two.
+/// Says whether the certificate of a text confirms the schemas of two, as [`confirm_schemas`] does.
 ///
 /// # Errors
 ///

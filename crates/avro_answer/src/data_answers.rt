@@ -23,8 +23,8 @@ use avro_resolve::ReadResolveError;
 use avro_schema::{Limits, Memory, Schema};
 use std::alloc::Global;
 
-/// Reads the datum that stands in data after `skip` bytes, whatever follows it, as what it is for a reader's schema where
-/// there is one, and answers the length of its encoding and its display.
+/// Reads the datum at the start of data after `skip` bytes, whatever follows it, as what it is for a reader's schema if there is one, and
+/// answers the length of its encoding and its display, in each form. There is only one answer.
 ///
 /// # Errors
 ///
@@ -48,8 +48,8 @@ pub fn read_schemas(
     }
 }
 
-/// Reads the datum that stands in data after `skip` bytes, by the schemas of texts. The status is 0 after a datum, and 3
-/// after data that are refused; the line of those names them `data`.
+/// Reads data by the schemas of texts, as [`read_schemas`] does. The status is 0 after a datum, and 3 after data that are refused; the
+/// line of those has the first fault, and names them `data`.
 ///
 /// # Errors
 ///

@@ -19,7 +19,9 @@ use avro_explain::{ExplainError, explain};
 use avro_schema::{Memory, Schema};
 use std::alloc::Global;
 
-/// Finds all faults of the schemas of two texts, of which the roots lead to `max_pairs` pairs of nodes at most.
+/// Finds all faults of the schemas of two texts: `undecided Pairs` if and only if the roots lead to more than `max_pairs` pairs of nodes,
+/// otherwise `yes` if and only if no datum fails, and a no if not every datum resolves, with the number of faults and a line for each, in
+/// order. With JSON output this is proved of the status alone.
 ///
 /// # Errors
 ///

@@ -20,11 +20,12 @@ use std::alloc::{AllocError, Global};
 /// A longer text is put in several pieces.
 const PIECE: usize = 1_048_576;
 
-/// Puts a no and all faults that were found, of which there are some, by names into an output.
+/// Puts a no and all faults that [`explain`](avro_explain::explain) found, of which there are some, into an output: their number, and a line
+/// for each, in order, with the paths to the nodes of its place. With JSON output no clause says what is put.
 ///
 /// # Errors
 ///
-/// The output failed, or took none of the bytes; memory ran out. Some of the text was put, or none.
+/// The output failed, or took none of the bytes; memory ran out. No clause says what was put then.
 pub fn put_faults<O: Output>(
     out: &mut O,
     alloc: Global,

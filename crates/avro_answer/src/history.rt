@@ -29,7 +29,7 @@ pub struct Judged<'a> {
     pub answer: Answer,
 }
 
-/// Judges two schemas, and returns a line that begins with a word.
+/// Judges two schemas, and returns a line of a word and the verdict, with its status.
 ///
 /// # Errors
 ///
@@ -65,7 +65,8 @@ fn line_of(alloc: Global, word: &str, verdict: &Verdict<'_>) -> Result<Vec<u8>, 
     Ok(line)
 }
 
-/// Judges two schemas, and returns a line of JSON, with the name of a file, and a mode if there is one.
+/// Judges two schemas, and returns a line of JSON, with the name of a file, and a mode if there is one. What is proved is its status, not
+/// the line.
 ///
 /// # Errors
 ///
@@ -94,8 +95,8 @@ pub fn judge_json_line<'a>(
 }
 
 /// Judges the schema of each text but the last against that of the last, and returns a line for each, which begins with
-/// its number, from 0. A no outranks an undecided, which outranks a yes. The texts are concatenated and given with their
-/// lengths; a length past the end stands for what is left.
+/// its number, from 0, with the worst status: a no outranks an undecided, which outranks a yes. The texts are concatenated and given
+/// with their lengths; a length past the end stands for what is left. With JSON output this is proved of the status alone.
 ///
 /// # Errors
 ///

@@ -66,7 +66,7 @@ pub(crate) fn confirmed_line(alloc: Global, is_confirmed: bool) -> Result<String
     answer.line()
 }
 
-/// The line that says how many data and blocks a container has.
+/// The line that says how many data and blocks a container has. No clause says what it is.
 ///
 /// # Errors
 ///

@@ -24,11 +24,13 @@ use avro_judge::{JudgeLimits, Verdict};
 use avro_schema::{Memory, Schema};
 use std::alloc::Global;
 
-/// Judges two schemas, puts the answer into an output, and returns the verdict with its status.
+/// Judges two schemas, puts the answer into an output, and returns the verdict with its status: `yes` if and only if no datum fails, a no
+/// with a smallest datum that does, its fault, its number of nodes and its display, or `undecided` with a cause if and only if the limit of
+/// that cause is exceeded. With JSON output this is proved of the status alone.
 ///
 /// # Errors
 ///
-/// The output failed, or took none of the bytes; memory ran out. Some of the text was put, or none.
+/// The output failed, or took none of the bytes; memory ran out. No clause says what was put then.
 #[tactic(auto, using(crate::proofs::VerdictAnswers::is_small))]
 pub fn judge_schemas<'a, O: Output>(
     out: &mut O,
@@ -54,7 +56,7 @@ pub fn judge_schemas<'a, O: Output>(
     Ok((verdict, status))
 }
 
-/// Judges the schemas of two texts. Of the answer's text only the front is kept that there is room for.
+/// Judges the schemas of two texts, as [`judge_schemas`] does. Of the answer's text only the front is kept that there is room for.
 ///
 /// # Errors
 ///

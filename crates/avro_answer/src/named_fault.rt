@@ -159,21 +159,21 @@ impl<'a> NamedFault<'a> {
         match self.detail {
             Detail::NoMatch => {
                 text.push_str(self.writer.type_text.as_str())?;
-                text.push_str(" is read as ")?;
+                text.push_str(" cannot be read as ")?;
                 text.push_str(self.reader.type_text.as_str())
             }
             Detail::NoBranch => {
-                text.push_str("no branch takes ")?;
+                text.push_str("no branch of the reader's union accepts ")?;
                 text.push_str(self.writer.type_text.as_str())?;
                 Ok(())
             }
             Detail::NotUtf8 => {
-                text.push_str("bytes are read as string")?;
+                text.push_str("bytes read as string may not be UTF-8")?;
                 Ok(())
             }
             Detail::NoSymbol(_) => {
                 self.put_missing(text)?;
-                text.push_str(" of the writer is none of ")?;
+                text.push_str(" is not a symbol of the reader's ")?;
                 text.push_str(self.reader.type_text.as_str())?;
                 text.push_str(", which has no default")?;
                 Ok(())

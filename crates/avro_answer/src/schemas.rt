@@ -26,7 +26,7 @@ pub enum Shown {
     Fingerprint,
 }
 
-/// What is shown of a schema.
+/// What is shown of a schema, and a line end: its number of nodes, its canonical form, or its fingerprint.
 ///
 /// # Errors
 ///
@@ -68,7 +68,7 @@ fn line_of(alloc: Global, bytes: &[u8]) -> Result<Vec<u8>, Memory>
     Ok(line)
 }
 
-/// What is shown of the schema of a text.
+/// What [`show_schema`] shows of the schema of a text.
 ///
 /// # Errors
 ///

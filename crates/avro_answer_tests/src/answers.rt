@@ -96,7 +96,10 @@ const EXPLAINED: [Row; 6] = [
         r#""long""#,
         r#""int""#,
         Form::Text,
-        Ok((1, "no 1\n$: NoMatch: long is read as int (writer's $)\n")),
+        Ok((
+            1,
+            "no 1\n$: NoMatch: long cannot be read as int (writer's $)\n",
+        )),
     ),
     (
         ALL,
@@ -105,7 +108,7 @@ const EXPLAINED: [Row; 6] = [
         Form::Text,
         Ok((
             1,
-            "no 1\n$.a: NoBranch: no branch takes long (writer's $.a<long>)\n",
+            "no 1\n$.a: NoBranch: no branch of the reader's union accepts long (writer's $.a<long>)\n",
         )),
     ),
     (
@@ -125,7 +128,7 @@ const EXPLAINED: [Row; 6] = [
         Form::Text,
         Ok((
             1,
-            "no 1\n$: NotUtf8: bytes are read as string (writer's $)\n",
+            "no 1\n$: NotUtf8: bytes read as string may not be UTF-8 (writer's $)\n",
         )),
     ),
     (
@@ -135,7 +138,7 @@ const EXPLAINED: [Row; 6] = [
         Form::Text,
         Ok((
             1,
-            "no 1\n$: NoSymbol: B of the writer is none of E, which has no default (writer's $)\n",
+            "no 1\n$: NoSymbol: B is not a symbol of the reader's E, which has no default (writer's $)\n",
         )),
     ),
 ];

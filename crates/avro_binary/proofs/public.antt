@@ -1,4 +1,5 @@
 pub mod Blocks
 pub mod Distinct
 pub mod EmptyData
+pub mod Shortest
 pub mod Zipped

@@ -23,7 +23,8 @@ pub record Moves (before : CursorValue) (front : List ℕ) (after : CursorValue)
   pub depth : after.depth ≡ before.depth
   pub blob : after.blob ≡ before.blob
 
--- The cursor has passed an encoding of a datum of the node within what was left, which takes its nodes of those left.
+-- The cursor has passed an encoding of a datum of the node within what was left; the nodes of the datum are taken of
+-- those left.
 pub record FindsValue (nodes : List Node) (n : Node) (before after : CursorValue) (v : Value) : Type 0 where
   pub front : List ℕ
   pub encoded : Encodes nodes n v front
@@ -45,10 +46,11 @@ pub record ReadsNode {R : Type 0} (stands : R → Value → Type 0) (nodes : Lis
 abbrev pub IsSeenAs : Datum → Value → Type 0
 IsSeenAs datum v = value_of datum ≡ v
 
--- a cursor before it entered the node that it is in, and one that has left it
+-- a cursor as it was before it entered the node that it is in
 abbrev pub outside : CursorValue → CursorValue
 outside c = record c { depth = suc c.depth; nodes = suc c.nodes }
 
+-- a cursor that has left the node that it was in
 abbrev pub left_node : CursorValue → CursorValue
 left_node c = record c { depth = suc c.depth }
 
@@ -80,13 +82,15 @@ pub record EntriesRun (nodes : List Node) (limits : LimitValues) (n : Node) (lef
   pub long : entries_longest_blob (entries_from es) ≤ limits.blob
   pub keys : then_left.keys ≡ left.keys ++ keys_of (entries_from es)
 
--- how an item breaks, and how an entry does
+-- how an item of an array breaks, or an entry of a map
 abbrev pub child_breaks : List Node → LimitValues → ChildBreaks
 child_breaks nodes limits left m rest g = BreaksWithin nodes limits.depth left limits.blob m rest g
 
+-- how an item breaks within what is left at a cursor
 abbrev pub value_breaks : List Node → LimitValues → Node → Left → List ℕ → ReadFault → Type 0
 value_breaks nodes limits n left = child_breaks nodes limits left.nodes n
 
+-- how an entry breaks within what is left at a cursor and after the keys so far
 abbrev pub entry_breaks : List Node → LimitValues → Node → Left → List ℕ → ReadFault → Type 0
 entry_breaks nodes limits n = EntryBreaks limits (child_breaks nodes limits) n
 
@@ -96,7 +100,7 @@ pub record FindsRun {E : Type 0} (run : Left → List E → List (List ℕ) → 
   pub stand : run (left_at before keys) xs items (left_at after keys_after)
   pub moves : Moves before (concat items) after
 
--- fewer items than the count are whole, and the next breaks
+-- fewer items than the count are complete, and the next one breaks
 pub record RunBreaks {E : Type 0} (run : Left → List E → List (List ℕ) → Left → Type 0) (breaks : Left → List ℕ → ReadFault → Type 0) (left : Left) (count : ℕ) (bytes : List ℕ) (f : ReadFault) : Type 0 where
   pub xs : List E
   pub items : List (List ℕ)

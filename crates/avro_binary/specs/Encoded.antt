@@ -7,7 +7,8 @@ use Rattle.avro_cursor.specs.Encoding.{plain}
 use Rattle.avro_binary.specs.declared.encode_error.EncodeError.{EncodeError}
 use Rattle.avro_binary.specs.declared.encode_error.EncodeError.TheVariants.{DoesNotFit, OutOfMemory}
 
--- The output before and after, and the result.
+-- What encoding returns, and leaves in its output: the plain encoding of a datum that fits after what was there, or
+-- only what was there.
 pub record IsEncoded {A : Type 0} (nodes : List Node) (n : Node) (v : Value) (old new : List ℕ) (result : Result A EncodeError) : Type 0 where
   -- the plain encoding of a datum that fits comes after what was there
   pub appended : OnOk result (new ≡ old ++ plain v)

@@ -1,18 +1,23 @@
 //! Laws of encodings.
 
-ghost use Rattle.std.specs.Prelude.{◌≡◌, ◌≢◌, ◌⊎◌, ℕ, ◌<◌, ◌^◌, true, List, ◌++◌, nat_lt};
+ghost use Rattle.std.specs.Prelude.{◌≡◌, ◌≢◌, ◌⊎◌, ℕ, ◌<◌, ◌≤◌, ◌^◌, true, List, ◌++◌, length, nat_lt};
 ghost use Rattle.std.specs.List.{list_all};
 ghost use Rattle.avro_schema.specs.Value.{Value};
 ghost use Rattle.avro_schema.specs.Node.{Node, node_at};
 ghost use Rattle.avro_schema.specs.Fits.{fits, LimitValues, is_within};
 ghost use Rattle.avro_schema.specs.WellFormed.{is_schema};
-ghost use Rattle.avro_cursor.specs.Encoding.{Encodes, plain};
+ghost use Rattle.avro_cursor.specs.Encoding.{Encodes, Spells, plain};
 ghost use Rattle.avro_cursor.specs.Fault.{ReadFault, limit_exceeded};
 ghost use Rattle.avro_cursor.specs.Breaks.{Breaks};
 
 /// The plain encoding of a datum that fits a schema's node is an encoding of it.
 pub fn plain_encodes()
     ensures { (nodes : List Node) (id : ℕ) (v : Value) → is_schema nodes ≡ true → fits nodes (node_at nodes id) v ≡ true → Encodes nodes (node_at nodes id) v (plain v) }
+{}
+
+/// No encoding of a datum is shorter than its plain encoding.
+pub fn plain_is_shortest()
+    ensures { (v : Value) (bytes : List ℕ) → Spells v bytes → length (plain v) ≤ length bytes }
 {}
 
 /// No encoding at a node begins another: the bytes tell where a datum ends and which one it is.

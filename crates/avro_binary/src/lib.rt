@@ -9,11 +9,20 @@
 //!
 //! One cycle of functions (`read_at`) goes down a schema's nodes, reads elements in place with a [`Cursor`], and passes
 //! each part to a [`Make`], which also learns what the part is for. Each [`Put`] is one: [`Nothing`], and [`Wrapping`], which
-//! makes what a [`Build`] builds, as [`Tree`] builds the datum. The cycle is proved sound: a result stands for a datum whose
-//! encoding was passed, and an error is a fault of the bytes. That there is no other result, and that the fault is the first, follows from
-//! laws about the definitions. The depth left falls at each node, so the recursion ends, after 256 levels at most. A count
-//! or a length allocates nothing before its bytes are there: items and entries are stored one by one, and contents are
-//! copied once.
+//! makes what a [`Build`] builds, as [`Tree`] builds the datum, and puts it into its branch. Each call of a [`Put`] is told the branch of
+//! the union that its datum goes into, so that an output gets the index of the branch before the datum. Makers have an order `keeps`, so
+//! that one may append to its own buffer as it goes.
+//!
+//! The cycle is proved sound, and nothing more (`ReadsNode`): a result stands for a datum whose encoding was passed, and an error is a
+//! fault of the bytes. That there is no other result, and that the fault is the first, follows from laws about the definitions, so that
+//! each call proves half as much. The exactness of reading is then one record of facts (`BuildsExactly`): its parts share their
+//! arguments, and a proof names each of them. `ReadsExactly` and `WalksExactly` follow from it, and only name the datum and its length.
+//! The depth left falls at each node, so the recursion ends, after 256 levels at most. A count or a length allocates nothing before its
+//! bytes are there: items and entries are stored one by one, and contents are copied once.
+//!
+//! Generic code costs nothing at run time: a type without content vanishes. Leaves and the dispatcher are inlined, and nodes with parts
+//! are calls. When data are read for a reader, a leaf other than a long is also a call: otherwise the dispatcher is too large to be
+//! inlined, and each part costs a call.
 //!
 //! Three shortcuts change the time, not the result. The items after one that takes no bytes are the same datum: they are
 //! added at once (`repeat`), and the cursor counts their nodes, so that a limit is exceeded exactly where reading them one

@@ -10,7 +10,8 @@ pub struct Pieces<'b> {
     pub ends: &'b [usize],
 }
 
-/// The encoding of a field, by its index, among the encodings of some fields; none if there are too few.
+/// The encoding of a field, by its index, among the encodings of some fields; none if there are too few. No clause says that there is
+/// one: the record is then read part by part.
 #[inline(always)]
 pub fn piece_of<'b>(pieces: Pieces<'b>, field: usize) -> Option<&'b [u8]>
     ensures { IfSome result (λ content. content.now ≡ piece pieces.entry.bytes.now pieces.entry.ends.now field) }

@@ -13,12 +13,13 @@ use avro_cursor::{Cursor, ReadError};
 use avro_schema::{Datum, Limits, NodeId, Schema};
 use std::alloc::Global;
 
-/// Reads a datum of a node of the schema from the front of bytes, and returns it with the length
-/// of its encoding.
+/// Reads the datum of a node whose encoding within limits is at the start of bytes, whatever follows it, and returns it with the
+/// length of that encoding. Each such encoding is read.
 ///
 /// # Errors
 ///
-/// The first fault that is met from left to right (Avro 1.11, "Binary Encoding"); `OutOfMemory`.
+/// The first fault that is met from left to right (Avro 1.11, "Binary Encoding"), with its offset; `OutOfMemory`. If the fault is no
+/// limit, no encoding of any datum is at the start.
 pub fn decode(
     alloc: Global,
     schema: &Schema,
@@ -33,9 +34,7 @@ pub fn decode(
     read_node(alloc, schema, node, bytes, limits, &mut tree)
 }
 
-/// Reads a datum of the root of the schema from the front of bytes by a builder, and returns what
-/// was built with the length of its encoding. What was built stands for the datum that [`decode`]
-/// reads.
+/// Reads what [`decode`] reads at the root of the schema, for any builder: what is returned stands for that datum.
 ///
 /// # Errors
 ///
@@ -67,9 +66,8 @@ pub(crate) fn read_node<B: Build>(
     read_made(alloc, schema, node, bytes, limits, &mut maker, None)
 }
 
-/// Reads a datum of a node of the schema from the front of bytes by a maker, by what the datum is
-/// for, and returns what was made with the length of its encoding. What was made stands, at the
-/// maker as it then is, for the datum that [`decode`] reads.
+/// Reads what [`decode`] reads, for any maker and by what the datum is for: what is returned stands, at the maker as it then is, for
+/// that datum. The maker keeps what it began with, also after an error.
 ///
 /// # Errors
 ///

@@ -24,11 +24,12 @@ use avro_cursor::{Cursor, ReadError};
 use avro_schema::{Field, Node, NodeId, Schema};
 use std::alloc::Global;
 
-/// Reads a datum of the node of an id. An id without a node is that of null.
+/// Reads a datum of the node of an id through a cursor: what the cursor passes is an encoding of a datum that the result stands for.
+/// An id without a node is that of null.
 ///
 /// # Errors
 ///
-/// The first fault that is met from left to right (Avro 1.11, "Binary Encoding"); `OutOfMemory`.
+/// A fault of the bytes; `OutOfMemory`.
 #[cycle(reading)]
 #[inline(always)]
 pub fn read_at<M: Make>(

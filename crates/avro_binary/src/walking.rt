@@ -9,12 +9,12 @@ use avro_cursor::{Cursor, ReadError};
 use avro_schema::{Limits, NodeId, Schema};
 use std::alloc::Global;
 
-/// Walks over the encoding of a datum of a node of the schema at the front of bytes, and returns
-/// its length. It takes memory only for the keys of maps.
+/// Returns the length of the encoding that [`decode`](crate::decode) reads, and builds nothing. It takes memory only for the keys of
+/// maps.
 ///
 /// # Errors
 ///
-/// The first fault that is met from left to right (Avro 1.11, "Binary Encoding"); `OutOfMemory`.
+/// Those of [`decode`](crate::decode).
 pub fn walk(
     alloc: Global,
     schema: &Schema,

@@ -15,13 +15,12 @@ use avro_schema::{Datum, Memory, NodeId, Schema, fits};
 use avro_zigzag::write_long;
 use std::alloc::{AllocError, Global};
 
-/// Appends the plain encoding of a datum of a node: each array or map that is not empty is one block
-/// of positive count, and each number has its shortest spelling (Avro 1.11, "Binary Encoding").
+/// Appends the plain encoding of a datum that fits a node: each array or map that is not empty is one block of positive count, and
+/// each number has its shortest spelling (Avro 1.11, "Binary Encoding").
 ///
 /// # Errors
 ///
-/// `DoesNotFit` where the datum is not one of the node's, and `OutOfMemory`. The output then stays as
-/// it was.
+/// `DoesNotFit` for exactly the data that do not fit the node, and `OutOfMemory`. The output is then unchanged.
 pub fn encode(
     alloc: Global,
     schema: &Schema,

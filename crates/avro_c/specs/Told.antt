@@ -6,7 +6,7 @@ use Rattle.avro_answer.specs.RefusalText.{refusal_text}
 use Rattle.avro_answer.specs.declared.refusal.Refusal.{Refusal}
 use Rattle.avro_c.specs.Room.{IsPut}
 
--- the text of an answer, with its status
+-- what is written is a text that is an answer with this status
 pub record IsTold (is_answer : List ℕ → ℕ → Type 0) (before after : List ℕ) (wanted status : ℕ) : Type 0 where
   pub text : List ℕ
   pub answered : is_answer text status
@@ -19,7 +19,7 @@ refusal_line (Refusal.Reader e) = refusal_text (codes "reader") (schema_code e)
 refusal_line (Refusal.Certificate e) = refusal_text (codes "certificate") (certificate_code e)
 refusal_line Refusal.OutOfMemory = []
 
--- a refusal that says what is true of the texts, and is not that memory ran out, by its line
+-- what is written is the line of a refusal that is true of the texts, and is not that memory ran out
 pub record IsRefused (says : Refusal → Type 0) (before after : List ℕ) (wanted : ℕ) : Type 0 where
   pub refusal : Refusal
   pub of_texts : refusal ≢ Refusal.OutOfMemory

@@ -1,7 +1,8 @@
 //! The answers of the program `avro` as a static library for C. `bindings/c/avrojudge.h` declares these functions.
-//!
 //! Each takes the bytes of texts, and answers a status; what the program prints is put into `out`, as much of it as there
-//! is room for, and `wanted` is the length of all of it.
+//! is room for, and `wanted` is the length of all of it. With the status of an answer this is a text that is an answer to these
+//! texts, by the clauses of `avro_answer`; with 3 it is the line of a refusal that is true of them, and not due to a lack of memory;
+//! with 5 for memory and 64 for numbers out of their ranges, nothing is put.
 #![tactic(auto)]
 
 ghost use Rattle.std.specs.Prelude.{◌≡◌, ◌≤◌, ◌<◌, ◌↔◌, ◌⊎◌, codes, length, sum};
@@ -61,7 +62,7 @@ pub extern "C" fn avrojudge_judge_text(
     }
 }
 
-/// The same as a line of JSON.
+/// The same as `avrojudge_judge_text`, with a line of JSON for the text, of which no clause says what it is.
 #[unsafe(no_mangle)]
 pub extern "C" fn avrojudge_judge_json_text(
     alloc: Global,
@@ -115,7 +116,7 @@ pub extern "C" fn avrojudge_explain_text(
     }
 }
 
-/// The same as a line of JSON.
+/// The same as `avrojudge_explain_text`, with a line of JSON for the text, of which no clause says what it is.
 #[unsafe(no_mangle)]
 pub extern "C" fn avrojudge_explain_json_text(
     alloc: Global,
@@ -141,7 +142,7 @@ pub extern "C" fn avrojudge_explain_json_text(
     }
 }
 
-/// Judges the schemas of two texts, as `avrojudge_judge_text`, and puts the text of the certificate of a yes: 0 yes, 1 no, 2
+/// Judges the schemas of two texts, as `avrojudge_judge_text` does, and puts the text of a certificate after a yes: 0 yes, 1 no, 2
 /// undecided.
 #[unsafe(no_mangle)]
 pub extern "C" fn avrojudge_certify_text(
@@ -247,7 +248,7 @@ pub extern "C" fn avrojudge_schema_text(
     }
 }
 
-/// Reads the datum that stands in data, after the bytes that are skipped: 0 it is read, 3 a text or the data are refused.
+/// Reads the datum at the start of data, after the bytes that are skipped: 0 it is read, 3 a text or the data are refused.
 #[unsafe(no_mangle)]
 pub extern "C" fn avrojudge_read_text(
     alloc: Global,

@@ -15,11 +15,12 @@ primitive_word Node.bytes = Some (codes "bytes")
 primitive_word Node.string = Some (codes "string")
 primitive_word _ = None
 
+-- a name is one of some
 abbrev pub is_among : Name → List Name → Bool
 is_among name names = list_any (same_name name) names
 
--- The form of a node where some names are written. A record, an enum or a fixed is defined where it occurs first, and
--- is its name alone from then on, within its own definition too.
+-- The form of a node when some names are written. A record, an enum or a fixed is defined at its first occurrence, and
+-- is only its name from then on, also within its own definition.
 mutual
   pub data IsForm (nodes : List Node) : List Name → Node → Form → Type 0 where
     primitive : {written : List Name} {n : Node} {word : List ℕ} → primitive_word n ≡ Some word → IsForm nodes written n (Form.primitive word)
@@ -51,7 +52,7 @@ mutual
     next_field : {written : List Name} {x : FieldNode} {xs : List FieldNode} {f : Form} {fs : FieldForms} → IsForm nodes written (node_at nodes x.node) f
         → AreFieldForms nodes (written_after written f) xs fs → AreFieldForms nodes written (x ∷ xs) (field x.name f fs)
 
--- the text of the root's form, where no name is written yet
+-- the text of the root's form, when no name is written yet
 pub record IsCanonical (nodes : List Node) (text : List ℕ) : Type 0 where
   pub form : Form
   pub formed : IsForm nodes [] (root_of nodes) form

@@ -7,11 +7,12 @@ use Rattle.serde_json.specs.Data.{Data, Items, no_items, item, no_members, membe
 use Rattle.serde_json.specs.Data.Num.{unsigned}
 use Rattle.avro_canonical.specs.Form.{Form, Forms, FieldForms, no_forms, form, no_fields, field}
 
+-- several texts as the items of an array
 abbrev pub text_items : List (List ℕ) → Items
 text_items [] = no_items
 text_items (text ∷ texts) = item (Data.string text) (text_items texts)
 
--- The members of an object are in the order of their keys.
+-- The JSON tree of a form. The members of an object are in the order of their keys.
 abbrev mutual
   pub form_tree : Form → Data
   form_tree (Form.primitive word) = Data.string word
@@ -29,10 +30,12 @@ abbrev mutual
       (member (codes "size") (Data.number (unsigned count)) (member (codes "type") (Data.string (codes "fixed")) no_members)))
   form_tree (Form.reference name) = Data.string (name_text name)
 
+  -- the trees of several forms
   pub form_trees : Forms → Items
   form_trees no_forms = no_items
   form_trees (form f fs) = item (form_tree f) (form_trees fs)
 
+  -- the trees of the fields of a record
   pub field_trees : FieldForms → Items
   field_trees no_fields = no_items
   field_trees (field name f fs) =
@@ -50,15 +53,18 @@ abbrev mutual
   nodes_in (Form.fixed name count) = 1
   nodes_in (Form.reference name) = 0
 
+  -- the same of several forms together
   pub nodes_in_all : Forms → ℕ
   nodes_in_all no_forms = 0
   nodes_in_all (form f fs) = nodes_in f + nodes_in_all fs
 
+  -- the same of the fields of a record together
   pub nodes_in_fields : FieldForms → ℕ
   nodes_in_fields no_fields = 0
   nodes_in_fields (field name f fs) = nodes_in f + nodes_in_fields fs
 
--- a name of the null namespace would be read as one of the namespace that encloses it
+-- a name keeps its namespace inside a definition: one of the null namespace would be read as one of the namespace
+-- around it
 abbrev pub is_kept : List ℕ → Name → Bool
 is_kept enclosing name = is_empty_text enclosing || not (is_empty_text name.namespace)
 
@@ -74,10 +80,12 @@ abbrev mutual
   keeps_names enclosing (Form.fixed name count) = is_kept enclosing name
   keeps_names enclosing (Form.reference name) = is_kept enclosing name
 
+  -- the same of each of several forms
   pub all_keep_names : List ℕ → Forms → Bool
   all_keep_names enclosing no_forms = true
   all_keep_names enclosing (form f fs) = keeps_names enclosing f && all_keep_names enclosing fs
 
+  -- the same of each field of a record
   pub fields_keep_names : List ℕ → FieldForms → Bool
   fields_keep_names enclosing no_fields = true
   fields_keep_names enclosing (field name f fs) = keeps_names enclosing f && fields_keep_names enclosing fs

@@ -11,7 +11,7 @@ pub record IsFingerprint (nodes : List Node) (digest : List ℕ) : Type 0 where
   pub canonical : IsCanonical nodes text
   pub digested : digest ≡ sha256 text
 
--- its hexadecimal digits, in lower case
+-- the lowercase hexadecimal digits of that
 pub record IsFingerprintText (nodes : List Node) (digits : List ℕ) : Type 0 where
   pub digest : List ℕ
   pub fingerprint : IsFingerprint nodes digest

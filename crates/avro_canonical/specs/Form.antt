@@ -4,6 +4,7 @@ use Rattle.std.specs.Prelude.{ℕ, List, [], ◌∷◌, ◌++◌, map, codes, de
 use Rattle.avro_name.specs.Name.{Name}
 use Rattle.avro_display.specs.DisplayTree.{name_text}
 
+-- a canonical form as a tree
 mutual
   pub data Form : Type 0 where
     -- PRIMITIVES: the word alone
@@ -18,6 +19,7 @@ mutual
     -- a type that is defined before, by its name
     reference : Name → Form
 
+  -- several forms
   pub data Forms : Type 0 where
     no_forms : Forms
     form : Form → Forms → Forms
@@ -45,8 +47,8 @@ abbrev pub with_commas : List (List ℕ) → List ℕ
 with_commas [] = []
 with_commas (t ∷ ts) = t ++ after_commas ts
 
--- ORDER: name, type, fields, symbols, items, values, size. INTEGERS: decimal digits, no zero before them. WHITESPACE:
--- none.
+-- The text of a form. ORDER: name, type, fields, symbols, items, values, size. INTEGERS: decimal digits, no zero before
+-- them. WHITESPACE: none.
 abbrev mutual
   pub form_text : Form → List ℕ
   form_text (Form.primitive word) = quoted word
@@ -61,16 +63,18 @@ abbrev mutual
       codes "{\"name\":" ++ full_text name ++ codes ",\"type\":\"fixed\",\"size\":" ++ decimal count ++ codes "}"
   form_text (Form.reference name) = full_text name
 
+  -- the texts of several forms
   pub form_texts : Forms → List (List ℕ)
   form_texts no_forms = []
   form_texts (form f fs) = form_text f ∷ form_texts fs
 
+  -- the texts of the fields of a record
   pub field_texts : FieldForms → List (List ℕ)
   field_texts no_fields = []
   field_texts (field name f fs) = (codes "{\"name\":" ++ quoted name ++ codes ",\"type\":" ++ form_text f ++ codes "}") ∷ field_texts fs
 
--- the names that are written once the form comes after some others, the last first; a type's name counts from the
--- start of its own text
+-- the names that are written once the form was written after some others, the last one first; a type's name counts from
+-- the start of its own text
 abbrev mutual
   pub written_after : List Name → Form → List Name
   written_after written (Form.primitive word) = written
@@ -82,10 +86,12 @@ abbrev mutual
   written_after written (Form.fixed name count) = name ∷ written
   written_after written (Form.reference name) = written
 
+  -- the same of several forms, one after another
   pub written_after_all : List Name → Forms → List Name
   written_after_all written no_forms = written
   written_after_all written (form f fs) = written_after_all (written_after written f) fs
 
+  -- the same of the fields of a record
   pub written_after_fields : List Name → FieldForms → List Name
   written_after_fields written no_fields = written
   written_after_fields written (field name f fs) = written_after_fields (written_after written f) fs

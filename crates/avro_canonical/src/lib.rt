@@ -7,8 +7,9 @@
 //! # How a form is written
 //!
 //! A stack holds what is left to write: a node, the remaining branches or fields, or an end. Each step takes one part,
-//! writes its start, and puts back what is left of it, so no schema is too deep for the machine's stack. A mark for each
-//! node says whether its name was written. The invariant is that what is written, followed by any text of what is left, is
+//! writes its start, and puts back what is left of it, so no schema is too deep for the machine's stack: one made from a `Draft` can
+//! nest its form over millions of levels. The steps are counted in 64 bits; each writes a character, so memory runs out before the
+//! count. A mark for each node says whether its name was written, since no fullname is defined twice in a schema. The invariant is that what is written, followed by any text of what is left, is
 //! a canonical form; each step is a lemma about the definition.
 //!
 //! The laws rest on the form as a tree. A text determines how its form starts (names and symbols contain no quote, and

@@ -4,7 +4,7 @@ use Rattle.std.specs.List.{list_all, list_any}
 use Rattle.avro_schema.specs.Node.{Node, node_at, field_ids}
 use Rattle.avro_compare.specs.Children.{Pair, children_of, has_local_fault}
 
--- membership, by a test
+-- membership of a list of numbers, by a test
 abbrev pub is_among : List ℕ → ℕ → Bool
 is_among xs x = list_any (λ y. y == x) xs
 
@@ -14,7 +14,7 @@ is_dead_node dead (Node.record_of name aliases fields) = list_any (is_among dead
 is_dead_node dead (Node.union ids) = list_all (is_among dead) ids
 is_dead_node dead n = false
 
--- each member is such a node of the writer's
+-- each node of the set is a record with a field in it or a union with all its branches in it, and so has no datum
 abbrev pub is_dead : List Node → List ℕ → Bool
 is_dead writer dead = list_all (λ id. nat_lt id (length writer) && is_dead_node dead (node_at writer id)) dead
 
@@ -22,10 +22,11 @@ is_dead writer dead = list_all (λ id. nat_lt id (length writer) && is_dead_node
 abbrev pub same_pair : Pair → Pair → Bool
 same_pair p q = p.w == q.w && p.r == q.r
 
+-- membership of a list of pairs, by a test
 abbrev pub is_among_pairs : List Pair → Pair → Bool
 is_among_pairs pairs p = list_any (same_pair p) pairs
 
--- a pair is one of nodes of the schemas; unless its writer's node is dead it has no fault of its own, and each child
+-- a pair is one of nodes of the schemas; unless its writer's node is dead, it has no fault of its own, and each child
 -- whose writer's node is not dead is there
 abbrev pub is_closed_at : List Node → List Node → List ℕ → List Pair → Pair → Bool
 is_closed_at writer reader dead pairs p =
@@ -35,7 +36,8 @@ is_closed_at writer reader dead pairs p =
     && list_all (λ child. is_among dead child.w || is_among_pairs pairs child)
     (children_of writer reader p.w p.r (node_at writer p.w) (node_at reader p.r))))
 
--- The first set is dead, the roots are a pair unless the writer's is dead, and each pair is closed.
+-- The first set is dead; the roots are a pair unless the writer's is dead; and no pair has a fault of its own or lacks
+-- a child, except for dead nodes.
 abbrev pub is_closed : List Node → List Node → List ℕ → List Pair → Bool
 is_closed writer reader dead pairs =
     is_dead writer dead && (is_among dead 0 || is_among_pairs pairs (record { w = 0; r = 0 }))

@@ -6,11 +6,12 @@ use Rattle.avro_schema.specs.Fits.{fits}
 use Rattle.avro_compare.specs.Fault.{ResolutionFault}
 use Rattle.avro_compare.specs.Resolve.{resolve_root}
 
--- the datum is one of the writer's, and resolution gives it this fault
+-- the datum fits the writer's root, and resolution gives it this fault
 pub record ErrsWith (writer reader : List Node) (v : Value) (fault : ResolutionFault) : Type 0 where
   pub fitting : fits writer (root_of writer) v ≡ true
   pub faulty : resolve_root writer reader v ≡ Err fault
 
+-- the datum fits the writer's root, and resolution gives it some fault
 abbrev pub Errs : List Node → List Node → Value → Type 0
 Errs writer reader v = (fault : ResolutionFault) × ErrsWith writer reader v fault
 
@@ -18,17 +19,18 @@ Errs writer reader v = (fault : ResolutionFault) × ErrsWith writer reader v fau
 abbrev pub AreCompatible : List Node → List Node → Type 0
 AreCompatible writer reader = (v : Value) (fault : ResolutionFault) → ErrsWith writer reader v fault → ⊥
 
--- the datum errs, and none that errs has fewer nodes
+-- the datum errs, and no datum that errs has fewer nodes
 pub record IsLeastToErr (writer reader : List Node) (v : Value) : Type 0 where
   pub errs : Errs writer reader v
   pub least : (w : Value) (fault : ResolutionFault) → ErrsWith writer reader w fault → size v ≤ size w
 
--- some datum errs, and each that does has more nodes than the limit
+-- some data err, but each has more nodes than the limit
 pub record ErrsOnlyAbove (writer reader : List Node) (limit : ℕ) : Type 0 where
   pub some : (v : Value) × Errs writer reader v
   pub above : (v : Value) (fault : ResolutionFault) → ErrsWith writer reader v fault → limit < size v
 
--- some datum errs, the least that do have no more nodes than the limit, and each of them is deeper than the other limit
+-- some data err, the smallest of them have no more nodes than the limit, and each of these is deeper than the other
+-- limit
 pub record ErrsLeastDeep (writer reader : List Node) (limit deepest : ℕ) : Type 0 where
   pub some : (v : Value) × IsLeastToErr writer reader v × (size v ≤ limit)
   pub deep : (v : Value) → IsLeastToErr writer reader v → deepest < depth v

@@ -4,13 +4,12 @@ use Rattle.avro_schema.specs.Node.{Node, node_at}
 use Rattle.avro_compare.specs.Children.{Pair, children_of}
 use Rattle.avro_certificate.specs.Closed.{is_among, is_among_pairs, is_dead}
 
--- a dead set that has the nodes of each dead set
+-- a dead set of nodes that contains every dead set
 pub record IsGreatestDead (writer : List Node) (dead : List ℕ) : Type 0 where
   pub all_dead : is_dead writer dead ≡ true
   pub greatest : (other : List ℕ) → is_dead writer other ≡ true → (p : ℕ) → is_among other p ≡ true → is_among dead p ≡ true
 
--- The roots, and each child of such a pair, where the writer's node is not dead: the least set that has the roots and, of
--- each of its pairs, these children.
+-- The pairs that the roots lead to: the roots, and each child of such a pair, if the writer's node is not dead.
 pub data IsReached (writer reader : List Node) (dead : List ℕ) : Pair → Type 0 where
   roots : is_among dead 0 ≡ false → IsReached writer reader dead (record { w = 0; r = 0 })
   child : (p c : Pair) → IsReached writer reader dead p

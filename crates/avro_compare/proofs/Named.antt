@@ -1,54 +1,17 @@
--- The indices of fields and of symbols, as they are gathered from the last.
-use Rattle.std.proofs.Common.{◌≡◌, ℕ, zero, suc, ◌+◌, ◌<◌, cond, List, [], ◌∷◌, length, Option, Some, None, drop, refl, ap, sym, subst, ◌∙◌, arith}
-use Rattle.std.specs.Prelude.{String, string_bytes, slice_get, slice_index_or, unwrap_or, option_and_then, bytes_eq, position, IfSome}
-use Rattle.std.specs.List.{position_from}
+-- Symbols of enums by their indices.
+use Rattle.std.proofs.Common.{◌≡◌, ℕ, suc, ◌<◌, ◌^◌, List, [], ◌∷◌, length, Option, Some, None, refl, ap, sym, ◌∙◌, arith}
+use Rattle.std.specs.Prelude.{String, slice_get, unwrap_or, option_and_then, bytes_eq, position, IfSome}
 use Rattle.std.specs.declared.alloc.Global.{Global}
 use Rattle.std.proofs.lemmas.List.Quantifiers.{position-Some}
-use Rattle.avro_schema.specs.Node.{Node, FieldNode, symbols_of}
-use Rattle.avro_schema.specs.Seen.{seen_fields, field_of, texts_of}
-use Rattle.avro_schema.specs.declared.schema.Field.{Field}
-use Rattle.avro_compare.specs.Pairs.{IsSymbol}
-use Rattle.avro_compare.specs.Planned.{AreSymbols}
-use Rattle.avro_compare.specs.Resolve.{enum_as, symbol_at}
-use Rattle.avro_compare.proofs.public.Lists.{next_in}
-use Rattle.avro_compare.proofs.public.Lists.{seen_next}
-
--- the first index of a name among the fields from an index on
-abbrev pub field_from : List ℕ → List Field → ℕ → Option ℕ
-field_from name fields n = position_from (λ f. bytes_eq f.name name) n (seen_fields (drop n fields))
-
-pub field_next : (fields : List Field) (n : ℕ) (f : Field) (name : List ℕ) (before after : Option ℕ) → n < length fields → f ≡ slice_index_or fields n f
-    → before ≡ field_from name fields (n + 1) → after ≡ cond (bytes_eq (string_bytes f.name) name) (Some n) before → after ≡ field_from name fields n
-field_next fields n f name before after low is known put =
-    put ∙ ap (λ o. cond (bytes_eq (string_bytes f.name) name) (Some n) o) known
-    ∙ sym (ap (λ (gs : List FieldNode). position_from (λ g. bytes_eq g.name name) n gs) (seen_next fields n f low ∙ ap (λ (g : Field). field_of g ∷ seen_fields (drop (n + 1) fields)) (sym is)))
-
--- the first index of a word among the symbols from an index on
-abbrev pub symbol_from : List ℕ → List (String Global) → ℕ → Option ℕ
-symbol_from word symbols n = position_from (λ s. bytes_eq s word) n (texts_of (drop n symbols))
-
-pub symbol_next : (symbols : List (String Global)) (n : ℕ) (symbol : String Global) (word : List ℕ) (before after : Option ℕ) → n < length symbols → symbol ≡ slice_index_or symbols n symbol
-    → before ≡ symbol_from word symbols (n + 1) → after ≡ cond (bytes_eq (string_bytes symbol) word) (Some n) before → after ≡ symbol_from word symbols n
-symbol_next symbols n symbol word before after low is known put =
-    let here : drop n symbols ≡ symbol ∷ drop (n + 1) symbols = next_in symbols n symbol low ∙ ap (λ (s : String Global). s ∷ drop (n + 1) symbols) (sym is) in
-    put ∙ ap (λ o. cond (bytes_eq (string_bytes symbol) word) (Some n) o) known
-    ∙ sym (ap (λ (ss : List (String Global)). position_from (λ s. bytes_eq s word) n (texts_of ss)) here)
-
-pub symbol_there : (symbols : List (String Global)) (i : ℕ) (symbol : String Global) → i < length symbols → symbol ≡ slice_index_or symbols i symbol
-    → unwrap_or (slice_get (texts_of symbols) i) [] ≡ string_bytes symbol
-symbol_there [] i symbol low is = absurd (omega (arith, low))
-symbol_there (s ∷ ss) zero symbol low is = ap (λ (t : String Global). string_bytes t) (sym is)
-symbol_there (s ∷ ss) (suc i) symbol low is = symbol_there ss i symbol (omega (arith, low)) is
+use Rattle.avro_schema.specs.Node.{Node, symbols_of}
+use Rattle.avro_schema.specs.Seen.{texts_of}
+use Rattle.avro_schema.proofs.public.Choices.{HasFewChoices}
+use Rattle.avro_compare.specs.Resolve.{symbol_at}
+use Rattle.avro_compare.specs.inside.NameTables.{symbols_at}
 
 pub texts_count : (symbols : List (String Global)) → length (texts_of symbols) ≡ length symbols
 texts_count [] = refl
 texts_count (s ∷ ss) = ap suc (texts_count ss)
-
-pub index_within : (symbols : List (String Global)) (word : List ℕ) (o : Option ℕ) → o ≡ position (λ s. bytes_eq s word) (texts_of symbols) → IfSome o (λ k. k < length symbols)
-index_within symbols word None e = tt
-index_within symbols word (Some k) e = subst (λ (n : ℕ). k < n) (texts_count symbols) (position-Some (λ s. bytes_eq s word) (texts_of symbols) k [] (sym e)).0
-
--- ---- Symbols of a reader's enum
 
 pub symbol_text : (w : Node) (k : ℕ) (writes : List (List ℕ)) → writes ≡ unwrap_or (symbols_of w) [] → symbol_at w k ≡ unwrap_or (slice_get writes k) []
 symbol_text w k writes e = by (symbols_of w) ∙ ap (λ (ts : List (List ℕ)). unwrap_or (slice_get ts k) []) (sym e)
@@ -57,7 +20,8 @@ symbol_text w k writes e = by (symbols_of w) ∙ ap (λ (ts : List (List ℕ)). 
     by None = refl
     by (Some symbols) = refl
 
-pub taken_symbols : (w q : Node) (writes : List (List ℕ)) (symbols : List (Option ℕ)) → writes ≡ unwrap_or (symbols_of w) []
-    → ((k : ℕ) (s : Option ℕ) → slice_get symbols k ≡ Some s → IsSymbol (enum_as (unwrap_or (slice_get writes k) []) q) s) → AreSymbols w q symbols
-taken_symbols w q writes symbols e h = λ k s got.
-    subst (λ (t : List ℕ). IsSymbol (enum_as t q) s) (sym (symbol_text w k writes e)) (h k s got)
+-- an index among them is an int
+pub few_choices : (n : Node) (word : List ℕ) (o : Option ℕ) → HasFewChoices n → o ≡ position (λ s. bytes_eq s word) (symbols_at n) → IfSome o (λ k. k < 2 ^ 32)
+few_choices n word None few e = tt
+few_choices (Node.enum name aliases symbols default) word (Some k) few e = let low = (position-Some (λ s. bytes_eq s word) symbols k [] (sym e)).0 in omega (arith, low, few)
+few_choices _ word (Some k) few e = absurd (cc)

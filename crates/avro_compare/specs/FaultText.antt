@@ -2,6 +2,7 @@
 use Rattle.std.specs.Prelude.{ℕ, List, codes}
 use Rattle.avro_compare.specs.declared.error.FaultKind.{FaultKind}
 
+-- the code of a kind of fault, V1 to V5
 abbrev pub kind_code : FaultKind → List ℕ
 kind_code FaultKind.NoMatch = codes "V1"
 kind_code FaultKind.NoBranch = codes "V2"
@@ -9,6 +10,7 @@ kind_code (FaultKind.MissingField index) = codes "V3"
 kind_code FaultKind.NoSymbol = codes "V4"
 kind_code FaultKind.NotUtf8 = codes "V5"
 
+-- the word that answers have in place of the code
 abbrev pub kind_name : FaultKind → List ℕ
 kind_name FaultKind.NoMatch = codes "NoMatch"
 kind_name FaultKind.NoBranch = codes "NoBranch"

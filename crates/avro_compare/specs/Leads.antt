@@ -8,6 +8,7 @@ use Rattle.avro_compare.specs.declared.lead.Lead.{Lead}
 use Rattle.avro_compare.specs.declared.lead.Step.{Step}
 use Rattle.avro_compare.specs.declared.lead.Step.TheVariants.{Branch, Choice, Items, Values, Field}
 
+-- a step to a pair of nodes
 abbrev pub lead_by : Step → ℕ → ℕ → Lead
 lead_by step w r = record { step = step; w = record { 0 = w }; r = record { 0 = r } }
 
@@ -26,6 +27,7 @@ abbrev pub field_lead : ℕ → List FieldNode → FieldNode → Option ℕ → 
 field_lead index fields f None = []
 field_lead index fields f (Some source) = lead_by (Field source index) (unwrap_or (slice_get (field_ids fields) source) 0) f.node ∷ []
 
+-- the same of each of the reader's fields, in order
 abbrev pub field_leads : ℕ → List FieldNode → List FieldNode → List Lead
 field_leads index fields [] = []
 field_leads index fields (f ∷ theirs) = field_lead index fields f (source_of fields f) ++ field_leads (suc index) fields theirs
@@ -37,6 +39,8 @@ leads_inside (Node.array a) (Node.array b) = lead_by Items a b ∷ []
 leads_inside (Node.map_of a) (Node.map_of b) = lead_by Values a b ∷ []
 leads_inside n q = []
 
+-- the pairs that a pair of nodes leads to, each with its step: a branch of either union, items, values, or a field and
+-- its source
 abbrev pub leads_of : List Node → List Node → ℕ → ℕ → Node → Node → List Lead
 leads_of writer reader w r (Node.union ids) q = branch_leads 0 r ids
 leads_of writer reader w r n (Node.union ids) = choice_leads w ids (first_match writer reader n ids)

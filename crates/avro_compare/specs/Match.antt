@@ -4,8 +4,7 @@ use Rattle.std.specs.List.{list_any}
 use Rattle.avro_name.specs.Name.{Name, same_name}
 use Rattle.avro_schema.specs.Node.{Node, FieldNode, node_at, branches_of}
 
--- A writer's type and a reader's are named alike: their simple names are equal, or the writer's fullname is an alias
--- of the reader's.
+-- equal simple names, or the writer's fullname is one of the reader's aliases
 abbrev pub are_alike : Name → Name → List Name → Bool
 are_alike writer reader aliases = bytes_eq writer.simple reader.simple || list_any (same_name writer) aliases
 
@@ -52,6 +51,7 @@ match_within steps writer reader (Node.enum a a_aliases xs x) (Node.enum b b_ali
 match_within steps writer reader (Node.fixed a a_aliases n) (Node.fixed b b_aliases m) = are_alike a b b_aliases && n == m
 match_within steps writer reader w r = false
 
+-- the test whether two nodes match, as deep as a schema has nodes
 abbrev pub is_match : List Node → List Node → Node → Node → Bool
 is_match writer reader w r = match_within (length writer) writer reader w r
 
@@ -61,6 +61,7 @@ first_match_from index writer reader w [] = None
 first_match_from index writer reader w (b ∷ bs) =
     cond (is_match writer reader w (node_at reader b)) (Some index) (first_match_from (suc index) writer reader w bs)
 
+-- the first branch of a reader's union that matches, by its index among the branches
 abbrev pub first_match : List Node → List Node → Node → List ℕ → Option ℕ
 first_match writer reader w ids = first_match_from 0 writer reader w ids
 

@@ -34,16 +34,18 @@ abbrev pub wrapped : Option ℕ → Resolved → Resolved
 wrapped None resolved = resolved
 wrapped (Some k) resolved = result_map (Value.union k) resolved
 
+-- what resolution gives where a pair of nodes leads
 abbrev pub aimed : List Node → Aim → (Node → Resolved) → Resolved
 aimed reader (Aim.Fault kind) resolve = Err (fault_here (cause_of kind))
 aimed reader (Aim.To branch q) resolve = wrapped branch (resolve (node_at reader q.0))
 
--- Where a pair of nodes leads, if the writer's is not a union: by the first branch of a reader's union that matches, or else to the
--- reader's node itself where the two match.
+-- where a pair of nodes leads into a reader's union: to its first branch that matches
 abbrev pub branch_aim : List ℕ → Option ℕ → Aim
 branch_aim ids None = Fault NoBranch
 branch_aim ids (Some k) = To (Some k) (record { 0 = unwrap_or (slice_get ids k) 0 })
 
+-- where a pair of nodes leads, if the writer's is not a union: by the first branch of a reader's union that matches, or
+-- otherwise to the reader's node itself, if it matches
 abbrev pub aim_of : List Node → List Node → Node → NodeId → Node → Aim
 aim_of writer reader n r (Node.union ids) = branch_aim ids (first_match writer reader n ids)
 aim_of writer reader n r q = cond (is_match writer reader n q) (To None r) (Fault NoMatch)
@@ -56,13 +58,15 @@ aim_at writer reader w r = aim_of writer reader (node_at writer w.0) r (node_at 
 abbrev pub IsAim : List Node → List Node → Node → Node → Aim → Type 0
 IsAim writer reader w r aim = (resolve : Node → Resolved) → through writer reader w r resolve ≡ aimed reader aim resolve
 
--- the ids of the parts of a node that has them
+-- the id of the node of an array's items
 abbrev pub item_id : Node → ℕ
 item_id n = unwrap_or (items_node n) 0
 
+-- the id of the node of a map's values
 abbrev pub value_id : Node → ℕ
 value_id n = unwrap_or (values_node n) 0
 
+-- the id of the node of a union's branch, by its index
 abbrev pub branch_id : Node → ℕ → ℕ
 branch_id n k = unwrap_or (slice_get (unwrap_or (branches_of n) []) k) 0
 
@@ -76,6 +80,7 @@ abbrev pub part_to : ℕ → Option FieldNode → At
 part_to j None = Ignored
 part_to j (Some f) = Pair (record { 0 = j }) (record { 0 = f.node })
 
+-- what the writer's field at an index is for, of two records
 abbrev pub field_for : List FieldNode → List FieldNode → ℕ → At
 field_for ws rs k = part_to (unwrap_or (slice_get (field_ids ws) k) 0) (reader_field ws rs k)
 

@@ -1,16 +1,12 @@
 -- What a plan keeps of pairs of nodes.
-use Rattle.std.specs.Prelude.{◌≡◌, ◌⊎◌, ◌≤◌, ℕ, List, [], Option, Some, None, slice_get, unwrap_or, position, bytes_eq, length}
-use Rattle.std.specs.Ordering.{nat_cmp}
-use Rattle.std.specs.Cmp.Lexicographic.{slice_cmp}
-use Rattle.std.specs.BTreeMap.{BTreeMap, get_by}
-use denote.Ref.{Bor}
+use Rattle.std.specs.Prelude.{◌≡◌, ◌⊎◌, ◌≤◌, ℕ, List, [], Option, Some, None, slice_get, unwrap_or, length}
 use Rattle.avro_schema.specs.Node.{Node, FieldNode, node_at, symbols_of}
 use Rattle.avro_schema.specs.declared.schema.NodeId.{NodeId}
 use Rattle.avro_compare.specs.Children.{first_lacking}
 use Rattle.avro_compare.specs.Entries.{AreAscending, entry_at}
 use Rattle.avro_compare.specs.Pairs.{IsSymbol, aim_at, field_for}
 use Rattle.avro_compare.specs.Resolve.{enum_as, symbol_at, fields_at}
-use Rattle.avro_compare.specs.Source.{field_index, source_of, missing_field}
+use Rattle.avro_compare.specs.Source.{source_of, missing_field}
 use Rattle.avro_compare.specs.declared.guided.Aim.TheVariants.{To}
 use Rattle.avro_compare.specs.declared.guided.At.{At}
 use Rattle.avro_compare.specs.declared.guided.At.TheVariants.{Ignored}
@@ -20,6 +16,7 @@ use Rattle.avro_compare.specs.declared.comparison.Comparison.{Comparison}
 abbrev pub AreSourcesFrom : ℕ → List FieldNode → List FieldNode → List (ℕ × ℕ) → Type 0
 AreSourcesFrom n ws rs sources = AreAscending n sources × ((k : ℕ) (f : FieldNode) → n ≤ k → slice_get rs k ≡ Some f → entry_at sources k ≡ source_of ws f)
 
+-- the reader's fields that have a source are there with it, in order
 abbrev pub AreSources : List FieldNode → List FieldNode → List (ℕ × ℕ) → Type 0
 AreSources ws rs sources = AreSourcesFrom 0 ws rs sources
 
@@ -32,6 +29,7 @@ part_or_none (Some at) = at
 abbrev pub AreForFrom : ℕ → List FieldNode → List FieldNode → List (ℕ × At) → Type 0
 AreForFrom n ws rs parts = AreAscending n parts × ((k : ℕ) → n ≤ k → part_or_none (entry_at parts k) ≡ field_for ws rs k)
 
+-- the writer's fields that are for something are there with it, in order
 abbrev pub AreFor : List FieldNode → List FieldNode → List (ℕ × At) → Type 0
 AreFor ws rs parts = AreForFrom 0 ws rs parts
 
@@ -54,13 +52,6 @@ pub record IsComparison (writer reader : List Node) (p : Comparison) : Type 0 wh
   pub aims : p.aim ≡ aim_at writer reader p.w p.r
   pub inside : (q : NodeId) → p.aim ≡ To None q → AreInside (node_at writer p.w.0) (node_at reader p.r.0) p
 
+-- the same of each of several
 abbrev pub AreComparisons : List Node → List Node → List Comparison → Type 0
 AreComparisons writer reader pairs = (k : ℕ) (p : Comparison) → slice_get pairs k ≡ Some p → IsComparison writer reader p
-
--- a map finds the first field of each name, and no other name
-abbrev pub FindsFields : List FieldNode → BTreeMap (Bor (List ℕ)) ℕ → Type 0
-FindsFields fields names = (name : List ℕ) → get_by (λ k. slice_cmp nat_cmp name k.now) names ≡ field_index fields name
-
--- the same of symbols
-abbrev pub FindsSymbols : List (List ℕ) → BTreeMap (Bor (List ℕ)) ℕ → Type 0
-FindsSymbols symbols names = (word : List ℕ) → get_by (λ k. slice_cmp nat_cmp word k.now) names ≡ position (λ s. bytes_eq s word) symbols

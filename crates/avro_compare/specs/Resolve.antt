@@ -7,6 +7,7 @@ use Rattle.avro_compare.specs.Match.{is_match, first_match}
 use Rattle.avro_compare.specs.Source.{source_of, reader_field, missing_field}
 use Rattle.avro_compare.specs.Fault.{no_match, no_branch, missing_field_at, no_symbol, not_utf8, ResolutionFault, fault_here, fault_in}
 
+-- what a datum becomes, or its first fault
 abbrev pub Resolved : Type 0
 Resolved = Result Value ResolutionFault
 
@@ -15,6 +16,7 @@ abbrev pub inside : {A : Type 0} → ℕ → Result A ResolutionFault → Result
 inside step (Ok v) = Ok v
 inside step (Err f) = Err (fault_in step f)
 
+-- a result, changed if there is one
 abbrev pub result_map : {A B : Type 0} → (A → B) → Result A ResolutionFault → Result B ResolutionFault
 result_map f (Ok v) = Ok (f v)
 result_map f (Err e) = Err e
@@ -66,6 +68,7 @@ enum_or_default (Some symbol) default = Ok (Value.enum symbol)
 enum_or_default None (Some default) = Ok (Value.enum default)
 enum_or_default None None = Err (fault_here no_symbol)
 
+-- a symbol of the writer's as one of a reader's node
 abbrev pub enum_as : List ℕ → Node → Resolved
 enum_as symbol (Node.enum name aliases symbols default) = enum_or_default (position (λ s. bytes_eq s symbol) symbols) default
 enum_as symbol r = Err (fault_here no_symbol)
@@ -74,9 +77,11 @@ enum_as symbol r = Err (fault_here no_symbol)
 abbrev pub part_at : List Node → Option ℕ → Node
 part_at nodes id = node_at nodes (unwrap_or id 0)
 
+-- the symbol of a node at an index, empty if there is none
 abbrev pub symbol_at : Node → ℕ → List ℕ
 symbol_at w k = unwrap_or (option_and_then (λ symbols. slice_get symbols k) (symbols_of w)) []
 
+-- the fields of a node, none if it is no record
 abbrev pub fields_at : Node → List FieldNode
 fields_at n = unwrap_or (fields_of n) []
 
@@ -84,6 +89,7 @@ fields_at n = unwrap_or (fields_of n) []
 abbrev pub Sourced : Type 0
 Sourced = List (ℕ × Value)
 
+-- what was found for an index, null if nothing was
 abbrev pub sourced_at : Sourced → ℕ → Value
 sourced_at [] index = Value.null
 sourced_at (s ∷ ss) index = cond (s.0 == index) s.1 (sourced_at ss index)
@@ -96,6 +102,7 @@ field_value writer sourced f = from (source_of writer f) f.default
     from (Some index) default = sourced_at sourced index
     from None default = unwrap_or default Value.null
 
+-- the values of all of the reader's fields, in order
 abbrev pub field_values : List FieldNode → Sourced → List FieldNode → Values
 field_values writer sourced [] = no_values
 field_values writer sourced (f ∷ fs) = value (field_value writer sourced f) (field_values writer sourced fs)

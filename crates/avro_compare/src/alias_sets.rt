@@ -128,12 +128,7 @@ fn space_number(texts: &Texts, own: Space, text: &str) -> Option<u32>
 }
 
 /// Adds a type for the numbers of an alias.
-fn add_id(
-    alloc: Global,
-    sets: &mut AliasSets,
-    key: (u32, u32),
-    id: u32,
-) -> Result<(), AllocError>
+fn add_id(alloc: Global, sets: &mut AliasSets, key: (u32, u32), id: u32) -> Result<(), AllocError>
     ensures { OnOk result ((k : NameKey) (b : ℕ) → holds sets.new k b ≡ ((id == b && (key.0 == k.0 && key.1 == k.1)) || holds sets.old k b)) }
 {
     let mut set = take_set(alloc, sets, key);

@@ -300,7 +300,7 @@ fn find_symbols(
     let writes = symbols_of(names.writer(), w);
     let mut found = Vec::new(alloc);
     for index in 0..writes.len() {
-        found.push(names.symbol(writes[index].as_str(), r))?;
+        found.push(names.symbol_at(w, index, r))?;
     }
     Ok(found)
 }

@@ -134,7 +134,10 @@ fn first_listed(
 {
     let mut best = first;
     for index in 0..types.len() {
-        best = least(best, place_at(names, writer, w, reader, places, types, index));
+        best = least(
+            best,
+            place_at(names, writer, w, reader, places, types, index),
+        );
     }
     best
 }
@@ -191,13 +194,7 @@ fn least(a: Option<usize>, b: Option<usize>) -> Option<usize>
         None => b,
         Some(i) => match b {
             None => a,
-            Some(j) => {
-                if i <= j {
-                    a
-                } else {
-                    b
-                }
-            }
+            Some(j) => { if i <= j { a } else { b } }
         },
     }
 }

@@ -10,7 +10,7 @@ ghost use Rattle.avro_compare.specs.Planned.{AreSymbols};
 ghost use Rattle.avro_compare.specs.Resolve.{enum_as, symbol_at};
 
 use crate::names::Names;
-use crate::symbols::{symbols_of, text_of};
+use crate::symbols::symbols_of;
 use avro_schema::{Node, NodeId};
 
 /// The reader's symbol for the writer's at an index, as it is kept or else by name.
@@ -27,7 +27,7 @@ pub fn symbol_kept(
     if index < kept.len() {
         kept[index]
     } else {
-        names.symbol(text_of(names.writer(), w, index), r)
+        names.symbol_at(w, index, r)
     }
 }
 

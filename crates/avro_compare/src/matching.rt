@@ -74,23 +74,12 @@ fn match_within(
 }
 
 /// What the nodes of two ids say about their match.
-fn step(
-    names: Option<&TypeNames>,
-    writer: &Schema,
-    w: NodeId,
-    reader: &Schema,
-    r: NodeId,
-) -> Step
+fn step(names: Option<&TypeNames>, writer: &Schema, w: NodeId, reader: &Schema, r: NodeId) -> Step
     requires { IfSome names (λ n. AreTypeNames (schema_nodes writer.now) (schema_nodes reader.now) n.now) }
     ensures { IsStep (schema_nodes writer.now) (schema_nodes reader.now)
         (node_at (schema_nodes writer.now) w.0) (node_at (schema_nodes reader.now) r.0) result }
 {
-    step_to(
-        alike(names, writer, w, reader, r),
-        writer.get(w),
-        reader,
-        r,
-    )
+    step_to(alike(names, writer, w, reader, r), writer.get(w), reader, r)
 }
 
 /// What a node and that of an id say about their match. Whether they are named alike may be known.

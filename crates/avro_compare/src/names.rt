@@ -1,45 +1,40 @@
-use crate::alias_tables::{alias_tables, source_by_aliases, table_at};
-use crate::field_tables::{field_tables, source_by};
 use crate::guided::Aim;
 use crate::pairs::{aim_by, first_match_by};
+use crate::part_finding::{
+    field_numbers_at, source_by_numbers, symbol_by_numbers, symbol_numbers_at, symbol_numbers_of,
+};
+use crate::part_numbering::part_numbers;
+use crate::part_numbers::PartNumbers;
 use crate::seed::seed_of;
-use crate::sourcing::fields_of;
-use crate::symbol_tables::{symbol_by, symbol_tables};
+use crate::sourcing::{fields_of, source_among};
+use crate::symbols::{symbol_of_id, symbol_of_place, text_of};
 use crate::type_names::TypeNames;
 use crate::type_numbers::type_names;
 use avro_schema::{Field, Memory, NodeId, Schema};
 use std::alloc::Global;
-use std::collections::BTreeMap;
 use std::marker::Model;
 
-/// A writer's schema and a reader's, with tables of names, by which names are found without
-/// looking at all of them: the branches of the reader's unions, for the first match of a record,
-/// an enum or a fixed, the fields of the writer's records, the aliases of the reader's fields, and
-/// the symbols of the reader's enums. A union of few branches, or with more aliases than branches,
-/// a record of few fields, a field of few aliases and an enum of few symbols are looked through,
-/// and take no memory here. The names and aliases of types are
-/// numbered, and compared by their numbers. Contracts see the two schemas.
+/// A writer's schema and a reader's, with tables by which names are found without looking at all of
+/// them: the branches of the reader's unions, for the first match of a record, an enum or a fixed,
+/// the fields of the writer's records, the aliases of the reader's fields, and the symbols of the
+/// reader's enums. All names are numbered, and compared by their numbers. Contracts see the two
+/// schemas.
 #[derive(Drop)]
 pub struct Names<'a> {
     writer: &'a Schema,
     reader: &'a Schema,
     types: Option<TypeNames<'a>>,
-    // Each list rises by its nodes, and that of aliases by the indices of fields too, so that a table is found by
-    // binary search.
-    fields: Vec<(NodeId, BTreeMap<&'a str, usize>)>,
-    aliases: Vec<((NodeId, usize), BTreeMap<&'a str, usize>)>,
-    symbols: Vec<(NodeId, BTreeMap<&'a str, usize>)>,
+    parts: Option<PartNumbers<'a>>,
 }
 
 impl<'a> Model for Names<'a> {
     ghost use Rattle.std.specs.Coded.{codes};
+    ghost use Rattle.std.specs.Option.{IfSome};
     ghost use Rattle.avro_schema.specs.contracts.datum.Datum as datum;
     ghost use Rattle.avro_schema.specs.declared.schema.Schema.{Schema};
     ghost use Rattle.avro_schema.specs.SeenSchema.{schema_nodes};
-    ghost use Rattle.avro_compare.specs.inside.AliasTables.{AreAliasTables};
-    ghost use Rattle.avro_compare.specs.inside.NameTables.{AreFieldTables, AreSymbolTables};
+    ghost use Rattle.avro_compare.specs.inside.PartNumbers.{ArePartNumbers};
     ghost use Rattle.avro_compare.specs.inside.TypeNames.{AreTypeNames};
-    ghost use Rattle.std.specs.Option.{IfSome};
 
     ghost Value = { Schema × Schema };
 
@@ -48,9 +43,7 @@ impl<'a> Model for Names<'a> {
     ghost view = { λ names. (names.writer.now, names.reader.now) };
 
     ghost invariant = { λ names. IfSome names.types (AreTypeNames (schema_nodes names.writer.now) (schema_nodes names.reader.now))
-        × AreFieldTables (schema_nodes names.writer.now) names.fields.items
-        × AreAliasTables (schema_nodes names.reader.now) names.aliases.items
-        × AreSymbolTables (schema_nodes names.reader.now) names.symbols.items };
+        × IfSome names.parts (ArePartNumbers (schema_nodes names.writer.now) (schema_nodes names.reader.now)) };
 }
 
 impl<'a> Names<'a> {
@@ -60,7 +53,7 @@ impl<'a> Names<'a> {
     ghost use Rattle.avro_schema.specs.SeenSchema.{schema_nodes};
     ghost use Rattle.avro_compare.specs.Match.{first_match_at};
     ghost use Rattle.avro_compare.specs.Pairs.{IsAim, IsSymbol, aim_at};
-    ghost use Rattle.avro_compare.specs.Resolve.{enum_as, fields_at};
+    ghost use Rattle.avro_compare.specs.Resolve.{enum_as, fields_at, symbol_at};
     ghost use Rattle.avro_compare.specs.Source.{source_of};
 
     /// The tables of two schemas.
@@ -72,17 +65,13 @@ impl<'a> Names<'a> {
         ensures { IfOk result (λ names. names ≡ (writer.now, reader.now)) }
     {
         let seed = seed_of(writer, reader);
-        let types = Some(type_names(alloc, seed, writer, reader)?);
-        let fields = field_tables(alloc, writer)?;
-        let aliases = alias_tables(alloc, reader)?;
-        let symbols = symbol_tables(alloc, reader)?;
+        let types = type_names(alloc, seed, writer, reader)?;
+        let parts = part_numbers(alloc, seed, writer, reader)?;
         Ok(Names {
             writer,
             reader,
-            types,
-            fields,
-            aliases,
-            symbols,
+            types: Some(types),
+            parts: Some(parts),
         })
     }
 
@@ -94,9 +83,7 @@ impl<'a> Names<'a> {
             writer,
             reader,
             types: None,
-            fields: Vec::new(alloc),
-            aliases: Vec::new(alloc),
-            symbols: Vec::new(alloc),
+            parts: None,
         }
     }
 
@@ -114,10 +101,10 @@ impl<'a> Names<'a> {
     pub fn source(&self, w: NodeId, field: &Field) -> Option<usize>
         ensures { result ≡ source_of (fields_at (node_at (schema_nodes self.now.0) w.0)) (field_of field.now) }
     {
-        source_by(&self.fields, self.writer, w, field)
+        source_among(fields_of(self.writer, w), field)
     }
 
-    /// The same of a reader's field at an index of a record, whose aliases are found by their table if it has one.
+    /// The same of a reader's field at an index of a record, by number.
     pub(crate) fn source_at(
         &self,
         w: NodeId,
@@ -128,11 +115,9 @@ impl<'a> Names<'a> {
         requires { slice_get (fields_at (node_at (schema_nodes self.now.1) r.0)) index ≡ Some (field_of field.now) }
         ensures { result ≡ source_of (fields_at (node_at (schema_nodes self.now.0) w.0)) (field_of field.now) }
     {
-        let writes = fields_of(self.writer, w);
-        // With their table there is a step for each of the writer's fields, without it one for each alias.
-        if writes.len() < field.aliases.len() {
-            if let Some(first) = table_at(&self.aliases, r, index) {
-                return source_by_aliases(first, writes, field);
+        if let Some(parts) = &self.parts {
+            if let Some(found) = field_numbers_at(parts, w, r, index) {
+                return source_by_numbers(parts, found);
             }
         }
         self.source(w, field)
@@ -142,7 +127,27 @@ impl<'a> Names<'a> {
     pub fn symbol(&self, symbol: &str, q: NodeId) -> Option<u32>
         ensures { IsSymbol (enum_as symbol.now (node_at (schema_nodes self.now.1) q.0)) result }
     {
-        symbol_by(&self.symbols, self.reader, q, symbol)
+        if let Some(parts) = &self.parts {
+            if let Some(found) = symbol_numbers_of(parts, symbol, q) {
+                let index = symbol_by_numbers(parts, found);
+                return symbol_of_place(self.reader, q, symbol, index);
+            }
+        }
+        symbol_of_id(self.reader, q, symbol)
+    }
+
+    /// The same of the symbol at an index of a writer's enum, by number.
+    pub(crate) fn symbol_at(&self, w: NodeId, index: usize, q: NodeId) -> Option<u32>
+        ensures { IsSymbol (enum_as (symbol_at (node_at (schema_nodes self.now.0) w.0) index) (node_at (schema_nodes self.now.1) q.0)) result }
+    {
+        let symbol = text_of(self.writer, w, index);
+        if let Some(parts) = &self.parts {
+            if let Some(found) = symbol_numbers_at(parts, w, index, q) {
+                let index = symbol_by_numbers(parts, found);
+                return symbol_of_place(self.reader, q, symbol, index);
+            }
+        }
+        symbol_of_id(self.reader, q, symbol)
     }
 
     /// Where a pair of nodes leads.

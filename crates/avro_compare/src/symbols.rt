@@ -1,14 +1,13 @@
-ghost use Rattle.std.specs.Prelude.{◌≡◌, ◌<◌, ◌≤◌, ◌^◌, [], length, position, bytes_eq, unwrap_or, IfOk, IfSome};
+ghost use Rattle.std.specs.Prelude.{◌≡◌, ◌<◌, ◌^◌, [], length, position, bytes_eq, unwrap_or, IfOk, IfSome};
 ghost use Rattle.avro_schema.specs.Node.{Node as SeenNode, node_at, symbols_of as texts_in};
 ghost use Rattle.avro_schema.specs.Seen.{node_of, texts_of};
 ghost use Rattle.avro_schema.specs.SeenSchema.{schema_nodes};
 ghost use Rattle.avro_schema.proofs.public.Choices.{HasFewChoices};
 ghost use Rattle.avro_compare.specs.Resolve.{enum_as, enum_or_default, symbol_at};
 ghost use Rattle.avro_compare.specs.Pairs.{IsSymbol};
-ghost use Rattle.avro_compare.specs.Planned.{FindsSymbols};
+ghost use Rattle.avro_compare.specs.inside.NameTables.{symbols_at};
 
 use avro_schema::{Node, NodeId, Schema};
-use std::collections::BTreeMap;
 
 /// The first index of a symbol.
 fn index_of(symbols: &[String], symbol: &str) -> Option<usize>
@@ -94,29 +93,27 @@ pub(crate) fn symbols_of(schema: &Schema, id: NodeId) -> &[String]
     schema.get(id).symbols().unwrap_or(&[])
 }
 
-/// The index of a reader's symbol, or its default, by the names of the reader's symbols.
-pub(crate) fn symbol_by_name(
-    names: &BTreeMap<&str, usize>,
-    reads: &[String],
-    default: Option<u32>,
+/// The index of a symbol of a reader's enum that was looked up, or of its default.
+pub(crate) fn symbol_of_place(
+    reader: &Schema,
+    q: NodeId,
     symbol: &str,
+    index: Option<usize>,
 ) -> Option<u32>
-    requires few { length reads.now ≤ 2 ^ 31 }
-    requires names { FindsSymbols (texts_of reads.now) names.now }
-    ensures { IsSymbol (enum_or_default (position (λ s. bytes_eq s symbol.now) (texts_of reads.now)) default) result }
+    requires { index ≡ position (λ s. bytes_eq s symbol.now) (symbols_at (node_at (schema_nodes reader.now) q.0)) }
+    ensures { IsSymbol (enum_as symbol.now (node_at (schema_nodes reader.now) q.0)) result }
 {
-    or_default(index_by_name(names, reads, symbol), default)
+    placed_symbol(reader.get(q), symbol, index)
 }
 
-/// The first index of a symbol, by the names of the symbols.
-pub(crate) fn index_by_name(
-    names: &BTreeMap<&str, usize>,
-    symbols: &[String],
-    symbol: &str,
-) -> Option<usize>
-    requires { FindsSymbols (texts_of symbols.now) names.now }
-    ensures index { result ≡ position (λ s. bytes_eq s symbol.now) (texts_of symbols.now) }
-    ensures below { IfSome result (λ k. k < length symbols.now) }
+/// The same, given the enum's node.
+fn placed_symbol(node: &Node, _symbol: &str, index: Option<usize>) -> Option<u32>
+    requires below { IfSome index (λ k. k < 2 ^ 32) }
+    requires index { index ≡ position (λ s. bytes_eq s _symbol.now) (symbols_at (node_of node.now)) }
+    ensures { IsSymbol (enum_as _symbol.now (node_of node.now)) result }
 {
-    names.get(symbol).copied()
+    match node {
+        Node::Enum(enumeration) => or_default(index, enumeration.default),
+        _ => None,
+    }
 }

@@ -114,10 +114,7 @@ fn add_named(
 }
 
 /// The first index of each branch.
-fn branch_places(
-    alloc: Global,
-    branches: &[NodeId],
-) -> Result<BTreeMap<u32, usize>, AllocError>
+fn branch_places(alloc: Global, branches: &[NodeId]) -> Result<BTreeMap<u32, usize>, AllocError>
     ensures { IfOk result (FindsPlaces (ids_of branches.now)) }
 {
     let mut places = BTreeMap::new(alloc);

@@ -1,13 +1,12 @@
 -- A block that is copied, or refused.
-use Rattle.std.proofs.Common.{◌≡◌, ℕ, suc, ◌+◌, ◌-◌, ◌<◌, ◌≤◌, List, [], ◌++◌, length, take, drop, Option, Some, None, Err, refl, sym, ap, subst, ◌∙◌, arith, length-append}
+use Rattle.std.proofs.Common.{◌≡◌, ℕ, ◌+◌, ◌-◌, ◌<◌, ◌≤◌, List, [], ◌++◌, length, take, drop, Option, Some, None, Err, refl, sym, ap, subst, ◌∙◌, arith, length-append}
 use Rattle.std.proofs.lemmas.List.{take-append-drop}
 use Rattle.std.proofs.lemmas.Option.{none-some}
-use Rattle.avro_schema.specs.Value.{Value, Values, no_values, value, values_count}
-use Rattle.avro_compare.specs.Resolve.{Resolved}
+use Rattle.avro_schema.specs.Value.{values_count}
 use Rattle.avro_file.specs.declared.error.CopyError.{CopyError}
 use Rattle.avro_container.specs.inside.BlockCopied.{CopiesBlock, RefusesWithin}
 use Rattle.avro_file.specs.BlockFails.{FileLimitValues, BlockFails, max_blocks}
-use Rattle.avro_file.specs.Copied.{Job, EachResolved, IsCopiedBlock, block_bytes, or_else}
+use Rattle.avro_file.specs.Copied.{Job, IsCopiedBlock, block_bytes, or_else}
 use Rattle.avro_container.specs.inside.DataPacked.{IsCopyFault, PacksBlock}
 use Rattle.avro_file.specs.File.{HeaderValue}
 use Rattle.avro_file.specs.FileFault.{FileFault}
@@ -18,10 +17,7 @@ use Rattle.avro_file.specs.Parts.{block_part}
 use Rattle.avro_device.specs.PutFront.{PutsFrontOf}
 use Rattle.avro_container.specs.Steps.{HasFault, PutsFront, Stored, reading_of}
 use Rattle.avro_file.proofs.public.Small.{no_bytes, not_failed}
-
-resolved-count : (resolve : Value → Resolved) (vs us : Values) → EachResolved resolve vs us → values_count us ≡ values_count vs
-resolved-count resolve no_values us e = ap values_count e
-resolved-count resolve (value v vs) us (first, others, made, more, e) = ap values_count e ∙ ap suc (resolved-count resolve vs others more)
+use Rattle.avro_container.proofs.ResolvedData.{resolved-count}
 
 -- what is put of a block is its copy
 pub block_copied : (job : Job) (limits : FileLimitValues) (h : HeaderValue) (count : ℕ) (bytes packed sync : List ℕ) → sync ≡ or_else job.sync h.sync

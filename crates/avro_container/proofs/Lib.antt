@@ -3,8 +3,11 @@ pub mod PackedData
 pub mod EmptyPacked
 pub mod KnownEmpty
 pub mod BlocksPacked
+pub mod ResolvedData
 pub mod BlocksCopied
 pub mod HeadersCopied
 pub mod Stepping
 pub mod StepLaws
 pub mod CopySteps
+pub mod FileHeaders
+pub mod public

@@ -3,13 +3,16 @@ use Rattle.std.proofs.Common.{◌≡◌, ℕ, ◌+◌, ◌≤◌, ◌<◌, List,
 use Rattle.std.specs.List.{sum}
 use Rattle.std.proofs.lemmas.List.{map-append}
 use Rattle.std.proofs.lemmas.List.Sums.{sum_by-cons}
-use Rattle.avro_schema.specs.Value.{Values, values_count}
+use Rattle.avro_schema.specs.Value.{Value, Values, values_count}
+use Rattle.avro_cursor.specs.Encoding.{plain_values}
+use Rattle.avro_compare.specs.Resolve.{Resolved}
 use Rattle.avro_file.specs.File.{HeaderValue, IsHeader, AreBlocks, IsFile}
 use Rattle.avro_file.specs.FileFault.{FileFault}
-use Rattle.avro_file.specs.Copied.{Job, copied_header, IsCopiedBlock, AreCopiedBlocks, IsCopied}
+use Rattle.avro_file.specs.Copied.{Job, EachResolved, copied_header, IsCopiedBlock, AreCopiedBlocks, IsCopied}
 use Rattle.avro_file.specs.BlockFails.{FileLimitValues, BlockFails, max_blocks}
 use Rattle.avro_file.specs.HeaderFails.{HeaderFails}
-use Rattle.avro_container.specs.Steps.{Stored, HeaderStep, BlockStep, EndStep, IsBlockWithin, PutsFront, HasFault, RefusedStep, Steps, Outcome, most_ahead, reading_of, total_data, AreBlocksWithin, BeginsWith, Done, Run, PutInAll, CopiedWhole, FaultStands, TakenAhead}
+use Rattle.avro_container.specs.Steps.{Stored, HeaderStep, BlockStep, EndStep, IsBlockWithin, AreMadeWithin, PutsFront, HasFault, RefusedStep, Steps, Outcome, most_ahead, reading_of, total_data, AreBlocksWithin, BeginsWith, Done, Run, PutInAll, CopiedWhole, FaultStands, TakenAhead}
+use Rattle.avro_container.proofs.ResolvedData.{same_made}
 
 pub Some-same : {A : Type 0} {x y : A} (o : Option A) → o ≡ Some x → o ≡ Some y → x ≡ y
 Some-same o p q = cc
@@ -53,6 +56,12 @@ IsCopied-push job h blocks vs bytes more (rest, copied, e) b = (
   AreCopiedBlocks-push job h blocks vs rest more copied b,
   ap (λ all. all ++ more) e ∙ append_assoc (copied_header job h) rest more,
 )
+
+AreMadeWithin-push : (limit : ℕ) (resolve : Value → Resolved) (blocks : List Values) (vs us : Values) → AreMadeWithin limit resolve blocks
+    → EachResolved resolve vs us → length (plain_values us) ≤ limit → AreMadeWithin limit resolve (blocks ++ vs ∷ [])
+AreMadeWithin-push limit resolve [] vs us within made small =
+    (λ ws other. subst (λ (w : Values). length (plain_values w) ≤ limit) (same_made resolve vs us ws made other) small, tt)
+AreMadeWithin-push limit resolve (block ∷ blocks) vs us within made small = (within.0, AreMadeWithin-push limit resolve blocks vs us within.1 made small)
 
 total_data-sum : (blocks : List Values) → total_data blocks ≡ sum (map values_count blocks)
 total_data-sum [] = refl
@@ -115,6 +124,7 @@ Done-header job limits s t counts taken put more out (Done.none_yet none no_bloc
       count = sym (step.count ∙ no_block);
       counts_are = sym zero;
       copied = ([], refl, ap (λ front. front ++ out) nothing ∙ step.copied ∙ sym (append-nil (copied_header job step.header)));
+      small = tt;
     })
 Done-header job limits s t counts taken put more out (Done.some h has) step = absurd (None-Some s.header step.none_before has.header_is)
 
@@ -139,6 +149,8 @@ Done-block job limits s t counts n taken put more out (Done.some h has) step =
       counts_are = map-append values_count has.blocks (step.values ∷ []) ∙ ap (λ front. front ++ values_count step.values ∷ []) has.counts_are
           ∙ ap (λ k. counts ++ k ∷ []) step.counted;
       copied = IsCopied-push job h has.blocks step.values put out has.copied copy;
+      small = AreMadeWithin-push limits.block (job.resolve h.nodes) has.blocks step.values step.copied.0 has.small
+          (subst (λ (k : HeaderValue). EachResolved (job.resolve k.nodes) step.values step.copied.0) same step.copied.1) step.small;
     })
 
 -- any run of steps
@@ -178,6 +190,7 @@ CopiedWhole-end job limits s t counts ended taken put more out (Done.some h has)
       is_file = IsFile-whole limits h has.blocks (taken ++ more) within;
       within = within;
       is_copy = subst (IsCopied job h has.blocks) (sym put_are) has.copied;
+      small = has.small;
       items_are = total_data-sum has.blocks ∙ ap sum has.counts_are;
       blocks_are = has.count;
       is_end = step.is_told;

@@ -11,6 +11,7 @@ use Rattle.avro_container.specs.Steps.{Stored, Outcome}
 use Rattle.avro_file.specs.HeaderTaken.{header_value}
 use Rattle.avro_container.specs.TaskSeen.{job_of}
 
+-- what a copier of the program stores
 abbrev pub stored_of : Copier → Stored
 stored_of c = record {
   header = option_map (λ o. header_value o.0) c.opened;
@@ -20,12 +21,15 @@ stored_of c = record {
   failed = c.failed;
 }
 
+-- what is asked of it
 abbrev pub job_in : Copier → Job
 job_in c = job_of c.task
 
+-- its limits
 abbrev pub limits_in : Copier → FileLimitValues
 limits_in c = c.task.limits
 
+-- what a result of the program answers
 abbrev pub outcome_of : Result Step CopyError → Outcome
 outcome_of (Ok Step.Header) = Outcome.header
 outcome_of (Ok (Step.Block n)) = Outcome.block n

@@ -1,5 +1,6 @@
 pub mod Moved
 pub mod Steps
+pub mod CopiedFile
 pub mod TaskSeen
 pub mod CopierSeen
 pub mod Copying

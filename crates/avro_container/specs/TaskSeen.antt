@@ -16,5 +16,6 @@ job_from reader sync = record {
   resolve = resolution (option_map (λ r. schema_nodes r.1) (option_copied reader));
 }
 
+-- what is asked by a task of the program
 abbrev pub job_of : Task → Job
 job_of task = job_from task.reader task.sync

@@ -45,13 +45,14 @@ pub struct Counts {
     pub blocks: u64,
 }
 
-/// Copies a whole file in one pass, and returns the number of its data and blocks. Each datum is resolved
-/// for the reader, if there is one, and put in its plain encoding. `sync` is the marker of the copy; without
-/// it, the copy has the file's. The last call on the output is a flush.
+/// Copies a whole file within the limits in one pass, to where the input reports its end, and returns the number of its data and blocks.
+/// Each datum is resolved for the reader, if there is one, and put in its plain encoding. `sync` is the marker of the copy; without it, the
+/// copy has the file's. After an Ok the last call on the output was a successful flush.
 ///
 /// # Errors
 ///
-/// The first fault of the file; `InputFailed`, `OutputFailed`, `OutOfMemory`.
+/// The first fault of the file, and then exactly the copy of what comes before it was put; `InputFailed`, `OutputFailed`, `OutOfMemory`,
+/// and then a prefix of a copy was put.
 pub fn copy<'a, I: Input, O: Output>(
     alloc: Global,
     input: &mut I,

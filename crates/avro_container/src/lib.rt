@@ -10,7 +10,8 @@
 //! are put as one block. Without a reader, a datum's bytes are appended right after those of the previous datum; for a
 //! reader they are gathered first. All data after one without bytes are the same datum, in this block and in later ones,
 //! and are not read again. The names of two schemas are compared once per file: the copier keeps the plan table beside the
-//! header, and its invariant is that the table is of the header's schema and the reader's.
+//! header, and its invariant is that the table is of the header's schema and the reader's. The table is made before the header is put, so
+//! that nothing was put if memory runs out there.
 //!
 //! The contract of a step says what was held and taken before it, and what is put and held after it. A run of such steps
 //! takes the start of a file and puts its copy: that is a law about the definitions alone (`laws.rt`), on which the loop of

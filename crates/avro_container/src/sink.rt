@@ -28,7 +28,7 @@ impl Sink {
     ///
     /// # Errors
     ///
-    /// `OutputFailed`, `OutOfMemory`.
+    /// `OutputFailed`, `OutOfMemory`: a prefix of the header was put.
     pub fn start<O: Output>(
         alloc: Global,
         output: &mut O,
@@ -62,7 +62,7 @@ impl Sink {
     ///
     /// # Errors
     ///
-    /// `OutputFailed`, `OutOfMemory`. After an error, `FailedBefore`.
+    /// `OutputFailed`, `OutOfMemory`: a prefix of the block was put. After an error, `FailedBefore`.
     pub fn block<O: Output>(
         &mut self,
         output: &mut O,

@@ -10,7 +10,7 @@ use Rattle.avro_cursor.specs.Elements.{Refuses}
 use Rattle.avro_cursor.specs.declared.block.Block.{Block}
 use Rattle.avro_cursor.specs.declared.error.ReadError.{ReadError}
 
--- a count by its sign and its magnitude
+-- the count of a head as a number: negative if there is a size
 abbrev pub signed_count : Bool → ℕ → ℤ
 signed_count true n = neg_ℤ (pos n)
 signed_count false n = pos n
@@ -27,6 +27,7 @@ IsBlock offset (sized count size count_bytes size_bytes) block =
     (block.count ≡ count)
     × (block.size ≡ Some (record { bytes = size; offset = offset + length count_bytes; items = offset + length count_bytes + length size_bytes }))
 
+-- that, or the end of the blocks
 abbrev pub IsBlockOrEnd : ℕ → Option Head → Option Block → Type 0
 IsBlockOrEnd offset (Some head) (Some block) = IsBlock offset head block
 IsBlockOrEnd offset (Some head) None = ⊥

@@ -3,8 +3,8 @@ use Rattle.std.specs.Prelude.{◌≡◌, ℕ, ◌^◌, ◌<◌, pos, neg_ℤ, Li
 use Rattle.std.specs.List.{concat}
 use Rattle.avro_zigzag.specs.Number.{SpellsLong}
 
--- The items, each as its bytes, are cut into nonempty blocks, and the number 0 ends them. A block is its count and its
--- items; or its count negated, the exact number of its items' bytes, and its items.
+-- The items, each as its bytes, are divided into nonempty blocks, and the number 0 ends them. A block is its count and
+-- its items; or its count negated, the exact number of its items' bytes, and its items.
 pub data IsInBlocks : List (List ℕ) → List ℕ → Type 0 where
   no_more : {bytes : List ℕ} → SpellsLong (pos 0) bytes → IsInBlocks [] bytes
   counted : {items : List (List ℕ)} {bytes : List ℕ} (block later : List (List ℕ)) (count rest : List ℕ)

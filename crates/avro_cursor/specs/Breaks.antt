@@ -20,17 +20,20 @@ number_fault EndOfInput = end_of_input 0
 number_fault NotShortest = invalid_number 0
 number_fault OutOfRange = invalid_number 0
 
+-- the fault of bytes that begin with no int
 abbrev pub IntBreaks : List ℕ → ReadFault → Type 0
 IntBreaks bytes f = (e : VarError) × IntFails bytes e × (f ≡ number_fault e)
 
+-- the fault of bytes that begin with no long
 abbrev pub LongBreaks : List ℕ → ReadFault → Type 0
 LongBreaks bytes f = (e : VarError) × LongFails bytes e × (f ≡ number_fault e)
 
+-- the fault of bytes that begin with no boolean: there are none, or the first is over 1
 abbrev pub BooleanBreaks : List ℕ → ReadFault → Type 0
 BooleanBreaks [] f = f ≡ end_of_input 0
 BooleanBreaks (b ∷ rest) f = (1 < b) × (f ≡ invalid_boolean 0)
 
--- a fixed of a size
+-- the fault of bytes that begin with no fixed of a size within a limit
 abbrev pub FixedBreaks : ℕ → ℕ → List ℕ → ReadFault → Type 0
 FixedBreaks count blob bytes f =
     ((blob < count) × (f ≡ limit_exceeded)) ⊎ ((count ≤ blob) × (length bytes < count) × (f ≡ end_of_input 0))
@@ -53,9 +56,11 @@ pub data ContentBreaks (is_content : List ℕ → Bool) (blob : ℕ) (bytes : Li
   invalid : (n : ℕ) (number rest : List ℕ) → StartsWithLong (pos n) bytes number rest → n ≤ blob → n ≤ length rest
       → is_content (take n rest) ≡ false → ContentBreaks is_content blob bytes (invalid_text (length number))
 
+-- the fault of bytes that begin with no content of bytes
 abbrev pub BytesBreaks : ℕ → List ℕ → ReadFault → Type 0
 BytesBreaks = ContentBreaks (λ content. true)
 
+-- the fault of bytes that begin with no string
 abbrev pub StringBreaks : ℕ → List ℕ → ReadFault → Type 0
 StringBreaks = ContentBreaks is_utf8
 
@@ -74,7 +79,7 @@ pub data IndexBreaks (choices : ℕ) (bytes : List ℕ) : ReadFault → Type 0 w
 abbrev pub ChildBreaks : Type 1
 ChildBreaks = ℕ → Node → List ℕ → ReadFault → Type 0
 
--- some bytes, the whole of which is at the front, and then a part that breaks
+-- some bytes, all of which are at the front, and then a part that breaks
 pub record BreaksAfter (part_breaks : List ℕ → ReadFault → Type 0) (front bytes : List ℕ) (f : ReadFault) : Type 0 where
   pub rest : List ℕ
   pub fault : ReadFault
@@ -82,7 +87,7 @@ pub record BreaksAfter (part_breaks : List ℕ → ReadFault → Type 0) (front 
   pub breaks : part_breaks rest fault
   pub moved : f ≡ behind (length front) fault
 
--- the branch after its index
+-- the value of a branch breaks, after its index
 pub record BranchBreaks (nodes : List Node) (left : LimitValues) (child : ChildBreaks) (ids : List ℕ) (bytes : List ℕ) (f : ReadFault) : Type 0 where
   pub before : List ℕ
   pub branch : ℕ
@@ -92,7 +97,7 @@ pub record BranchBreaks (nodes : List Node) (left : LimitValues) (child : ChildB
   pub spelled : SpellsInt (pos (length before)) number
   pub breaks : BreaksAfter (child left.nodes (node_at nodes branch)) number bytes f
 
--- the fields before one are whole, and that one breaks
+-- the fields before one are complete, and that one breaks
 pub record FieldsBreak (nodes : List Node) (left : LimitValues) (child : ChildBreaks) (ids : List ℕ) (bytes : List ℕ) (f : ReadFault) : Type 0 where
   pub before : List ℕ
   pub field : ℕ
@@ -112,7 +117,7 @@ pub record Left : Type 0 where
   pub nodes : ℕ
   pub keys : List (List ℕ)
 
--- a number of whole items is encoded as these bytes, and leaves this
+-- a number of complete items is encoded as these bytes, and leaves this
 pub record ItemsAreWhole (nodes : List Node) (limits : LimitValues) (n : Node) (left : Left) (count : ℕ) (bytes : List ℕ) (then_left : Left) : Type 0 where
   pub values : Values
   pub items : List (List ℕ)
@@ -158,10 +163,12 @@ pub data Head : Type 0 where
   counted : (count : ℕ) (count_bytes : List ℕ) → Head
   sized : (count size : ℕ) (count_bytes size_bytes : List ℕ) → Head
 
+-- the count of a head
 abbrev pub head_count : Head → ℕ
 head_count (counted count count_bytes) = count
 head_count (sized count size count_bytes size_bytes) = count
 
+-- the bytes of a head
 abbrev pub head_bytes : Head → List ℕ
 head_bytes (counted count count_bytes) = count_bytes
 head_bytes (sized count size count_bytes size_bytes) = count_bytes ++ size_bytes
@@ -178,7 +185,7 @@ abbrev pub HasSize : Head → ℕ → Type 0
 HasSize (counted count count_bytes) n = Unit {0}
 HasSize (sized count size count_bytes size_bytes) n = size ≡ n
 
--- the fault of a head, where a number of nodes is left
+-- the fault of a block's head, of its count or its size, where a number of nodes is left
 pub data HeadBreaks (nodes : ℕ) (bytes : List ℕ) : ReadFault → Type 0 where
   -- the count fails
   count_fails : {f : ReadFault} → LongBreaks bytes f → HeadBreaks nodes bytes f
@@ -194,7 +201,7 @@ pub data HeadBreaks (nodes : ℕ) (bytes : List ℕ) : ReadFault → Type 0 wher
   size_negative : (n m : ℕ) (number size behind_count rest : List ℕ) → SpellsLong (negsuc n) number → suc n < 2 ^ 63 → n < nodes
       → bytes ≡ number ++ behind_count → StartsWithLong (negsuc m) behind_count size rest → HeadBreaks nodes bytes (invalid_length (length number))
 
--- The blocks of an array or a map: how whole items go and how one breaks is handed in.
+-- The blocks of an array or a map break; what complete items are, and how one breaks, is passed in.
 pub data BlocksBreak (are_whole : Left → ℕ → List ℕ → Left → Type 0) (item_breaks : Left → List ℕ → ReadFault → Type 0) : Left → List ℕ → ReadFault → Type 0 where
   -- the head of the first block breaks
   head_breaks : {left : Left} {bytes : List ℕ} {f : ReadFault} → HeadBreaks left.nodes bytes f → BlocksBreak are_whole item_breaks left bytes f
@@ -234,13 +241,13 @@ NodeBreaks nodes left child (Node.record_of name aliases fields) bytes f = Field
 NodeBreaks nodes left child (Node.enum name aliases symbols default) bytes f = IndexBreaks (length symbols) bytes f
 NodeBreaks nodes left child (Node.fixed name aliases count) bytes f = FixedBreaks count left.blob bytes f
 
--- where no depth or no node is left, a limit is passed; else the node takes one of each
+-- the same within what is left: if no depth or no node is, a limit is exceeded; otherwise the node takes one of each
 abbrev pub BreaksWithin : List Node → ℕ → ℕ → ℕ → Node → List ℕ → ReadFault → Type 0
 BreaksWithin nodes zero count blob n bytes f = f ≡ limit_exceeded
 BreaksWithin nodes (suc depth) zero blob n bytes f = f ≡ limit_exceeded
 BreaksWithin nodes (suc depth) (suc count) blob n bytes f =
     NodeBreaks nodes (record { depth = depth; nodes = count; blob = blob }) (λ left m rest g. BreaksWithin nodes depth left blob m rest g) n bytes f
 
--- the first fault of bytes that are read as a node within limits
+-- the first fault of bytes that are read as a node within limits: complete parts come first, and the next part fails
 abbrev pub Breaks : List Node → LimitValues → Node → List ℕ → ReadFault → Type 0
 Breaks nodes limits n bytes f = BreaksWithin nodes limits.depth limits.nodes limits.blob n bytes f

@@ -14,12 +14,15 @@ use Rattle.avro_cursor.specs.CursorValue.{CursorValue, Passes}
 use Rattle.avro_cursor.specs.KeySet.{KeySet, key_set}
 use Rattle.avro_cursor.specs.declared.error.ReadError.{ReadError}
 
+-- one byte, 0 or 1, is the boolean
 abbrev pub IsBoolean : Bool → List ℕ → Type 0
 IsBoolean b bytes = bytes ≡ (if b then 1 else 0) ∷ []
 
+-- bytes spell an int in range
 abbrev pub IsInt : ℤ → List ℕ → Type 0
 IsInt v bytes = (is_int v ≡ true) × SpellsInt v bytes
 
+-- bytes spell a long in range
 abbrev pub IsLong : ℤ → List ℕ → Type 0
 IsLong v bytes = (is_long v ≡ true) × SpellsLong v bytes
 
@@ -30,9 +33,11 @@ pub record IsContent (is_content : List ℕ → Bool) (blob : ℕ) (content byte
   pub within : length content ≤ blob
   pub spelled : SpellsBytes content bytes
 
+-- bytes are a length within a limit and that many bytes
 abbrev pub IsBytes : ℕ → List ℕ → List ℕ → Type 0
 IsBytes = IsContent (λ content. true)
 
+-- bytes are a length within a limit and that many bytes of UTF-8
 abbrev pub IsString : ℕ → List ℕ → List ℕ → Type 0
 IsString = IsContent is_utf8
 
@@ -48,7 +53,7 @@ IsIndex choices n bytes = (n < choices) × IsInt (pos n) bytes
 abbrev pub IsKey : List (List ℕ) → ℕ → List ℕ → List ℕ → Type 0
 IsKey keys blob key bytes = IsString blob key bytes × (list_any (bytes_eq key) keys ≡ false)
 
--- what is returned is an element that is at the front, and the cursor is after it
+-- what is returned is an element at the front, and the cursor is after it
 abbrev pub Finds : {A R : Type 0} → (R → A) → (A → List ℕ → Type 0) → CursorValue → CursorValue → R → Type 0
 Finds seen IsElement before after r = (front : List ℕ) × IsElement (seen r) front × Passes before front after
 

@@ -11,8 +11,8 @@ use Rattle.avro_cursor.specs.Blocks.{IsInBlocks}
 abbrev pub SpellsBytes : List ℕ → List ℕ → Type 0
 SpellsBytes content bytes = (count : List ℕ) × SpellsLong (pos (length content)) count × (bytes ≡ count ++ content)
 
--- The bytes spell the datum. An array or a map may be cut into blocks in many ways, and numbers may be padded, so that one
--- datum has many spellings.
+-- The bytes spell the datum. An array or a map may be divided into blocks in many ways, and numbers may be padded, so
+-- that one datum has many spellings.
 abbrev mutual
   pub Spells : Value → List ℕ → Type 0
   Spells Value.null bytes = bytes ≡ []
@@ -29,20 +29,20 @@ abbrev mutual
   Spells (Value.enum k) bytes = SpellsInt (pos k) bytes
   Spells (Value.fixed b) bytes = bytes ≡ b
 
-  -- one spelling for each value
+  -- the bytes of each of several values
   pub EachSpelled : Values → List (List ℕ) → Type 0
   EachSpelled no_values items = items ≡ []
   EachSpelled (value v vs) items =
       (first : List ℕ) × (others : List (List ℕ)) × Spells v first × EachSpelled vs others × (items ≡ first ∷ others)
 
-  -- an entry is its key, as a string, and its value
+  -- the bytes of each of several entries: its key, as a string, and its value
   pub EntriesSpelled : Entries → List (List ℕ) → Type 0
   EntriesSpelled no_entries items = items ≡ []
   EntriesSpelled (entry k v es) items =
       (key first : List ℕ) × (others : List (List ℕ)) × SpellsBytes k key × Spells v first × EntriesSpelled es others
       × (items ≡ (key ++ first) ∷ others)
 
--- the bytes are an encoding of a datum of the node
+-- the bytes are an encoding of a datum, which fits the node
 pub record Encodes (nodes : List Node) (n : Node) (v : Value) (bytes : List ℕ) : Type 0 where
   pub fitting : fits nodes n v ≡ true
   pub spelled : Spells v bytes
@@ -72,10 +72,12 @@ abbrev mutual
   plain (Value.enum k) = number_bytes (pos k)
   plain (Value.fixed b) = b
 
+  -- the plain encodings of several values
   pub plain_values : Values → List ℕ
   plain_values no_values = []
   plain_values (value v vs) = plain v ++ plain_values vs
 
+  -- the plain encodings of several entries
   pub plain_entries : Entries → List ℕ
   plain_entries no_entries = []
   plain_entries (entry k v es) = plain_bytes k ++ plain v ++ plain_entries es

@@ -3,6 +3,7 @@ use Rattle.std.specs.Prelude.{ℕ, List, codes, Option, Some, None}
 use Rattle.avro_cursor.specs.declared.error.ReadError.{ReadError}
 use Rattle.avro_cursor.specs.declared.error.ReadError.TheVariants.{EndOfInput, InvalidNumber, InvalidBoolean, InvalidText, UnknownIndex, InvalidLength, WrongBlockSize, DuplicateKey, LimitExceeded, OutOfMemory}
 
+-- the code of an error of reading, B1 to B10
 abbrev pub read_code : ReadError → List ℕ
 read_code (EndOfInput place) = codes "B1"
 read_code (InvalidNumber place) = codes "B2"
@@ -15,6 +16,7 @@ read_code (DuplicateKey place) = codes "B8"
 read_code LimitExceeded = codes "B9"
 read_code OutOfMemory = codes "B10"
 
+-- the offset of the part that fails; limits and memory have none
 abbrev pub place_of : ReadError → Option ℕ
 place_of (EndOfInput place) = Some place
 place_of (InvalidNumber place) = Some place

@@ -1,8 +1,8 @@
 -- What is wrong with bytes that begin with no encoding within limits, and where.
 use Rattle.std.specs.Prelude.{ℕ, ◌+◌}
 
--- The place is the offset of the part that fails: of the number, the boolean or the content; of the size of a block, and
--- of the length of a key.
+-- A fault of bytes. The place is the offset of the part that fails: of the number, the boolean or the content; of the
+-- size of a block, and of the length of a key.
 pub data ReadFault : Type 0 where
   -- the input ends in the part
   end_of_input : (place : ℕ) → ReadFault
@@ -23,7 +23,7 @@ pub data ReadFault : Type 0 where
   -- a limit is passed
   limit_exceeded : ReadFault
 
--- the same fault, of bytes after a number of others
+-- the same fault when a number of other bytes come before
 abbrev pub behind : ℕ → ReadFault → ReadFault
 behind n (end_of_input place) = end_of_input (n + place)
 behind n (invalid_number place) = invalid_number (n + place)

@@ -4,7 +4,7 @@ use Rattle.avro_cursor.specs.Fault.{ReadFault, end_of_input, invalid_number, inv
 use Rattle.avro_cursor.specs.declared.error.ReadError.{ReadError}
 use Rattle.avro_cursor.specs.declared.error.ReadError.TheVariants.{EndOfInput, InvalidNumber, InvalidBoolean, InvalidText, UnknownIndex, InvalidLength, WrongBlockSize, DuplicateKey, LimitExceeded, OutOfMemory}
 
--- the fault of the bytes that an error reports; memory that runs out is none
+-- the fault of the bytes that an error reports; none if memory ran out
 abbrev pub read_fault : ReadError → Option ReadFault
 read_fault (EndOfInput place) = Some (end_of_input place)
 read_fault (InvalidNumber place) = Some (invalid_number place)
@@ -17,7 +17,7 @@ read_fault (DuplicateKey place) = Some (duplicate_key place)
 read_fault LimitExceeded = Some limit_exceeded
 read_fault OutOfMemory = None
 
--- memory ran out, or else P holds
+-- a claim that is made only if memory did not run out
 abbrev pub UnlessOutOfMemory : {A : Type 0} → Result A ReadError → Type 0 → Type 0
 UnlessOutOfMemory (Err OutOfMemory) P = Unit {0}
 UnlessOutOfMemory r P = P

@@ -9,7 +9,7 @@ use crate::device::{DeviceFault, Output};
 ///
 /// # Errors
 ///
-/// The device failed, or took none of the bytes. A prefix of `bytes` was put.
+/// The device failed, or took none of the bytes that were left. A prefix of `bytes` was put.
 pub fn put_all<O: Output>(output: &mut O, bytes: &[u8]) -> Result<(), DeviceFault>
     ensures put { OnOk result (O.keeps output.old bytes.now output.new) }
     ensures works { OnOk result (O.failures output.new ≡ O.failures output.old) }

@@ -35,13 +35,15 @@ abbrev pub branch_tree : Node → Data → Data
 branch_tree Node.null d = Data.null
 branch_tree n d = Data.object (member (branch_key n) d no_members)
 
--- the node of an id that a node has, if it has one
+-- the node of an id that a node has, null if it has none
 abbrev pub part_at : List Node → Option ℕ → Node
 part_at nodes id = unwrap_or (option_map (node_at nodes) id) Node.null
 
+-- the node of a union's branch
 abbrev pub branch_at : List Node → Node → ℕ → Node
 branch_at nodes n k = part_at nodes (option_and_then (λ ids. slice_get ids k) (branches_of n))
 
+-- the fields of a record, none of another node
 abbrev pub record_fields : Node → List FieldNode
 record_fields n = unwrap_or (fields_of n) []
 
@@ -49,8 +51,8 @@ record_fields n = unwrap_or (fields_of n) []
 abbrev pub symbol_at : Node → ℕ → List ℕ
 symbol_at n k = unwrap_or (option_and_then (λ symbols. slice_get symbols k) (symbols_of n)) []
 
--- By cases on the datum. Bytes are a text of one character for each byte, whose code is the byte's value. The keys of
--- an object are in the order of their bytes.
+-- The JSON that shows a datum, by cases on the datum. Bytes are a text of one character for each byte, whose code is
+-- the byte's value. The keys of an object are in the order of their bytes.
 abbrev mutual
   pub display_tree : List Node → Node → Value → Data
   display_tree nodes n Value.null = Data.null
@@ -66,6 +68,7 @@ abbrev mutual
   display_tree nodes n (Value.enum k) = Data.string (symbol_at n k)
   display_tree nodes n (Value.fixed b) = Data.string (encode_utf8_all b)
 
+  -- the trees of several items
   pub display_items : List Node → Node → Values → Items
   display_items nodes n no_values = no_items
   display_items nodes n (value v vs) = item (display_tree nodes n v) (display_items nodes n vs)
@@ -82,6 +85,6 @@ abbrev mutual
   display_fields nodes (f ∷ fields) (value v vs) members =
       display_fields nodes fields vs (put f.name (display_tree nodes (node_at nodes f.node) v) members)
 
--- the text of a display
+-- the compact text of that JSON
 abbrev pub display_text : List Node → Node → Value → List ℕ
 display_text nodes n v = compact_text (display_tree nodes n v)

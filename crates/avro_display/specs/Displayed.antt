@@ -8,10 +8,12 @@ use Rattle.avro_display.specs.Order.{put_each}
 use Rattle.avro_display.specs.declared.member.Member.{Member}
 use Rattle.avro_display.specs.declared.displayed.Opened.{Opened}
 
+-- the number of items
 abbrev pub items_count : Items → ℕ
 items_count no_items = 0
 items_count (item d ds) = suc (items_count ds)
 
+-- the item at an index
 abbrev pub item_at : Items → ℕ → Data
 item_at no_items index = Data.null
 item_at (item d ds) zero = d
@@ -30,15 +32,18 @@ ItemsAre shows p n ds = (items_count ds ≡ n) × ((i : ℕ) → i < n → shows
 abbrev pub EntriesAre : {P : Type 0} → (P → ℕ → List ℕ → Data → Type 0) → P → ℕ → List (List ℕ) → (ℕ → Data) → Type 0
 EntriesAre shows p n keys tree = (length keys ≡ n) × ((i : ℕ) (k : List ℕ) → slice_get keys i ≡ Some k → shows p i k (tree i))
 
--- the text of an object of members, each value behind the text before it
+-- the text of the members of an object that are left, each value after the text before it
 abbrev pub members_left : (ℕ → Data) → List Member → List ℕ
 members_left tree [] = 125 ∷ []
 members_left tree (m ∷ ms) = m.head.items ++ (compact_text (tree m.field) ++ members_left tree ms)
 
+-- the text of an object
 abbrev pub object_text : (ℕ → Data) → List Member → List ℕ
 object_text tree [] = 123 ∷ 125 ∷ []
 object_text tree (m ∷ ms) = members_left tree (m ∷ ms)
 
+-- What a part is that was opened, by the JSON that it is displayed as; `shows` and the others say which JSON its parts
+-- are displayed as.
 abbrev pub Opens : {P : Type 0} → (P → Data → Type 0) → (P → ℕ → Data → Type 0) → (P → ℕ → List ℕ → Data → Type 0) → (P → Member → Data → Type 0) → Opened P → Data → Type 0
 Opens shows item_is entry_is member_is Opened.Null d = d ≡ Data.null
 Opens shows item_is entry_is member_is (Opened.Bool b) d = d ≡ Data.boolean b
@@ -50,7 +55,7 @@ Opens shows item_is entry_is member_is (Opened.Items p n) d = (ds : Items) × (d
 Opens shows item_is entry_is member_is (Opened.Entries p n) d = (keys : List (List ℕ)) × (tree : ℕ → Data) × (d ≡ Data.object (put_each tree 0 keys no_members)) × EntriesAre entry_is p n keys tree
 Opens shows item_is entry_is member_is (Opened.Members p ms) d = (tree : ℕ → Data) × (compact_text d ≡ object_text tree ms.now) × AllByRecursion (λ m. member_is p m (tree m.field)) ms.now
 
--- parts have fewer levels than what was opened, and what leads to them no more
+-- the parts of what was opened have fewer levels than that, and what leads to them has no more
 abbrev pub AreBelow : {P : Type 0} → (P → ℕ) → ℕ → Opened P → Type 0
 AreBelow levels most (Opened.Branch opening p) = levels p < most
 AreBelow levels most (Opened.Items p n) = levels p ≤ most

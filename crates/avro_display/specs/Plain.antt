@@ -17,15 +17,19 @@ use Rattle.avro_display.specs.declared.member.Member.{Member}
 abbrev pub PlainPart : Type 0
 PlainPart = Option NodeId × Bor Datum
 
+-- the node of a part
 abbrev pub plain_node : List Node → PlainPart → Node
 plain_node nodes p = part_at nodes (option_map (λ id. id.0) p.0)
 
+-- the datum of a part, as a value
 abbrev pub plain_value : PlainPart → Value
 plain_value p = value_of p.1.now
 
+-- which JSON a datum of a node is displayed as
 abbrev pub plain_shows : List Node → PlainPart → Data → Type 0
 plain_shows nodes p d = d ≡ display_tree nodes (plain_node nodes p) (plain_value p)
 
+-- which JSON an item is displayed as, by its index
 abbrev pub plain_item : List Node → PlainPart → ℕ → Data → Type 0
 plain_item nodes p i d = (vs : Values) × (plain_value p ≡ Value.array vs) × (i < values_count vs)
     × (d ≡ display_tree nodes (part_at nodes (items_node (plain_node nodes p))) (value_at vs i))
@@ -39,12 +43,15 @@ plain_entry nodes p i k d =
     × (slice_get (map (λ f. f.name) (record_fields (plain_node nodes p))) i ≡ Some k)
     × (d ≡ field_tree nodes (record_fields (plain_node nodes p)) vs i))
 
+-- which JSON a field is displayed as
 abbrev pub plain_member : List Node → PlainPart → Member → Data → Type 0
 plain_member nodes p m d = (vs : Values) × (plain_value p ≡ Value.record_of vs) × (m.field < values_count vs)
     × (d ≡ display_tree nodes (node_at nodes m.node.0) (value_at vs m.field))
 
+-- how many levels a part has: the depth of its datum
 abbrev pub plain_levels : PlainPart → ℕ
 plain_levels p = depth (plain_value p)
 
+-- what a datum is when it is opened
 abbrev pub OpensPlain : List Node → Opened PlainPart → Data → Type 0
 OpensPlain nodes o d = Opens (plain_shows nodes) (plain_item nodes) (plain_entry nodes) (plain_member nodes) o d

@@ -32,12 +32,13 @@ value_at (value v vs) (suc index) = value_at vs index
 abbrev pub field_tree : List Node → List FieldNode → Values → ℕ → Data
 field_tree nodes fields vs index = display_tree nodes (node_at nodes (field_id fields index)) (value_at vs index)
 
--- the value of the entry at an index, and its tree
+-- the value of the entry at an index
 abbrev pub entry_at : Entries → ℕ → Value
 entry_at no_entries index = Value.null
 entry_at (entry k v es) zero = v
 entry_at (entry k v es) (suc index) = entry_at es index
 
+-- the tree of the entry at an index
 abbrev pub entry_tree : List Node → Node → Entries → ℕ → Data
 entry_tree nodes n es index = display_tree nodes n (entry_at es index)
 
@@ -58,7 +59,7 @@ abbrev pub AreHeads : List FieldNode → ℕ → List Member → Type 0
 AreHeads fields opener [] = Unit {0}
 AreHeads fields opener (m ∷ ms) = (m.head.items ≡ opener ∷ head_text (field_name fields m.field)) × AreHeads fields 44 ms
 
--- a record's fields in the order of its members
+-- the fields of a record in the order in which they are displayed, each with the text before its value
 pub record AreMembers (fields : List FieldNode) (ms : List Member) : Type 0 where
   pub order : IsOrder (map (λ f. f.name) fields) (map (place_of fields) ms)
   pub each : AllByRecursion (IsMember fields) ms

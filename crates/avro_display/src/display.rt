@@ -88,7 +88,7 @@ fn put_shown<O: Output>(
 ///
 /// # Errors
 ///
-/// The output failed, or took none of the bytes; memory ran out. Some of the text was put, or none.
+/// The output failed, or took none of the bytes; memory ran out. No clause says what was put then.
 pub fn put_display<O: Output>(
     out: &mut O,
     text: &mut Vec<u8>,
@@ -126,7 +126,7 @@ fn put_datum<O: Output>(
     put_displayed(out, text, &Plain::new(table), Some((Some(node), datum)))
 }
 
-/// Appends the line of a datum of the schema, its display and a line feed, to a text that keeps its rooms, and puts the text in
+/// Appends the line of a datum of the schema, its display and a line feed, to a text, and puts the text in
 /// pieces if it is long.
 ///
 /// # Errors

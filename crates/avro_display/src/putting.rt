@@ -26,7 +26,7 @@ use std::collections::BTreeMap;
 ///
 /// # Errors
 ///
-/// The output failed, or took none of the bytes; memory ran out. Some of the text was put, or none.
+/// The output failed, or took none of the bytes; memory ran out. No clause says what was put then.
 #[cycle(putting)]
 pub fn put_displayed<O: Output, D: Displayed>(
     out: &mut O,

@@ -100,7 +100,7 @@ impl Text {
         self.held.extend_from_slice(bytes)
     }
 
-    /// Appends the digits of a number.
+    /// Appends the digits of a number. No clause says what the text holds after an error.
     pub fn append_number(&mut self, number: i64) -> Result<(), AllocError>
         ensures { OnOk result (self.new ≡ self.old ++ number_text (of_integer number)) }
     {
@@ -108,7 +108,7 @@ impl Text {
             .extend_from_slice(Buffer::new().format(number).as_bytes())
     }
 
-    /// Appends a quoted text.
+    /// Appends a quoted text. No clause says what the text holds after an error.
     pub fn append_quoted(&mut self, string: &str) -> Result<(), AllocError>
         ensures { OnOk result (self.new ≡ self.old ++ quoted string.now) }
     {
@@ -116,7 +116,7 @@ impl Text {
         self.held.extend_from_slice(&self.quoted)
     }
 
-    /// Appends bytes as a quoted text of one character per byte.
+    /// Appends bytes as a quoted text of one character per byte. No clause says what the text holds after an error.
     pub fn append_characters(&mut self, bytes: &[u8]) -> Result<(), AllocError>
         ensures { OnOk result (self.new ≡ self.old ++ quoted (encode_utf8_all bytes.now)) }
     {
@@ -126,7 +126,7 @@ impl Text {
         self.append_quoted(characters.as_str())
     }
 
-    /// Appends a key and its colon.
+    /// Appends a key and its colon. No clause says what the text holds after an error.
     pub fn append_key(&mut self, key: &str) -> Result<(), AllocError>
         ensures { OnOk result (self.new ≡ self.old ++ head_text key.now) }
     {
@@ -134,7 +134,7 @@ impl Text {
         self.append_byte(b':')
     }
 
-    /// Appends a comma, if something is before.
+    /// Appends a comma, if something is before. No clause says what the text holds after an error.
     pub fn append_comma(&mut self, later: bool) -> Result<(), AllocError>
         ensures { OnOk result (self.new ≡ self.old ++ comma_if later) }
     {
@@ -145,7 +145,7 @@ impl Text {
         }
     }
 
-    /// Appends a comma, if something is before, and then a key with its colon.
+    /// Appends a comma, if something is before, and then a key with its colon. No clause says what the text holds after an error.
     pub fn append_entry_key(&mut self, later: bool, key: &str) -> Result<(), AllocError>
         ensures { OnOk result (self.new ≡ self.old ++ (comma_if later ++ head_text key.now)) }
     {

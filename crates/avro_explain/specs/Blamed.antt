@@ -28,6 +28,7 @@ goes_to Step.Items x = true
 goes_to Step.Values x = true
 goes_to (Step.Field source field) x = source == x
 
+-- a step to a branch of the reader's union
 abbrev pub is_choice : Step → Bool
 is_choice (Step.Choice k) = true
 is_choice step = false

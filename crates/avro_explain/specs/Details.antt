@@ -12,6 +12,7 @@ use Rattle.avro_explain.specs.declared.found.Detail.TheVariants.{NoMatch, NoBran
 abbrev pub lacking_one : ℕ → List ℕ → List (List ℕ) → List Detail
 lacking_one index s theirs = cond (list_any (bytes_eq s) theirs) [] (NoSymbol index ∷ [])
 
+-- the writer's symbols, from an index on, that the reader lacks
 abbrev pub lacking_from : ℕ → List (List ℕ) → List (List ℕ) → List Detail
 lacking_from index [] theirs = []
 lacking_from index (s ∷ ss) theirs = lacking_one index s theirs ++ lacking_from (suc index) ss theirs
@@ -25,6 +26,7 @@ lacking symbols theirs (Some default) = []
 abbrev pub missing_one : ℕ → List FieldNode → FieldNode → List Detail
 missing_one index fields f = cond (is_some (source_of fields f) || is_some f.default) [] (MissingField index ∷ [])
 
+-- the reader's fields, from an index on, that have neither a source nor a default
 abbrev pub missing_from : ℕ → List FieldNode → List FieldNode → List Detail
 missing_from index fields [] = []
 missing_from index fields (f ∷ theirs) = missing_one index fields f ++ missing_from (suc index) fields theirs
@@ -36,6 +38,7 @@ details_of_kind (Node.enum a xs symbols x) (Node.enum b ys theirs y) = lacking s
 details_of_kind (Node.record_of a xs fields) (Node.record_of b ys theirs) = missing_from 0 fields theirs
 details_of_kind n q = []
 
+-- the fault that no branch matches, unless one does
 abbrev pub unless_some : Option ℕ → List Detail
 unless_some None = NoBranch ∷ []
 unless_some (Some k) = []

@@ -17,6 +17,7 @@ abbrev pub marked_from : ℕ → List Bool → List ℕ
 marked_from id [] = []
 marked_from id (m ∷ ms) = cond m (id ∷ marked_from (suc id) ms) (marked_from (suc id) ms)
 
+-- the nodes that are marked
 abbrev pub marked : List Bool → List ℕ
 marked marks = marked_from 0 marks
 
@@ -24,6 +25,7 @@ marked marks = marked_from 0 marks
 abbrev pub pair_of : Place → Pair
 pair_of p = record { w = p.w.0; r = p.r.0 }
 
+-- the pairs of several places
 abbrev pub pairs_of : List Place → List Pair
 pairs_of places = map pair_of places
 
@@ -40,6 +42,7 @@ abbrev pub came : List Node → List Node → List Place → ℕ → Place → O
 came writer reader places k p None = (p.w.0 ≡ 0) × (p.r.0 ≡ 0)
 came writer reader places k p (Some from) = IsLed writer reader places k p from
 
+-- each place is that of the roots, or is reached by a step from an earlier one
 abbrev pub ArePlaced : List Node → List Node → List Place → Type 0
 ArePlaced writer reader places = (k : ℕ) (p : Place) → slice_get places k ≡ Some p → came writer reader places k p p.from
 
@@ -83,6 +86,7 @@ abbrev pub findings : ℕ → List Detail → List Finding
 findings place [] = []
 findings place (d ∷ ds) = record { place = place; detail = d } ∷ findings place ds
 
+-- all faults of the two nodes of a place
 abbrev pub findings_at : List Node → List Node → ℕ → Place → List Finding
 findings_at writer reader index p = findings index (details_of writer reader (node_at writer p.w.0) (node_at reader p.r.0))
 

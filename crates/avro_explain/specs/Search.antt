@@ -16,6 +16,7 @@ roots_place false = record { w = record { 0 = 0 }; r = record { 0 = 0 }; from = 
 abbrev pub with_place : List Place → Place → List Place
 with_place places p = cond (is_among_pairs (pairs_of places) (pair_of p)) places (places ++ p ∷ [])
 
+-- the place that a step from a place leads to
 abbrev pub led_from : ℕ → Lead → Place
 led_from at lead = record { w = lead.w; r = lead.r; from = Some (at, lead.step) }
 
@@ -23,6 +24,7 @@ led_from at lead = record { w = lead.w; r = lead.r; from = Some (at, lead.step) 
 abbrev pub with_lead : List ℕ → ℕ → List Place → Lead → List Place
 with_lead dead at places lead = cond (is_among dead lead.w.0) places (with_place places (led_from at lead))
 
+-- the places with those that several steps lead to, unless their pairs are there or their writer's nodes are dead
 abbrev pub with_leads : List ℕ → ℕ → List Place → List Lead → List Place
 with_leads dead at places [] = places
 with_leads dead at places (lead ∷ leads) = with_leads dead at (with_lead dead at places lead) leads

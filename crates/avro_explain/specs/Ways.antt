@@ -29,6 +29,7 @@ writer_steps Step.Items = PathStep.Items ∷ []
 writer_steps Step.Values = PathStep.Values ∷ []
 writer_steps (Step.Field source field) = PathStep.Field source ∷ []
 
+-- the steps that a step from pair to pair is in the reader's schema
 abbrev pub reader_steps : Step → List PathStep
 reader_steps (Step.Branch k) = []
 reader_steps (Step.Choice k) = PathStep.Branch k ∷ []

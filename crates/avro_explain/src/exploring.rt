@@ -19,20 +19,22 @@ use crate::dying::{dead_nodes, is_marked};
 use crate::error::ExplainError;
 use crate::failing::details;
 use crate::found::{Detail, Explanation, Finding, Place};
-use avro_compare::{Lead, Names, compare, leads};
+use avro_compare::{Lead, Names, compare, leads, seed_of};
 use avro_schema::{Memory, NodeId, Schema};
+use avro_texts::Seeded;
 use indexmap::IndexSet;
 use std::alloc::Global;
 
 /// The places so far, their pairs, and the faults of those that were visited.
 #[derive(Drop)]
 pub(crate) struct Walk {
-    known: IndexSet<(u32, u32)>,
+    known: IndexSet<(u32, u32), Seeded>,
     places: Vec<Place>,
     faults: Vec<Finding>,
 }
 
-/// Finds all faults of a reader's schema with a writer's at once.
+/// Finds exactly the pairs that the roots lead to, but for dead nodes of the writer's, each once and breadth-first, and
+/// exactly their faults; none if and only if no datum fails.
 ///
 /// # Errors
 ///
@@ -88,7 +90,8 @@ fn explore(
     ensures faults { IfOk result (λ walk. AreFaults (schema_nodes names.now.0) (schema_nodes names.now.1) walk.places.items walk.faults.items) }
     ensures above { IfErr result (λ e. e ≡ TooManyPairs → (pairs : List Pair) × AreTooMany (schema_nodes names.now.0) (schema_nodes names.now.1) (marked dead.now) max_pairs pairs) }
 {
-    let mut walk = start(alloc, dead)?;
+    let seed = seed_of(names.writer(), names.reader());
+    let mut walk = start(alloc, seed, dead)?;
     if walk.places.len() > max_pairs {
         return Err(ExplainError::TooManyPairs);
     }
@@ -104,13 +107,13 @@ fn explore(
 }
 
 /// The place of the roots alone, or none where the writer's is dead.
-fn start(alloc: Global, dead: &[bool]) -> Result<Walk, Memory>
+fn start(alloc: Global, seed: Seeded, dead: &[bool]) -> Result<Walk, Memory>
     ensures keys { IfOk result (λ walk. keys walk.known ≡ keys_of walk.places.items) }
     ensures places { IfOk result (λ walk. walk.places.items ≡ roots_place (is_among (marked dead.now) 0)) }
     ensures faults { IfOk result (λ walk. walk.faults.items ≡ []) }
 {
     let mut walk = Walk {
-        known: IndexSet::new(alloc),
+        known: IndexSet::with_hasher(alloc, seed),
         places: Vec::new(alloc),
         faults: Vec::new(alloc),
     };

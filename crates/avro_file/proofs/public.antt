@@ -1,3 +1,5 @@
 pub mod Small
 pub mod Data
 pub mod EmptyData
+pub mod Known
+pub mod OneFile

@@ -22,15 +22,16 @@ pub record FileLimitValues : Type 0 where
   pub per_block : ℕ
   pub datum : LimitValues
 
+-- the most blocks of a file
 abbrev pub max_blocks : ℕ
 max_blocks = 2 ^ 32
 
--- a number that is not a count: invalid or negative; one that is cut is none of these
+-- a number that is not a count: invalid or negative; a truncated one is neither
 pub data CountFails (bytes : List ℕ) : CountFault → Type 0 where
   number_fails : (e : VarError) → LongFails bytes e → e ≢ EndOfInput → CountFails bytes (invalid e)
   is_negative : (n : ℕ) (number rest : List ℕ) → StartsWithLong (negsuc n) bytes number rest → CountFails bytes negative
 
--- a number that is cut
+-- a number is truncated
 abbrev pub CountIsCut : List ℕ → Type 0
 CountIsCut bytes = LongFails bytes EndOfInput
 
@@ -47,7 +48,7 @@ abbrev pub each_within : LimitValues → Values → Bool
 each_within limits no_values = true
 each_within limits (value v vs) = is_within limits v && each_within limits vs
 
--- what a reading of blocks goes by; a copy has a limit on its own blocks too
+-- what blocks are read by; a copy has a limit on its own blocks, too
 pub record BlockReading : Type 0 where
   pub nodes : List Node
   pub sync : List ℕ
@@ -55,14 +56,15 @@ pub record BlockReading : Type 0 where
   pub resolve : Value → Resolved
   pub copied : Bool
 
--- the bytes of output are too many
+-- the bytes of output are over the limit on a block
 abbrev pub IsTooMuch : BlockReading → List ℕ → Type 0
 IsTooMuch r bytes = (r.copied ≡ true) × (r.limits.block < length bytes)
 
+-- the bytes of output are within the limit on a block
 abbrev pub IsNotTooMuch : BlockReading → List ℕ → Type 0
 IsNotTooMuch r bytes = r.copied ≡ true → length bytes ≤ r.limits.block
 
--- a number of data stands whole as these bytes, each within limits, and these are made of them
+-- a number of complete data are these bytes, each within limits, and these are made of them
 pub record DataAreWhole (r : BlockReading) (done : ℕ) (front : List ℕ) (us : Values) : Type 0 where
   pub values : Values
   pub items : List (List ℕ)
@@ -99,7 +101,8 @@ pub data DataFail (r : BlockReading) (count : ℕ) (body : List ℕ) : BlockFaul
   some_left : (front rest : List ℕ) (us : Values) → DataAreWhole r count front us → body ≡ front ++ rest → 0 < length rest
       → DataFail r count body bytes_left
 
--- a block after a number of others; `ended` says that the input reported its end after the bytes
+-- the first fault of a block after a number of others, in the order in which its parts are checked; `ended` says that
+-- the input reported its end after the bytes
 pub data BlockFails (r : BlockReading) (number : ℕ) (ended : Type 0) (bytes : List ℕ) : BlockFault → Type 0 where
   too_many_blocks : max_blocks ≤ number → 0 < length bytes → BlockFails r number ended bytes limit_passed
   count_fails : {f : CountFault} → number < max_blocks → CountFails bytes f → BlockFails r number ended bytes (invalid_count f)

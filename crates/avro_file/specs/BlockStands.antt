@@ -3,13 +3,13 @@ use Rattle.std.specs.Prelude.{◌≡◌, ℕ, ◌≤◌, List, ◌++◌, length}
 use Rattle.avro_file.specs.BlockFails.{BlockBegins, FileLimitValues, CountFails, CountIsCut, BlockReading, BlockFails}
 use Rattle.avro_file.specs.FileFault.{FileFault, in_block, CountFault, BlockFault, invalid_count, cut_block}
 
--- A block of a number of data, which are these bytes, is these bytes in all; it is within the limits.
+-- a block of a number of data, which are these bytes, is these bytes in all; it is within the limits
 pub record BlockStands (limits : FileLimitValues) (sync : List ℕ) (count : ℕ) (body bytes : List ℕ) : Type 0 where
   pub begins : BlockBegins bytes count (length body) (body ++ sync)
   pub few : count ≤ limits.per_block
   pub short : length body ≤ limits.block
 
--- What keeps a count or a size that should stand at the front from being taken.
+-- what keeps a count or a size that should be at the front from being taken
 pub data CountStops (number : ℕ) (ended : Type 0) (bytes : List ℕ) : FileFault → Type 0 where
   fails : {f : CountFault} → CountFails bytes f → CountStops number ended bytes (in_block number (invalid_count f))
   is_cut : CountIsCut bytes → ended → CountStops number ended bytes (in_block number cut_block)

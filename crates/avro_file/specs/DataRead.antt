@@ -9,7 +9,7 @@ use Rattle.avro_file.specs.BlockFails.{FileLimitValues, BlockReading, DataAreWho
 use Rattle.avro_file.specs.Copied.{Resolution, unchanged, into}
 use Rattle.avro_file.specs.FileFault.{FileFault, in_block, BlockFault}
 
--- into a reader's schema, if there is one
+-- how data are read: into a reader's schema, if there is one
 abbrev pub resolution : Option (List Node) → Resolution
 resolution None = unchanged
 resolution (Some reader) = into reader
@@ -19,7 +19,7 @@ abbrev pub reading : FileLimitValues → List Node → List ℕ → Option (List
 reading limits nodes sync reader =
     record { nodes = nodes; sync = sync; limits = limits; resolve = resolution reader nodes; copied = false }
 
--- `count` data stand whole as `body`, and each answer stands for what is made of its datum
+-- the body is exactly `count` complete data, and each answer stands for what is made of its datum
 pub record StandForData {O : Type 0} (stands : O → Value → Type 0) (r : BlockReading) (count : ℕ) (body : List ℕ) (outs : List O) : Type 0 where
   pub values : List Value
   pub whole : DataAreWhole r count body (values_from values)
@@ -30,7 +30,7 @@ abbrev pub read_nodes : List Node → Option (List Node) → List Node
 read_nodes nodes None = nodes
 read_nodes nodes (Some reader) = reader
 
--- each answer stands for a datum of this schema
+-- each answer stands for a datum that fits this schema
 pub record FitAll {O : Type 0} (stands : O → Value → Type 0) (nodes : List Node) (outs : List O) : Type 0 where
   pub values : List Value
   pub fit : each_fits nodes (root_of nodes) (values_from values) ≡ true

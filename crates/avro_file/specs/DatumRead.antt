@@ -16,7 +16,7 @@ use Rattle.avro_resolve.specs.declared.error.ReadResolveError.{ReadResolveError}
 use Rattle.avro_file.specs.BlockFails.{datum_fault}
 use Rattle.avro_file.specs.FileFault.{FileFault, in_block, unresolved_datum}
 
--- An encoding of a datum within limits stands at the front, in `len` bytes, and `resolved` is made of the datum.
+-- an encoding of a datum within limits is at the front, in `len` bytes, and `resolved` is made of the datum
 pub record MakesOf (nodes : List Node) (limits : LimitValues) (resolve : Value → Resolved) (bytes : List ℕ) (len : ℕ) (resolved : Resolved) : Type 0 where
   pub datum : Value
   pub in_bytes : len ≤ length bytes
@@ -24,7 +24,7 @@ pub record MakesOf (nodes : List Node) (limits : LimitValues) (resolve : Value �
   pub within : is_within limits datum ≡ true
   pub resolves : resolve datum ≡ resolved
 
--- A datum is read at the front, or its fault is reported; `stands` says which datum an answer stands for.
+-- a datum is read at the front, or its fault is reported; `stands` says which datum an answer stands for
 pub record ReadsDatum {O : Type 0} (stands : O → Value → Type 0) (nodes : List Node) (limits : LimitValues) (resolve : Value → Resolved) (bytes : List ℕ) (result : Result (O × ℕ) ReadResolveError) : Type 0 where
   pub found : IfOk result (λ r. (u : Value) × stands r.0 u × MakesOf nodes limits resolve bytes r.1 (Ok u))
   pub faulty : IfUnresolved result (λ f. (len : ℕ) × MakesOf nodes limits resolve bytes len (Err (fault_of f)))
@@ -46,6 +46,7 @@ place_in limit_exceeded = 0
 abbrev pub FitsBehind : ℕ → ReadError → Type 0
 FitsBehind start e = IfSome (read_fault e) (λ f. start + place_in f < 2 ^ 64)
 
+-- the same of an error of reading for a reader; a fault of resolution has no offset
 abbrev pub PlaceFits : ℕ → ReadResolveError → Type 0
 PlaceFits start (ReadResolveError.Read e) = FitsBehind start e
 PlaceFits start (ReadResolveError.Resolve f) = Unit {0}

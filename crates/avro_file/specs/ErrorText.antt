@@ -3,10 +3,11 @@ use Rattle.std.specs.Prelude.{ℕ, List, codes}
 use Rattle.avro_file.specs.declared.error.CopyError.{CopyError}
 use Rattle.avro_file.specs.declared.error.LimitPlace.{LimitPlace}
 
--- the code of a limit that is passed
+-- the code of a limit that is exceeded, C9
 abbrev pub limit_code : List ℕ
 limit_code = codes "C9"
 
+-- the code of an error, C1 to C16
 abbrev pub error_code : CopyError → List ℕ
 error_code CopyError.NoMagic = codes "C1"
 error_code (CopyError.InvalidMetadata e) = codes "C2"
@@ -26,7 +27,7 @@ error_code CopyError.FailedBefore = codes "C15"
 error_code CopyError.CutHeader = codes "C16"
 error_code (CopyError.CutBlock block) = codes "C16"
 
--- a block, or a datum of a block; the header stands for all that is outside the blocks
+-- the block that an error is in, or the datum of a block; the header stands for all that is outside the blocks
 abbrev pub place_of : CopyError → LimitPlace
 place_of (CopyError.InvalidCount block e) = LimitPlace.Block block
 place_of (CopyError.BytesLeft block) = LimitPlace.Block block

@@ -17,10 +17,12 @@ pub record Property : Type 0 where
 abbrev pub metadata_nodes : List Node
 metadata_nodes = Node.map_of 1 ∷ Node.bytes ∷ []
 
+-- the entries of the metadata as those of a map
 abbrev pub property_entries : List Property → Entries
 property_entries [] = no_entries
 property_entries (p ∷ ps) = entry p.name (Value.bytes p.content) (property_entries ps)
 
+-- the metadata as a datum
 abbrev pub metadata_value : List Property → Value
 metadata_value properties = Value.map_of (property_entries properties)
 
@@ -29,6 +31,7 @@ abbrev pub property : List ℕ → List Property → Option (List ℕ)
 property name [] = None
 property name (p ∷ ps) = if bytes_eq p.name name then Some p.content else property name ps
 
+-- the first four bytes of a file
 abbrev pub magic : List ℕ
 magic = 0x4f ∷ 0x62 ∷ 0x6a ∷ 1 ∷ []
 
@@ -43,7 +46,7 @@ pub record HeaderValue : Type 0 where
   pub properties : List Property
   pub sync : List ℕ
 
--- the bytes are a header that says this
+-- the bytes are a header that says this: the magic, the metadata as a map of bytes, and the sync marker
 pub record IsHeader (h : HeaderValue) (bytes : List ℕ) : Type 0 where
   pub text : List ℕ
   pub stands : property (codes "avro.schema") h.properties ≡ Some text
@@ -54,7 +57,7 @@ pub record IsHeader (h : HeaderValue) (bytes : List ℕ) : Type 0 where
   pub marker : length h.sync ≡ 16
   pub split : bytes ≡ magic ++ metadata ++ h.sync
 
--- the bytes are a block of these data
+-- the bytes are a block of these data: its count, the size of the data, the data, and the marker
 pub record IsBlock (h : HeaderValue) (vs : Values) (bytes : List ℕ) : Type 0 where
   pub items : List (List ℕ)
   pub fitting : each_fits h.nodes (root_of h.nodes) vs ≡ true

@@ -15,12 +15,13 @@ abbrev pub count_fault : CountError → CountFault
 count_fault (CountError.Invalid e) = invalid e
 count_fault CountError.Negative = negative
 
+-- the fault of a limit that is exceeded, by its place
 abbrev pub limit_fault : LimitPlace → FileFault
 limit_fault LimitPlace.Header = in_header long_header
 limit_fault (LimitPlace.Block n) = in_block n limit_passed
 limit_fault (LimitPlace.Datum n m) = in_block n (large_datum m)
 
--- the fault of the bytes that an error reports; a device's, memory that runs out and an earlier failure are none
+-- the fault of the bytes that an error reports; none if a device failed, memory ran out, or a call failed before
 abbrev pub file_fault : CopyError → Option FileFault
 file_fault CopyError.NoMagic = Some (in_header no_magic)
 file_fault (CopyError.InvalidMetadata e) = option_map (λ f. in_header (invalid_metadata f)) (read_fault e)

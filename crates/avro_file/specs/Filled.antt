@@ -15,14 +15,16 @@ pub record TakesAtMost {I : Type 0} (gives : I → List ℕ → I → Type 0) (f
   pub taken : gives from bytes to
   pub few : length bytes ≤ most
 
--- the input failed, and what it took may be lost, or else P
+-- a claim that is made only if the input did not fail; a failed one may lose what it took
 abbrev pub UnlessDevice : PartError → Type 0 → Type 0
 UnlessDevice PartError.Device P = Unit {0}
 UnlessDevice e P = P
 
+-- the same of a result
 abbrev pub UnlessLost : {T : Type 0} → Result T PartError → Type 0 → Type 0
 UnlessLost (Ok x) P = P
 UnlessLost (Err e) P = UnlessDevice e P
 
+-- a claim that is made only if the input did not fail
 abbrev pub UnlessFailed : {T : Type 0} → Result T CopyError → Type 0 → Type 0
 UnlessFailed result P = result ≢ Err CopyError.InputFailed → P

@@ -14,14 +14,15 @@ use Rattle.avro_cursor.specs.Breaks.{Breaks, BreaksAfter, BlocksBreak, EntriesAr
 use Rattle.avro_file.specs.File.{Property, property, is_plain_codec, magic, metadata_nodes, metadata_value}
 use Rattle.avro_file.specs.FileFault.{HeaderFault, no_magic, invalid_metadata, no_schema, refused_schema, unknown_codec, long_header, cut_header}
 
--- The metadata knows no limit but that of the header: no bytes that can be held pass these. The second are what the map
--- leaves for its entries.
+-- The metadata has no limit but that of the header: no bytes that can be held exceed these.
 abbrev pub no_limits : LimitValues
 no_limits = record { depth = 2; nodes = 2 ^ 64; blob = 2 ^ 63 }
 
+-- what the map leaves of these for its entries
 abbrev pub entry_limits : LimitValues
 entry_limits = record { depth = 1; nodes = 2 ^ 64 - 1; blob = 2 ^ 63 }
 
+-- the first fault of the metadata
 abbrev pub MetadataBreaks : List ℕ → ReadFault → Type 0
 MetadataBreaks bytes f = Breaks metadata_nodes no_limits (root_of metadata_nodes) bytes f
 
@@ -36,7 +37,7 @@ pub data ContentWants (bytes : List ℕ) : ReadFault → Type 0 where
   in_content : {f : ReadFault} (n : ℕ) (number rest : List ℕ) → StartsWithLong (pos n) bytes number rest → length rest < n
       → f ≡ end_of_input (length number + n) → ContentWants bytes f
 
--- an entry of the metadata
+-- an entry of the metadata ends too early
 pub data PropertyWants (left : Left) (bytes : List ℕ) : ReadFault → Type 0 where
   in_name : {f : ReadFault} → ContentWants bytes f → PropertyWants left bytes f
   in_value : {f : ReadFault} (name front : List ℕ) → SpellsBytes name front → is_text name ≡ true → list_any (bytes_eq name) left.keys ≡ false
@@ -54,7 +55,7 @@ pub data EndsIn (bytes : List ℕ) (need : ℕ) : Type 0 where
   in_marker : (properties : List Property) (metadata rest : List ℕ) → MetadataStands properties bytes metadata rest
       → length rest < 16 → need ≡ 4 + length metadata + 16 → EndsIn bytes need
 
--- a text that is not a schema has this fault
+-- a text that declares no schema has this fault
 abbrev pub HasSchemaFault : List ℕ → SchemaError → Type 0
 HasSchemaFault text e = (e ≢ SchemaError.OutOfMemory) × (e ≡ SchemaError.NotJson → IsNoJson text) × IsRefusalOf text e
 
@@ -67,7 +68,8 @@ pub record IsWholeWithin (limit : ℕ) (properties : List Property) (bytes : Lis
   pub marker : length sync ≡ 16
   pub within : 4 + length metadata + 16 ≤ limit
 
--- `ended` says that the input reported its end after the bytes
+-- the first fault of a header, in the order in which its parts are checked; `ended` says that the input reported its
+-- end after the bytes
 pub data HeaderFails (limit : ℕ) (ended : Type 0) (bytes : List ℕ) : HeaderFault → Type 0 where
   other_magic : 4 ≤ length bytes → take 4 bytes ≢ magic → HeaderFails limit ended bytes no_magic
   short_magic : length bytes < 4 → ended → HeaderFails limit ended bytes no_magic

@@ -13,23 +13,24 @@ use Rattle.avro_file.specs.declared.header.Header.{Header}
 abbrev pub header_value : Header → HeaderValue
 header_value h = record { nodes = schema_nodes h.schema; properties = properties_of h.metadata.items; sync = h.sync }
 
--- exactly this header was taken
+-- exactly this header was taken from an input, within its limit
 pub record TakesHeader {I : Type 0} (gives : I → List ℕ → I → Type 0) (from to : I) (limit : ℕ) (h : HeaderValue) : Type 0 where
   pub bytes : List ℕ
   pub taken : gives from bytes to
   pub stands : IsHeader h bytes
   pub within : length bytes ≤ limit
 
+-- a fault of the header of these bytes
 abbrev pub IsHeaderFault : ℕ → Type 0 → List ℕ → FileFault → Type 0
 IsHeaderFault limit ended bytes f = (g : HeaderFault) × (f ≡ in_header g) × HeaderFails limit ended bytes g
 
--- bytes with a fault of the header were taken
+-- what was taken from an input has the fault of the header
 pub record TakesHeaderFault {I : Type 0} (gives : I → List ℕ → I → Type 0) (ended : I → Type 0) (from to : I) (limit : ℕ) (fault : FileFault) : Type 0 where
   pub bytes : List ℕ
   pub taken : gives from bytes to
   pub stands : IsHeaderFault limit (ended to) bytes fault
 
--- exactly the magic, this metadata and a marker were taken, whatever the metadata say
+-- exactly the magic, this metadata and a marker within the limit were taken, whatever the metadata says
 pub record TakesMetadata {I : Type 0} (gives : I → List ℕ → I → Type 0) (from to : I) (limit : ℕ) (properties : List Property) : Type 0 where
   pub bytes : List ℕ
   pub metadata : List ℕ
@@ -39,7 +40,7 @@ pub record TakesMetadata {I : Type 0} (gives : I → List ℕ → I → Type 0) 
   pub marker : length sync ≡ 16
   pub within : length bytes ≤ limit
 
--- a fault of the magic, the metadata or the marker, and none of what the metadata say
+-- a fault of the magic, the metadata or the marker, and none of what the metadata says
 abbrev pub is_of_frame : FileFault → Bool
 is_of_frame (in_header no_magic) = true
 is_of_frame (in_header (invalid_metadata f)) = true
@@ -50,6 +51,6 @@ is_of_frame (in_header long_header) = true
 is_of_frame (in_header cut_header) = true
 is_of_frame (in_block n f) = false
 
--- an error reports no other fault
+-- an error reports such a fault or none
 abbrev pub IsOfFrame : CopyError → Type 0
 IsOfFrame e = (f : FileFault) → file_fault e ≡ Some f → is_of_frame f ≡ true

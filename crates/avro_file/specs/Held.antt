@@ -2,8 +2,10 @@
 use Rattle.std.specs.Prelude.{ℕ, ◌-◌, List, length, slice_range}
 use Rattle.avro_file.specs.declared.input.buffer.Buffer.{Buffer}
 
+-- the bytes that a buffer holds
 abbrev pub held : Buffer → List ℕ
 held b = slice_range b.room.items b.start b.end
 
+-- the room behind them
 abbrev pub free : Buffer → ℕ
 free b = length b.room.items - b.end

@@ -53,8 +53,8 @@ impl<'a> Block<'a> {
         &self.body
     }
 
-    /// Reads the data one by one, and returns what the builder makes of each, resolved for the reader if
-    /// there is one. A plan is made for the reader; [`Block::read_by`] uses an existing one.
+    /// Reads the data one by one, and returns what the builder makes of each, resolved for the reader if there is one. They are the whole
+    /// body of the block. A plan is made for the reader; [`Block::read_by`] uses an existing one.
     ///
     /// # Errors
     ///
@@ -109,7 +109,7 @@ impl<'a> Block<'a> {
         self.read_data(schema, &Some(plan), builder)
     }
 
-    /// Reads the data one by one without building anything. Memory is allocated only for the keys of maps.
+    /// Reads the data one by one without building anything: Ok only if they are the whole body. Memory is allocated only for the keys of maps.
     ///
     /// # Errors
     ///

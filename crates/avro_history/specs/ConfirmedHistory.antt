@@ -6,7 +6,7 @@ use Rattle.avro_schema.specs.declared.schema.Schema.{Schema}
 use Rattle.avro_certificate.specs.Closed.{is_closed}
 use Rattle.avro_history.specs.HistoryText.{Sets}
 
--- there are as many as writers, and each is closed for its writer
+-- there are as many certificates as writers' schemas, and each is closed for its writer's and the reader's
 abbrev pub are_closed : List (List Node) → List Node → List Sets → Bool
 are_closed [] reader [] = true
 are_closed (writer ∷ writers) reader (s ∷ sets) = is_closed writer reader s.dead s.pairs && are_closed writers reader sets

@@ -9,25 +9,27 @@ pub record Sets : Type 0 where
   pub dead : List ℕ
   pub pairs : List Pair
 
+-- the text of one certificate
 abbrev pub sets_text : Sets → List ℕ
 sets_text s = certificate_text s.dead s.pairs
 
--- the whole text
+-- the lines of a history: `history 1`, the text of each certificate, `end`
 abbrev pub history_text : List Sets → List ℕ
 history_text sets = codes "history 1\n" ++ flat_map sets_text sets ++ codes "end\n"
 
--- both lists rise
+-- both lists of a certificate are strictly increasing
 abbrev pub do_rise : Sets → Bool
 do_rise s = is_rising nat_lt s.dead && is_rising is_before s.pairs
 
--- A text that is one of these certificates, in this order. Each list of sets that rise has one; there may be none of them.
+-- A text that is the lines of these certificates, in this order, whatever their numbers; there may be none of them.
 pub record HistoryText (sets : List Sets) (text : List ℕ) : Type 0 where
   pub rising : list_all do_rise sets ≡ true
   pub written : text ≡ history_text sets
 
--- numbers that a schema of the most nodes has
+-- no number of a certificate is over 4,095
 abbrev pub has_small : Sets → Bool
 has_small s = are_small s.dead s.pairs
 
+-- no number is over 4,095
 abbrev pub all_small : List Sets → Bool
 all_small sets = list_all has_small sets

@@ -3,6 +3,9 @@
 //!
 //! [`confirm_history`] approves the reader's schema for all the writers' schemas by such a history,
 //! whoever made it.
+//!
+//! A text is split after each line that contains an `n`, since only the last line of a certificate does; the certificate's own reader then
+//! says whether each part is one. A number over 4,095 is reported only if the whole text has the right form.
 #![tactic(auto)]
 
 mod confirming;

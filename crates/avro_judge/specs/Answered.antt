@@ -5,6 +5,7 @@ use Rattle.avro_judge.specs.declared.verdict.Refutation.{Refutation}
 use Rattle.avro_judge.specs.declared.verdict.Cause.{Cause}
 use Rattle.avro_judge.specs.declared.approval.Approved.{Approved}
 
+-- a verdict is an approval
 abbrev pub IsApproved : Verdict → Type 0
 IsApproved (Verdict.Approved a) = Unit {0}
 IsApproved v = ⊥
@@ -19,6 +20,7 @@ abbrev pub IfRefuted : Verdict → (Refutation → Type 0) → Type 0
 IfRefuted (Verdict.Refuted r) P = P r
 IfRefuted v P = Unit {0}
 
+-- a verdict is undecided for this cause
 abbrev pub IsUndecided : Verdict → Cause → Type 0
 IsUndecided (Verdict.Undecided cause) other = cause ≡ other
 IsUndecided v other = ⊥

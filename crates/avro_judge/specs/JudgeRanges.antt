@@ -3,13 +3,14 @@ use Rattle.std.specs.Prelude.{ℕ, ◌≤◌}
 use Rattle.avro_schema.specs.Fits.{LimitValues}
 use Rattle.avro_schema.specs.Ranges.{AreLimits}
 
--- the greatest product of the numbers of nodes, the greatest number of nodes of a refuting datum, and limits of which
--- the depth bounds that datum too
+-- the limits of judging: the product of the numbers of nodes, the nodes of a refuting datum, and limits on data, whose
+-- depth bounds that datum
 pub record JudgeLimitValues : Type 0 where
   pub pairs : ℕ
   pub size : ℕ
   pub limits : LimitValues
 
+-- the ranges of these limits
 pub record AreJudgeLimits (values : JudgeLimitValues) : Type 0 where
   pub some_pairs : 1 ≤ values.pairs
   pub most_pairs : values.pairs ≤ 16777216

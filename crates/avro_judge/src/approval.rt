@@ -115,7 +115,7 @@ impl<'a> Approved<'a> {
     }
 
     /// The writer's and the reader's schema.
-    pub(crate) fn schemas(&self) -> (&'a Schema, &'a Schema)
+    pub fn schemas(&self) -> (&'a Schema, &'a Schema)
         ensures these { self.now ≡ (result.0.now, result.1.now) }
         ensures compatible { AreCompatible (schema_nodes self.now.0) (schema_nodes self.now.1) }
     {

@@ -15,6 +15,7 @@ ghost use Rattle.avro_least.specs.SeenLeast.{table_of};
 use avro_certificate::Certificate;
 use avro_least::{Least, Reached, count, entry, readers, writers};
 use avro_schema::{Memory, NodeId, Schema};
+use avro_texts::Seeded;
 use indexmap::IndexSet;
 use std::alloc::Global;
 
@@ -41,7 +42,7 @@ fn dead_ids(alloc: Global, table: &[Option<Least>], count: u32) -> Result<Vec<u3
 }
 
 /// The keys in increasing order.
-fn sorted_keys(alloc: Global, known: &IndexSet<u64>) -> Result<Vec<u64>, Memory>
+fn sorted_keys(alloc: Global, known: &IndexSet<u64, Seeded>) -> Result<Vec<u64>, Memory>
     ensures same { IfOk result (λ n. (k : ℕ) → is_key n.items k ≡ is_key (keys known.now) k) }
     ensures rising { IfOk result (λ n. is_rising nat_lt n.items ≡ true) }
 {

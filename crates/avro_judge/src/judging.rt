@@ -15,12 +15,10 @@ use crate::verdict::{Cause, Refutation, Verdict};
 use avro_schema::{Memory, Schema};
 use std::alloc::Global;
 
-/// Whether every datum of the writer's schema, of any size, resolves into the reader's.
-///
-/// Up to the pair limit, the two schemas are approved if and only if they are compatible. Otherwise the
-/// result is a smallest datum that fails, within the size and depth limits, or the limit that no such
-/// datum is within. Among the smallest data it is the shallowest, then the one of the first branch,
-/// symbol or field, as tests show.
+/// Whether every datum of the writer's schema, of any size, resolves into the reader's. Up to the pair limit, the two
+/// schemas are approved if and only if they are compatible. Otherwise the result is a smallest datum that fails, within the
+/// size and depth limits, or the limit that no such datum is within. Among the smallest data it is the shallowest, then the
+/// one of the first branch, symbol or field, as tests show.
 ///
 /// # Errors
 ///

@@ -12,6 +12,7 @@ pub record Row : Type 0 where
   pub node : ℕ
   pub theirs : Option ℕ
 
+-- what a pair of nodes requires once names are compared
 pub data Asked : Type 0 where
   -- nothing: no datum errs
   quiet : Asked
@@ -28,6 +29,7 @@ pub data Asked : Type 0 where
   -- one of the fields, and the others
   fields : List Row → Asked
 
+-- the rows of the writer's fields from an index on
 abbrev pub rows_from : List FieldNode → List FieldNode → ℕ → List ℕ → List Row
 rows_from ws rs index [] = []
 rows_from ws rs index (p ∷ ps) = record { node = p; theirs = option_map (λ f. f.node) (reader_field ws rs index) } ∷ rows_from ws rs (suc index) ps
@@ -42,10 +44,13 @@ asked_inside (Node.array a) (Node.array b) = part a b
 asked_inside (Node.map_of a) (Node.map_of b) = part a b
 asked_inside n q = quiet
 
+-- what a reader's union requires: its first branch that matches; without one each datum errs
 abbrev pub asked_branch : List ℕ → Option ℕ → Asked
 asked_branch ids None = whole
 asked_branch ids (Some k) = same (unwrap_or (slice_get ids k) 0)
 
+-- what a pair of nodes requires: of a writer's union each branch, of a reader's the first that matches, of others their
+-- parts
 abbrev pub asked : List Node → List Node → Node → Node → Asked
 asked writer reader (Node.union ids) q = branches ids
 asked writer reader n (Node.union ids) = asked_branch ids (first_match writer reader n ids)
@@ -59,12 +64,14 @@ err_of_row erring row = of_reader row.theirs
     of_reader None = None
     of_reader (Some q) = erring row.node q
 
+-- the entry of a record, by its rows
 abbrev pub err_of_rows : ℕ → LeastTable → ErringTable → List Row → Option Least
 err_of_rows limit table erring [] = None
 err_of_rows limit table erring (row ∷ rows) =
     lesser (together limit (err_of_row erring row) (all_of limit table (map (λ r. r.node) rows)))
     (together limit (table row.node) (err_of_rows limit table erring rows))
 
+-- the entry of a pair, by what it requires
 abbrev pub asked_value : ℕ → LeastTable → ErringTable → ℕ → ℕ → Asked → Option Least
 asked_value limit table erring w r quiet = None
 asked_value limit table erring w r whole = table w
@@ -82,6 +89,7 @@ asked_at writer reader k = asked writer reader (node_at writer (k / length reade
 abbrev pub open_children : List Node → List Node → ℕ → ℕ → Node → Node → List Pair
 open_children writer reader w r n q = cond (has_local_fault writer reader n q) [] (children_of writer reader w r n q)
 
+-- the children of the pair with this number
 abbrev pub children_at : List Node → List Node → ℕ → List Pair
 children_at writer reader k =
     open_children writer reader (k / length reader) (k % length reader) (node_at writer (k / length reader)) (node_at reader (k % length reader))
@@ -95,6 +103,7 @@ abbrev pub live_numbers : ℕ → LeastTable → List Pair → List ℕ
 live_numbers count table [] = []
 live_numbers count table (c ∷ cs) = cond (is_none (table c.w)) (live_numbers count table cs) (pair_number count c.w c.r ∷ live_numbers count table cs)
 
+-- the numbers of those whose writer's node is not dead
 abbrev pub steps_at : List Node → List Node → LeastTable → ℕ → List ℕ
 steps_at writer reader table k = live_numbers (length reader) table (children_at writer reader k)
 

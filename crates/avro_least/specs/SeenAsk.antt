@@ -5,9 +5,11 @@ use Rattle.avro_compare.specs.declared.guided.At.{At}
 use Rattle.avro_least.specs.Asked.{Row}
 use Rattle.avro_least.specs.declared.pairs.asking.FieldAsk.{FieldAsk}
 
+-- a row of the program, as a row
 abbrev pub row_of : FieldAsk → Row
 row_of row = record { node = row.node.0; theirs = option_map (λ id. id.0) row.theirs }
 
+-- several of them
 abbrev pub rows_of : List FieldAsk → List Row
 rows_of rows = map row_of rows
 

@@ -24,9 +24,11 @@ abbrev pub AtMost : Option Least → ℕ → ℕ → Type 0
 AtMost None nodes depth = ⊥
 AtMost (Some e) nodes depth = IsUnder e nodes depth
 
+-- the entry of a datum without parts
 abbrev pub one : Least
 one = record { nodes = 1; depth = 1 }
 
+-- the entry of no data
 abbrev pub no_parts : Least
 no_parts = record { nodes = 0; depth = 0 }
 
@@ -45,6 +47,7 @@ together limit None b = None
 together limit (Some a) None = None
 together limit (Some a) (Some b) = Some (capped limit (record { nodes = a.nodes + b.nodes; depth = max a.depth b.depth }))
 
+-- fewer nodes, or as many and less depth
 abbrev pub precedes : Least → Least → Bool
 precedes a b = nat_lt a.nodes b.nodes || (a.nodes == b.nodes && nat_lt a.depth b.depth)
 
@@ -58,10 +61,12 @@ lesser (Some a) (Some b) = cond (precedes b a) (Some b) (Some a)
 abbrev pub LeastTable : Type 0
 LeastTable = ℕ → Option Least
 
+-- the entry of several parts together
 abbrev pub all_of : ℕ → LeastTable → List ℕ → Option Least
 all_of limit table [] = Some no_parts
 all_of limit table (p ∷ ps) = together limit (table p) (all_of limit table ps)
 
+-- the least entry of several
 abbrev pub best_of : LeastTable → List ℕ → Option Least
 best_of table [] = None
 best_of table (p ∷ ps) = lesser (table p) (best_of table ps)
@@ -151,10 +156,12 @@ AreErrorsShown writer reader limit known erring = (w r : ℕ) → known (record 
 abbrev pub pair_number : ℕ → ℕ → ℕ → ℕ
 pair_number count w r = w * count + r
 
+-- the entry of a number that was reached; that of no data otherwise
 abbrev pub reached_entry : List (Option Least) → Option ℕ → Option Least
 reached_entry entries None = Some no_parts
 reached_entry entries (Some i) = unwrap_or (slice_get entries i) (Some no_parts)
 
+-- the table of pairs by their numbers, from the entries of those that were reached
 abbrev pub erring_of : ℕ → LeastTable → List ℕ → List (Option Least) → ErringTable
 erring_of count table keys entries w r = of_node (table w)
   where
@@ -189,10 +196,12 @@ pub record IsLeastOf (writer : List Node) (table : LeastTable) (p : ℕ) (v : Va
   pub fitting : fits writer (node_at writer p) v ≡ true
   pub numbers : table p ≡ Some (record { nodes = size v; depth = depth v })
 
+-- an entry has at most this many nodes
 abbrev pub IsWithin : ℕ → Option Least → Type 0
 IsWithin limit None = ⊥
 IsWithin limit (Some e) = e.nodes ≤ limit
 
+-- the number of nodes of an entry
 abbrev pub count_of : Option Least → ℕ
 count_of None = 0
 count_of (Some e) = e.nodes

@@ -10,7 +10,8 @@ is_name_start c = (nat_le 65 c && nat_le c 90) || (nat_le 97 c && nat_le c 122) 
 abbrev pub is_name_character : ℕ → Bool
 is_name_character c = is_name_start c || (nat_le 48 c && nat_le c 57)
 
--- `[A-Za-z_][A-Za-z0-9_]*`: a simple name, a field's name or alias, a symbol
+-- a simple name: a letter or `_`, then letters, digits and `_`; also what a field, an alias of one and a symbol may be
+-- called
 abbrev pub is_simple_name : List ℕ → Bool
 is_simple_name [] = false
 is_simple_name (c ∷ cs) = is_name_start c && list_all is_name_character cs
@@ -38,6 +39,7 @@ is_namespace (c ∷ cs) = is_dotted_name (c ∷ cs)
 abbrev pub primitive_words : List (List ℕ)
 primitive_words = codes "null" ∷ codes "boolean" ∷ codes "int" ∷ codes "long" ∷ codes "float" ∷ codes "double" ∷ codes "bytes" ∷ codes "string" ∷ []
 
+-- one of those eight words
 abbrev pub is_primitive_word : List ℕ → Bool
 is_primitive_word text = list_any (bytes_eq text) primitive_words
 
@@ -46,13 +48,15 @@ pub record Name : Type 0 where
   pub namespace : List ℕ
   pub simple : List ℕ
 
+-- a namespace, and a simple name that is not the word of a primitive type
 abbrev pub is_full_name : Name → Bool
 is_full_name name = is_namespace name.namespace && is_simple_name name.simple && not (is_primitive_word name.simple)
 
--- names are compared by case
+-- the test whether two names are equal; upper and lower case differ
 abbrev pub same_name : Name → Name → Bool
 same_name a b = bytes_eq a.simple b.simple && bytes_eq a.namespace b.namespace
 
+-- the text has a dot
 abbrev pub has_dot : List ℕ → Bool
 has_dot text = list_any (λ c. c == 46) text
 
@@ -62,7 +66,7 @@ split_name text enclosing = if has_dot text
     then record { namespace = before_last (λ c. c == 46) text; simple = after_last (λ c. c == 46) text }
     else record { namespace = enclosing; simple = text }
 
--- the fullname that a text means where a namespace encloses it
+-- the fullname that a text means inside a namespace: with a dot its own, without one in that namespace
 abbrev pub name_of : List ℕ → List ℕ → Option Name
 name_of text enclosing = if is_dotted_name text && not (is_primitive_word (split_name text enclosing).simple)
     then Some (split_name text enclosing) else None

@@ -57,7 +57,8 @@ impl FullName {
     ghost use Rattle.avro_name.specs.Name.{Name, is_full_name, name_of};
     ghost use Rattle.avro_name.specs.NameFault.{IsNameFault};
 
-    /// Reads a fullname. A name without a dot belongs to the enclosing namespace.
+    /// Reads the fullname that a text means inside a namespace: with a dot its own, without one in that namespace. Each text that
+    /// means one is read.
     ///
     /// # Errors
     ///

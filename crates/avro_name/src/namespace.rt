@@ -46,7 +46,7 @@ impl Namespace {
         Namespace { text: None }
     }
 
-    /// Reads a namespace.
+    /// Reads a namespace. Each text that is one is read.
     ///
     /// # Errors
     ///

@@ -18,14 +18,15 @@ abbrev pub Keeps : Output → Output → Type 0
 Keeps before after =
     (after.most ≡ before.most) × Grows before.bytes after.bytes × (length after.bytes ≤ max before.most (length before.bytes))
 
--- what was written are these bytes, or so many
+-- what was written is these bytes, in the output followed by a buffer of its own, or this many bytes
 abbrev pub Holds : List ℕ → Written → List ℕ → Type 0
 Holds out (Written.Range start end) bytes = StandsAt out start end bytes
 Holds out (Written.Apart apart) bytes =
     (front : List ℕ) × StandsAt out apart.value.start apart.value.end front × (bytes ≡ front ++ apart.value.more.items)
 Holds out (Written.Counted count) bytes = count ≡ length bytes
 
--- bytes were put behind an output, which is then not longer than `most`, or else it would be, and they were not
+-- bytes were appended to an output that is then no longer than `most`, or they would make it longer, and it is
+-- unchanged
 abbrev pub AppendsWithin : ℕ → List ℕ → List ℕ → List ℕ → Bool → Type 0
 AppendsWithin most before after bytes true = (after ≡ before ++ bytes) × (length after ≤ most)
 AppendsWithin most before after bytes false = (after ≡ before) × (most < length (before ++ bytes))
@@ -35,9 +36,10 @@ abbrev pub branch_bytes : Option ℕ → List ℕ
 branch_bytes None = []
 branch_bytes (Some k) = number_bytes (pos k)
 
--- so many items, and so many entries
+-- this many items, whose plain encodings were written one after another
 abbrev pub AreItems : List ℕ → Gathered → List Value → Type 0
 AreItems out items vs = (items.count ≡ length vs) × Holds out items.written (plain_values (values_from vs))
 
+-- this many entries, whose plain encodings were written one after another
 abbrev pub AreEntries : List ℕ → Gathered → List (List ℕ × Value) → Type 0
 AreEntries out entries es = (entries.count ≡ length es) × Holds out entries.written (plain_entries (entries_from es))

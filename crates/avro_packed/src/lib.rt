@@ -2,6 +2,10 @@
 //!
 //! [`Appending`] is a maker that appends them to an output as data are read. [`append_read`] reads a datum by it, and
 //! [`append_resolved`] reads it for a reader. [`Packed`] builds that of a datum alone.
+//!
+//! An encoding is written to its output while the datum is read, without memory for each part; the items of an array and the entries of
+//! a map are joined in buffers of their own besides, which contain copies of its bytes, keys and ends. A count over 2^63 - 1, which no block can
+//! have and no reading reaches, is refused as if memory had run out.
 #![tactic(auto)]
 
 mod appending;

@@ -18,13 +18,13 @@ use avro_binary::{ReadError, read_made};
 use avro_schema::{Limits, Schema};
 use std::alloc::Global;
 
-/// Reads a datum of the root of the schema from the front of bytes, appends its plain encoding to
-/// an output, unless this would be longer than `most` bytes. Returns whether it was appended, and the length of what was read.
-/// Past that limit, bytes are only counted. The room is kept from datum to datum; what it holds says nothing.
+/// Reads a datum of the root of the schema from the front of bytes, and appends its plain encoding to an output, unless this would then be
+/// longer than `most` bytes. Returns whether it was appended, and the length of what was read. Past that limit, bytes are only counted.
+/// The room is kept from datum to datum; its content between calls is unspecified.
 ///
 /// # Errors
 ///
-/// Those of [`avro_binary::decode`]; the output is as it was.
+/// Those of [`avro_binary::decode`]; the output is unchanged.
 pub fn append_read(
     alloc: Global,
     schema: &Schema,

@@ -19,13 +19,14 @@ use avro_resolve::{PlanRef, ReadResolveError};
 use avro_schema::Limits;
 use std::alloc::Global;
 
-/// Reads a writer's datum from the front of bytes by a plan, appends the plain encoding of what it is for the reader to an
-/// output, unless this would be longer than `most` bytes. Returns whether it was appended, and the length of what was read. Past
-/// that limit, bytes are only counted. The room is kept from datum to datum; what it holds says nothing.
+/// Reads a writer's datum from the front of bytes by a plan, and appends the plain encoding of what it is for the reader to an output, unless
+/// this would then be longer than `most` bytes. Returns whether it was appended, and the length of what was read. Past that limit, bytes
+/// are only counted. The room is kept from datum to datum; its content between calls is unspecified.
 ///
 /// # Errors
 ///
-/// Those of [`avro_resolve::PlanRef::read`]; the output is as it was.
+/// Those of [`avro_resolve::PlanRef::read`]; the output is unchanged. No clause says that putting a datum a second time suffices if bytes
+/// that are in no result pass the limit: `OutOfMemory` otherwise.
 pub fn append_resolved(
     alloc: Global,
     plan: &PlanRef<'_>,

@@ -13,7 +13,7 @@ use Rattle.avro_schema.specs.WellFormed.{branch_kind, meets_its_rules, is_enum}
 use Rattle.avro_compare.specs.Match.{Matches, nulls, booleans, ints, longs, int_to_long, bytes_alike, strings, string_to_bytes, bytes_to_string, arrays, maps, records, fixeds}
 use Rattle.avro_compare.specs.Fault.{fault_here, not_utf8}
 use Rattle.avro_compare.specs.Resolve.{int_as, bytes_as, string_as, enum_as, enum_or_default, fields_at}
-use Rattle.avro_resolve.proofs.TextBytes.{below-from_is_utf8}
+use Rattle.avro_resolve.proofs.public.TextBytes.{below-from_is_utf8}
 use Rattle.avro_resolve.proofs.Outcomes.{IfOk-cond}
 
 -- a value fits the node

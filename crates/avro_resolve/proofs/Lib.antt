@@ -4,7 +4,7 @@ pub mod Outcomes
 pub mod RecordFields
 pub mod Resolved
 mod RowsResolve
-pub mod TextBytes
+pub mod public
 pub mod TextRead
 pub mod Slots
 pub mod Guiding

@@ -14,11 +14,12 @@ use Rattle.avro_compare.specs.Source.{missing_field, source_of}
 use Rattle.avro_compare.specs.declared.guided.Aim.TheVariants.{To}
 use Rattle.avro_compare.specs.declared.comparison.Comparison.{Comparison}
 
+-- a node is fixed
 abbrev pub is_fixed_node : Node → Bool
 is_fixed_node (Node.fixed name aliases size) = true
 is_fixed_node _ = false
 
--- a writer's leaf whose plain encoding is also that of what each datum is for the reader's
+-- a writer's leaf whose plain encoding is also that of what each datum becomes for the reader's
 abbrev pub is_as_written : Node → Node → Bool
 is_as_written Node.null m = is_null_node m
 is_as_written Node.boolean m = is_boolean_node m
@@ -38,7 +39,7 @@ pub record IsCopied (writer reader : List Node) (n m : Node) : Type 0 where
 abbrev pub CopiedFrom : List Node → List Node → List FieldNode → FieldNode → ℕ → Type 0
 CopiedFrom writer reader ws f k = (id : ℕ) × (slice_get (field_ids ws) k ≡ Some id) × IsCopied writer reader (node_at writer id) (node_at reader f.node)
 
--- so is each of some fields that has a source
+-- each of some fields that has a source is copied from it
 abbrev pub AreCopied : List Node → List Node → List FieldNode → List FieldNode → Type 0
 AreCopied writer reader ws rs = (f : FieldNode) → IsField f rs → (k : ℕ) → source_of ws f ≡ Some k → CopiedFrom writer reader ws f k
 
@@ -48,11 +49,12 @@ pub record IsStraight (writer reader : List Node) (w r : NodeId) : Type 0 where
   pub complete : missing_field (fields_at (node_at writer w.0)) (fields_at (node_at reader r.0)) ≡ None
   pub copied : AreCopied writer reader (fields_at (node_at writer w.0)) (fields_at (node_at reader r.0))
 
--- where a flag is set, the pair that is kept there is straight, and so are the sources of its fields kept
+-- if a flag is set, the pair that is kept at its index is straight, and so are the sources of its fields kept
 abbrev pub IsFlag : List Node → List Node → List Comparison → ℕ → Bool → Type 0
 IsFlag writer reader pairs k flag = (p : Comparison) → slice_get pairs k ≡ Some p → flag ≡ true
     → IsStraight writer reader p.w p.r × AreSources (fields_at (node_at writer p.w.0)) (fields_at (node_at reader p.r.0)) p.sources.items
 
+-- each flag says so of the pair at its index
 abbrev pub AreFlags : List Node → List Node → List Comparison → List Bool → Type 0
 AreFlags writer reader pairs flags = (k : ℕ) (flag : Bool) → slice_get flags k ≡ Some flag → IsFlag writer reader pairs k flag
 
@@ -67,7 +69,7 @@ begins_with_number _ = true
 abbrev pub BeginsShortest : List ℕ → Type 0
 BeginsShortest bytes = (most : ℕ) (i : ℤ) (front rest : List ℕ) → AreGroups most (zigzag i) front → bytes ≡ front ++ rest → IsShortest i front
 
--- bytes of a leaf that are spelled as they are written
+-- bytes of a leaf are spelled as they are written
 abbrev pub IsAsSpelled : Node → List ℕ → Type 0
 IsAsSpelled m bytes = begins_with_number m ≡ true → BeginsShortest bytes
 

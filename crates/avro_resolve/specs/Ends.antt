@@ -25,11 +25,11 @@ Slotted S None v = v ≡ Value.null
 abbrev pub SlotsAre : {O : Type 0} → (O → Value → Type 0) → Sourced → List (Option O) → Type 0
 SlotsAre S found slots = (k : ℕ) → Slotted S (slice_get slots k) (sourced_at found k)
 
--- so does each slot that is the source of one of some fields
+-- each slot that is the source of one of some fields holds what was found for it
 abbrev pub SlotsFor : {O : Type 0} → (O → Value → Type 0) → List FieldNode → List FieldNode → Sourced → List (Option O) → Type 0
 SlotsFor S ws rest found slots = (g : FieldNode) → IsField g rest → (k : ℕ) → source_of ws g ≡ Some k → Slotted S (slice_get slots k) (sourced_at found k)
 
--- what a slot gives away
+-- what a slot holds, if there is one, which is moved from there
 abbrev pub slot_out : {O : Type 0} → Option (Option O) → Option O
 slot_out (Some held) = held
 slot_out None = None
@@ -38,15 +38,17 @@ slot_out None = None
 abbrev pub IsSeen : Datum → Value → Type 0
 IsSeen d v = value_of d ≡ v
 
--- some data before others; the same of entries, and of what was found so far
+-- some data before others
 abbrev pub values_before : List Value → Values → Values
 values_before [] vs = vs
 values_before (u ∷ us) vs = value u (values_before us vs)
 
+-- some entries before others
 abbrev pub entries_before : List (List ℕ × Value) → Entries → Entries
 entries_before [] es = es
 entries_before (u ∷ us) es = entry u.0 u.1 (entries_before us es)
 
+-- what was found so far before more
 abbrev pub before : Sourced → Sourced → Sourced
 before found more = found ++ more
 

@@ -15,7 +15,7 @@ use Rattle.avro_compare.specs.Seen.{fault_of}
 use Rattle.avro_resolve.specs.Seen.{UnlessOutOfMemory, AnswersAfter, BuiltAfter, IfUnread, IfUnresolved, IsUnread}
 use Rattle.avro_resolve.specs.declared.error.ReadResolveError.{ReadResolveError}
 
--- An encoding of a writer's datum within limits stands at the front, in `len` bytes, and resolution gives this of the
+-- An encoding of a writer's datum within limits is at the start, in `len` bytes, and resolution gives this for the
 -- datum.
 pub record ReadsAs (writer reader : List Node) (limits : LimitValues) (bytes : List ℕ) (len : ℕ) (resolved : Resolved) : Type 0 where
   pub datum : Value
@@ -24,8 +24,8 @@ pub record ReadsAs (writer reader : List Node) (limits : LimitValues) (bytes : L
   pub within : is_within limits datum ≡ true
   pub resolves : resolve_root writer reader datum ≡ resolved
 
--- Bytes are read as what resolution gives of the writer's datum that they begin with, where `stands` says which datum an
--- answer stands for, or refused by their first fault.
+-- Bytes are read exactly as what resolution gives for the writer's datum at their start, where `stands` says which
+-- datum an answer stands for, or refused by their first fault.
 pub record BuildsResolved {O : Type 0} (stands : O → Value → Type 0) (writer reader : List Node) (limits : LimitValues) (bytes : List ℕ) (result : Result (O × ℕ) ReadResolveError) : Type 0 where
   -- what is answered stands for the datum that stands there, resolved
   pub found : IfOk result (λ r. (u : Value) × stands r.0 u × ReadsAs writer reader limits bytes r.1 (Ok u))
@@ -39,8 +39,7 @@ pub record BuildsResolved {O : Type 0} (stands : O → Value → Type 0) (writer
   pub breaks : (fault : ReadFault) → Breaks writer limits (root_of writer) bytes fault
       → UnlessOutOfMemory result (IsUnread result (λ e. read_fault e ≡ Some fault))
 
--- The same of an answer that is the datum: bytes are read as what resolution gives of the writer's datum that they begin
--- with, or refused by their first fault.
+-- The same of a result that is the datum.
 pub record ReadsResolved (writer reader : List Node) (limits : LimitValues) (bytes : List ℕ) (result : Result (Datum × ℕ) ReadResolveError) : Type 0 where
   -- what is answered is the datum that stands there, resolved
   pub found : IfOk result (λ r. ReadsAs writer reader limits bytes r.1 (Ok (value_of r.0)))

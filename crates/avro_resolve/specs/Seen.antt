@@ -23,7 +23,7 @@ StandsForResult S (Ok out) resolved = (u : Value) × S out u × (resolved ≡ Ok
 StandsForResult S (Err (ResolveError.Fault f)) resolved = resolved ≡ Err (fault_of f)
 StandsForResult S (Err ResolveError.Memory) resolved = Unit {0}
 
--- memory ran out, or else P holds
+-- a claim that is made only if memory did not run out
 abbrev pub UnlessOutOfMemory : {A : Type 0} → Result A ReadResolveError → Type 0 → Type 0
 UnlessOutOfMemory (Err (ReadResolveError.Read OutOfMemory)) P = Unit {0}
 UnlessOutOfMemory r P = P
@@ -40,17 +40,17 @@ BuiltAfter S (Ok r) resolved len = (u : Value) × S r.0 u × (resolved ≡ Ok u)
 BuiltAfter S (Err (ReadResolveError.Resolve f)) resolved len = resolved ≡ Err (fault_of f)
 BuiltAfter S (Err (ReadResolveError.Read e)) resolved len = ⊥
 
--- P of the error of reading, where the result is one
+-- a claim on the error of reading, if the result is one
 abbrev pub IfUnread : {A : Type 0} → Result A ReadResolveError → (ReadError → Type 0) → Type 0
 IfUnread (Err (ReadResolveError.Read e)) P = P e
 IfUnread r P = Unit {0}
 
--- P of the fault of resolution, where the result is one
+-- a claim on the fault of resolution, if the result is one
 abbrev pub IfUnresolved : {A : Type 0} → Result A ReadResolveError → (Fault → Type 0) → Type 0
 IfUnresolved (Err (ReadResolveError.Resolve f)) P = P f
 IfUnresolved r P = Unit {0}
 
--- the result is an error of reading with P
+-- the result is an error of reading, of which this claim holds
 abbrev pub IsUnread : {A : Type 0} → Result A ReadResolveError → (ReadError → Type 0) → Type 0
 IsUnread (Err (ReadResolveError.Read e)) P = P e
 IsUnread r P = ⊥

@@ -5,6 +5,6 @@ use Rattle.avro_compare.specs.Planned.{AreComparisons}
 use Rattle.avro_resolve.specs.Copied.{AreFlags}
 use Rattle.avro_resolve.specs.declared.plan.plan_table.PlanTable.{PlanTable}
 
--- what is kept of each pair is what the nodes are to each other in these schemas, and which pairs are straight
+-- what is kept of each pair is how its nodes relate in these schemas, and which pairs can be copied as raw bytes
 abbrev pub IsTableOf : List Node → List Node → PlanTable → Type 0
 IsTableOf writer reader table = AreComparisons writer reader table.pairs.items × AreFlags writer reader table.pairs.items table.flags.items

@@ -7,6 +7,11 @@
 //! [`PlanTable`] keeps; a [`PlanRef`] borrows the table and the schemas. The contracts of a builder are
 //! about the values it builds; a [`Put`] may instead write to an output as it goes.
 //!
+//! [`resolve`] makes a plan of the pairs that the roots lead to, and gives the datum to it part by part (`giving.rt`), as reading gives
+//! what bytes start with: so resolution of data and of bytes have one maker and one proof. What each writer's field resolves to is stored
+//! in the slot of its index, and moved from there to the reader's field; no slot is used twice, since the names and aliases of a record's
+//! fields are distinct. The path of a fault is built from its end, and reversed once.
+//!
 //! # How a plan is kept
 //!
 //! A table keeps the comparison of each pair that it is given (`Plan::new`, `PlanTable::of`) or that the roots lead to
@@ -19,7 +24,11 @@
 //! A table also marks records that can be copied as raw bytes: the pair leads to the reader's record, no field is missing,
 //! and each field that has a source is a leaf whose encoding is the same for the reader, as an int's is for a long. Such a
 //! record is made from the encodings of its fields, in the reader's order and with the defaults between them. If an
-//! encoding is padded, it is not the plain one, and the record is read part by part.
+//! encoding is padded, it is not the plain one, and the record is read part by part. Enums are excluded, since their symbols may have
+//! other positions, and so are bytes as a string, which must be UTF-8; a field that no reader's field takes may also be an enum.
+//!
+//! `reached` keeps the pairs that the roots lead to until these have 262,144 parts. A pair that is not kept is found by its names, so this
+//! limit bounds memory and changes no result.
 #![tactic(auto)]
 
 mod error;

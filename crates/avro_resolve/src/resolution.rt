@@ -17,7 +17,7 @@ use avro_binary::{Put, Tree, Wrapping};
 use avro_schema::{Datum, Schema};
 use std::alloc::Global;
 
-/// What a datum of the writer's schema is for the reader's schema (Avro 1.11, "Schema Resolution").
+/// What a datum that fits the writer's root becomes for the reader's schema, whose root it then fits (Avro 1.11, "Schema Resolution").
 ///
 /// # Errors
 ///

@@ -4,6 +4,7 @@ use Rattle.avro_schema.specs.Fits.{fits}
 use Rattle.avro_schema.specs.Node.{Node}
 use Rattle.avro_schema.specs.Value.{Value, Values, no_values, value, size, depth}
 
+-- the datum has no bytes: null, a fixed of none, or a record of such data
 abbrev mutual
   pub is_empty : Value → Bool
   is_empty Value.null = true
@@ -19,11 +20,12 @@ abbrev mutual
   is_empty (Value.enum k) = false
   is_empty (Value.fixed b) = length b == 0
 
+  -- each of the values has no bytes
   pub are_empty : Values → Bool
   are_empty no_values = true
   are_empty (value v vs) = is_empty v && are_empty vs
 
--- a datum of the node without bytes, of so many nodes and so deep
+-- a datum of the node without bytes, with this number of nodes and this depth
 pub record IsEmptyDatum (nodes : List Node) (n : Node) (count levels : ℕ) : Type 0 where
   pub datum : Value
   pub fitting : fits nodes n datum ≡ true

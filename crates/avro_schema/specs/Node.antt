@@ -4,13 +4,14 @@ use Rattle.std.specs.Prelude.{ℕ, List, [], ◌∷◌, Option, Some, None, slic
 use Rattle.avro_name.specs.Name.{Name}
 use Rattle.avro_schema.specs.Value.{Value}
 
--- a field of a record
+-- a field of a record: its name, its aliases, the node of its data, and its default
 pub record FieldNode : Type 0 where
   pub name : List ℕ
   pub aliases : List (List ℕ)
   pub node : ℕ
   pub default : Option Value
 
+-- a node of a schema; the ids in it are its edges
 pub data Node : Type 0 where
   null : Node
   boolean : Node
@@ -35,6 +36,7 @@ pub data Node : Type 0 where
 abbrev pub node_at : List Node → ℕ → Node
 node_at nodes id = unwrap_or (slice_get nodes id) Node.null
 
+-- the root of a schema, which is its first node
 abbrev pub root_of : List Node → Node
 root_of nodes = node_at nodes 0
 
@@ -45,35 +47,39 @@ node_name (Node.enum name aliases symbols default) = Some name
 node_name (Node.fixed name aliases count) = Some name
 node_name _ = None
 
--- its aliases
+-- the aliases of a record, an enum or a fixed
 abbrev pub node_aliases : Node → List Name
 node_aliases (Node.record_of name aliases fields) = aliases
 node_aliases (Node.enum name aliases symbols default) = aliases
 node_aliases (Node.fixed name aliases count) = aliases
 node_aliases _ = []
 
--- the items' node of an array, the values' node of a map, the branches of a union
+-- the node of an array's items
 abbrev pub items_node : Node → Option ℕ
 items_node (Node.array id) = Some id
 items_node _ = None
 
+-- the node of a map's values
 abbrev pub values_node : Node → Option ℕ
 values_node (Node.map_of id) = Some id
 values_node _ = None
 
+-- the nodes of a union's branches
 abbrev pub branches_of : Node → Option (List ℕ)
 branches_of (Node.union ids) = Some ids
 branches_of _ = None
 
--- the fields of a record, the symbols of an enum and its default, the number of bytes of a fixed
+-- the fields of a record
 abbrev pub fields_of : Node → Option (List FieldNode)
 fields_of (Node.record_of name aliases fields) = Some fields
 fields_of _ = None
 
+-- the symbols of an enum
 abbrev pub symbols_of : Node → Option (List (List ℕ))
 symbols_of (Node.enum name aliases symbols default) = Some symbols
 symbols_of _ = None
 
+-- the number of bytes of a fixed
 abbrev pub fixed_length : Node → Option ℕ
 fixed_length (Node.fixed name aliases count) = Some count
 fixed_length _ = None

@@ -2,6 +2,7 @@
 use Rattle.std.specs.Prelude.{◌≤◌}
 use Rattle.avro_schema.specs.Fits.{LimitValues}
 
+-- the ranges of the three limits: a depth of 1 to 256, and nodes and bytes of 1 to 16,777,216
 pub record AreLimits (limits : LimitValues) : Type 0 where
   pub some_depth : 1 ≤ limits.depth
   pub most_depth : limits.depth ≤ 256

@@ -6,6 +6,7 @@ use Rattle.avro_schema.specs.Node.{Node, node_at}
 use Rattle.avro_schema.specs.WellFormed.{BranchKind, unnamed, named, branch_kind}
 use Rattle.avro_schema.specs.declared.branches.Kind.{Kind}
 
+-- a kind of branch of the program, as a kind
 abbrev pub kind_of : Kind → BranchKind
 kind_of Kind.Null = unnamed 0
 kind_of Kind.Boolean = unnamed 1
@@ -21,6 +22,7 @@ kind_of (Kind.Named name) = named name.now
 abbrev pub kind_at : List Node → ℕ → Option BranchKind
 kind_at nodes id = branch_kind (node_at nodes id)
 
+-- the node of an id has a kind: it is no union
 abbrev pub has_kind : List Node → ℕ → Bool
 has_kind nodes id = is_some (kind_at nodes id)
 

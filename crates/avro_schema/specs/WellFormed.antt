@@ -7,14 +7,15 @@ use Rattle.avro_schema.specs.Node.{Node, FieldNode, node_at, node_name, node_ali
 use Rattle.avro_schema.specs.Fits.{fits}
 use Rattle.avro_schema.specs.Distinct.{are_distinct}
 
--- limits of this project: nodes of a schema, and symbols of an enum or bytes of a fixed
+-- the most nodes of a schema: a limit of this project
 abbrev pub max_nodes : ℕ
 max_nodes = 4096
 
+-- the most symbols of an enum and the most bytes of a fixed: a limit of this project
 abbrev pub max_count : ℕ
 max_count = 1048576
 
--- an edge stays in the list, and goes to a later node or to a record, an enum or a fixed
+-- an edge goes to a node in the list, which is a later one or a record, an enum or a fixed
 abbrev pub is_edge : List Node → ℕ → ℕ → Bool
 is_edge nodes from to = nat_lt to (length nodes) && (nat_lt from to || is_some (node_name (node_at nodes to)))
 
@@ -23,7 +24,7 @@ pub data BranchKind : Type 0 where
   unnamed : ℕ → BranchKind
   named : Name → BranchKind
 
--- a union may not hold a union directly, and so it has no kind
+-- the kind of a node as a branch; a union has none, since no union may hold one directly
 abbrev pub branch_kind : Node → Option BranchKind
 branch_kind Node.null = Some (unnamed 0)
 branch_kind Node.boolean = Some (unnamed 1)
@@ -38,23 +39,25 @@ branch_kind (Node.record_of name aliases fields) = Some (named name)
 branch_kind (Node.enum name aliases symbols default) = Some (named name)
 branch_kind (Node.fixed name aliases count) = Some (named name)
 
+-- the test whether two kinds are equal
 abbrev pub same_kind : BranchKind → BranchKind → Bool
 same_kind (unnamed a) (unnamed b) = a == b
 same_kind (unnamed a) (named b) = false
 same_kind (named a) (unnamed b) = false
 same_kind (named a) (named b) = same_name a b
 
--- a union has a branch, none of them a union, and no two of one kind
+-- a union has at least one branch, none of them a union, no two of the same unnamed type or fullname
 abbrev pub is_union : List Node → List ℕ → Bool
 is_union nodes ids =
     nat_lt 0 (length ids) && list_all (λ id. is_some (branch_kind (node_at nodes id))) ids
     && are_distinct same_kind (filter_map (λ id. branch_kind (node_at nodes id)) ids)
 
+-- the default of an enum is the index of one of its symbols, if there is one
 abbrev pub is_default : List (List ℕ) → Option ℕ → Bool
 is_default symbols None = true
 is_default symbols (Some index) = nat_lt index (length symbols)
 
--- an enum has a symbol, and at most `max_count`, which are distinct names; its default is the index of one
+-- an enum has 1 to `max_count` symbols, which are distinct names, and a default that is one of them, if any
 abbrev pub is_enum : List (List ℕ) → Option ℕ → Bool
 is_enum symbols default =
     nat_lt 0 (length symbols) && nat_le (length symbols) max_count && list_all is_simple_name symbols
@@ -72,7 +75,7 @@ has_good_default nodes f = is_good f.default
 abbrev pub field_names : FieldNode → List (List ℕ)
 field_names f = f.name ∷ f.aliases
 
--- names and aliases of fields are names, distinct over the record; each default fits
+-- names and aliases of fields are names, distinct within the record, and each default fits
 abbrev pub are_fields : List Node → List FieldNode → Bool
 are_fields nodes fields =
     list_all is_simple_name (flat_map field_names fields) && are_distinct bytes_eq (flat_map field_names fields)
@@ -94,15 +97,17 @@ has_good_names n = has_good_name (node_name n) && list_all is_full_name (node_al
     has_good_name None = true
     has_good_name (Some name) = is_full_name name
 
+-- a node has valid edges and names, and obeys the rules of its kind
 abbrev pub is_good_node : List Node → ℕ → Node → Bool
 is_good_node nodes id n = list_all (is_edge nodes id) (edges_of n) && has_good_names n && meets_its_rules nodes n
 
--- each of the nodes from an id on
+-- each of the nodes from an id on is good
 abbrev pub are_good_nodes : List Node → ℕ → List Node → Bool
 are_good_nodes nodes id [] = true
 are_good_nodes nodes id (n ∷ ns) = is_good_node nodes id n && are_good_nodes nodes (suc id) ns
 
--- 1 to `max_nodes` nodes, each good under its id, and no fullname is defined twice
+-- 1 to `max_nodes` nodes that obey the rules on edges, names, unions, enums, fixeds, fields and defaults, with no
+-- fullname defined twice
 abbrev pub is_schema : List Node → Bool
 is_schema nodes =
     nat_lt 0 (length nodes) && nat_le (length nodes) max_nodes && are_good_nodes nodes 0 nodes

@@ -50,7 +50,7 @@ impl Draft {
         Ok(NodeId(number as u32))
     }
 
-    /// The schema of these nodes.
+    /// The schema of these nodes, which is returned if and only if they are one.
     ///
     /// # Errors
     ///

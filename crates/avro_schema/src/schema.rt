@@ -192,7 +192,8 @@ impl Schema {
         self.nodes.len()
     }
 
-    /// The node's datum without bytes, if one is known.
+    /// The number of nodes and the depth of the node's datum without bytes, if one is known. No clause says that each is known: without
+    /// it, reading is only slower.
     #[inline(always)]
     pub fn empty(&self, id: NodeId) -> Option<Empty>
         ensures { IfSome result (λ e. IsEmptyDatum (schema_nodes self.now) (node_at (schema_nodes self.now) id.0) e.nodes e.depth) }
@@ -200,7 +201,8 @@ impl Schema {
         known_at(&self.empties, id)
     }
 
-    /// For each of a node's first fields, the run of fields without bytes that starts there, as far as it is known.
+    /// For each of a node's first fields, the run of fields without bytes that starts there, as far as it is known. No clause says that
+    /// each is known: without it, reading is only slower.
     #[inline(always)]
     pub fn empty_fields(&self, id: NodeId) -> &[EmptyFields]
         ensures { (k : ℕ) (run : EmptyFields) → slice_get result.now k ≡ Some run → StartWithEmpties (schema_nodes self.now) (drop k (ids_at (node_at (schema_nodes self.now) id.0))) run }

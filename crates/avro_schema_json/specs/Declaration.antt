@@ -11,5 +11,6 @@ max_text = 1048576
 abbrev pub HasTree : List ℕ → Data → Type 0
 HasTree text tree = IsUtf8 text × (read text ≡ Some tree)
 
+-- a text without a tree
 abbrev pub IsNoJson : List ℕ → Type 0
 IsNoJson text = (tree : Data) → ¬ (HasTree text tree)

@@ -32,6 +32,7 @@ abbrev pub texts_of : Items → Option (List (List ℕ))
 texts_of no_items = Some []
 texts_of (item d ds) = option_and_then (λ text. option_map (λ texts. text ∷ texts) (texts_of ds)) (as_str d)
 
+-- the texts of an array, if it is one of texts
 abbrev pub as_texts : Data → Option (List (List ℕ))
 as_texts d = option_and_then texts_of (as_array d)
 
@@ -53,6 +54,7 @@ name_from enclosing namespace (Some text) = name_within (if has_dot text then Ok
     name_within (Err fault) = Err fault
     name_within (Ok space) = ok_or (name_of text space) SchemaError.InvalidName
 
+-- the fullname of a definition, from its attributes
 abbrev pub name_in : List ℕ → Members → Result Name SchemaError
 name_in enclosing ms = name_from enclosing (get_member (codes "namespace") ms) (text_in (codes "name") ms)
 
@@ -61,6 +63,7 @@ abbrev pub alias_texts_from : Option Data → Attribute (List (List ℕ))
 alias_texts_from None = record { value = []; faults = [] }
 alias_texts_from (Some d) = needed [] (as_texts d)
 
+-- the texts of `aliases`, from its attributes
 abbrev pub alias_texts_in : Members → Attribute (List (List ℕ))
 alias_texts_in ms = alias_texts_from (get_member (codes "aliases") ms)
 

@@ -30,10 +30,12 @@ by_first_fit nodes n read = by_branches (branches_of n)
     by_branches None = read n
     by_branches (Some ids) = first_fit nodes read 0 ids
 
+-- what null is a default of
 abbrev pub null_default : Node → Option Value
 null_default Node.null = Some Value.null
 null_default _ = None
 
+-- what a boolean is a default of
 abbrev pub boolean_default : Bool → Node → Option Value
 boolean_default b Node.boolean = Some (Value.boolean b)
 boolean_default b _ = None
@@ -48,6 +50,7 @@ number_default x _ = None
 abbrev pub bytes_of_text : List ℕ → Option (List ℕ)
 bytes_of_text text = only_if (list_all (λ c. nat_lt c 256) (chars text)) (chars text)
 
+-- what a text is a default of
 abbrev pub text_default : List ℕ → Node → Option Value
 text_default text Node.string = Some (Value.string text)
 text_default text Node.bytes = option_map Value.bytes (bytes_of_text text)
@@ -82,7 +85,7 @@ object_default nodes entries under keys (Node.record_of name aliases fields) =
     option_and_then (λ vs. only_if (names_only keys fields) (Value.record_of vs)) (fields_default nodes under fields)
 object_default nodes entries under keys _ = None
 
--- by cases on the JSON
+-- the datum of a field's default, by cases on the JSON; for a union that of the first branch that it fits
 abbrev mutual
   pub default_of : List Node → Data → Node → Option Value
   default_of nodes Data.null n = by_first_fit nodes n null_default
@@ -93,10 +96,12 @@ abbrev mutual
   default_of nodes (Data.object ms) n =
       by_first_fit nodes n (object_default nodes (λ m. entries_default nodes ms m) (λ key. default_under nodes key ms) (member_keys ms))
 
+  -- the same of each item for one node
   pub each_default : List Node → Items → Node → Option Values
   each_default nodes no_items n = Some no_values
   each_default nodes (item d ds) n = option_and_then (λ v. option_map (value v) (each_default nodes ds n)) (default_of nodes d n)
 
+  -- the same of each member for one node
   pub entries_default : List Node → Members → Node → Option Entries
   entries_default nodes no_members n = Some no_entries
   entries_default nodes (member k d ms) n =

@@ -5,5 +5,6 @@ use Rattle.serde_json.specs.Data.{Data}
 use Rattle.avro_schema_json.specs.Declaration.{HasTree}
 use Rattle.avro_schema_json.specs.DeclaredSchema.{DeclaresSchema}
 
+-- the tree of a text declares this schema
 abbrev pub DeclaresText : List ℕ → List Node → Type 0
 DeclaresText text nodes = (tree : Data) × HasTree text tree × DeclaresSchema tree nodes

@@ -28,6 +28,7 @@ pub data RawNode : Type 0 where
 abbrev pub Known : Type 0
 Known = List (Name × ℕ)
 
+-- the node of a name, if it is known
 abbrev pub id_of : Name → Known → Option ℕ
 id_of name [] = None
 id_of name (definition ∷ known) = if same_name name definition.0 then Some definition.1 else id_of name known
@@ -57,6 +58,7 @@ first_and_rest first rest = record {
   faults = first.faults ++ rest.faults;
 }
 
+-- a part, and what follows by it
 abbrev pub followed_by : {A : Type 0} → Made A → (Made A → Made (List A)) → Made (List A)
 followed_by first rest = first_and_rest first (rest first)
 
@@ -108,6 +110,7 @@ pub data Word : Type 0 where
   -- any other
   type_name : Word
 
+-- what a word is
 abbrev pub word_of : List ℕ → Word
 word_of word =
     if bytes_eq word (codes "null") then null_word
@@ -120,6 +123,7 @@ word_of word =
     else (if bytes_eq word (codes "double") then unsupported_word
     else type_name)))))))
 
+-- the type that a word names
 abbrev pub type_of_word : List ℕ → Meaning ℕ
 type_of_word word = by_word (word_of word)
   where
@@ -151,7 +155,7 @@ defining name id known = known ++ (name, id) ∷ []
 abbrev pub name_faults : Name → Known → List SchemaError
 name_faults name known = unless (not (is_some (id_of name known))) SchemaError.DuplicateName
 
--- the enclosing namespace of a record's fields is its own
+-- a record of this name, whose namespace encloses its fields
 abbrev pub record_named : Members → Option (List (Meaning RawField)) → Known → ℕ → Name → Made ℕ
 record_named ms fields known next name =
     node_with next (RawNode.record_of name (aliases_in name.namespace ms).value)
@@ -162,6 +166,7 @@ record_named ms fields known next name =
     fields_meaning None = faulty [] SchemaError.InvalidDeclaration
     fields_meaning (Some meanings) = in_turn meanings
 
+-- an enum of this name
 abbrev pub enum_named : Members → Known → ℕ → Name → Made ℕ
 enum_named ms known next name =
     node_with next
@@ -169,6 +174,7 @@ enum_named ms known next name =
     (name_faults name known ++ (aliases_in name.namespace ms).faults ++ (symbols_in ms).faults)
     (no_parts (defining name next known))
 
+-- a fixed of this name
 abbrev pub fixed_named : Members → Known → ℕ → Name → Made ℕ
 fixed_named ms known next name =
     node_with next (λ none. RawNode.plain (Node.fixed name (aliases_in name.namespace ms).value (size_in ms).value))
@@ -183,7 +189,7 @@ definition_of ms named enclosing known next = by_name (name_in enclosing ms)
     by_name (Err fault) = faulty 0 fault enclosing known next
     by_name (Ok name) = named known next name
 
--- what the `type` of an object is
+-- what the `type` of an object says
 pub data Form : Type 0 where
   record_form : Form
   enum_form : Form
@@ -196,6 +202,7 @@ pub data Form : Type 0 where
   -- there is none, or it is no text
   no_form : Form
 
+-- the same of a word
 abbrev pub form_of_word : List ℕ → Form
 form_of_word word =
     if bytes_eq word (codes "record") then record_form
@@ -206,6 +213,7 @@ form_of_word word =
     else (if bytes_eq word (codes "error") then error_form
     else word_form word)))))
 
+-- the same of a word that may be missing
 abbrev pub form_of : Option (List ℕ) → Form
 form_of None = no_form
 form_of (Some word) = form_of_word word
@@ -247,7 +255,7 @@ field_of ms type enclosing known next = typed (type_made type)
 abbrev pub no_field : Meaning RawField
 no_field = faulty (record { name = []; aliases = []; node = 0; default = None }) SchemaError.InvalidDeclaration
 
--- by cases on the tree
+-- what a tree declares, given a namespace, the earlier names and the next number: nodes in pre-order, names and faults
 abbrev mutual
   pub meaning_of : Data → Meaning ℕ
   meaning_of Data.null = faulty 0 SchemaError.InvalidDeclaration
@@ -259,6 +267,7 @@ abbrev mutual
       type_of_form ms (meaning_under (codes "items") ms) (meaning_under (codes "values") ms) (fields_under (codes "fields") ms)
       (form_of (text_in (codes "type") ms))
 
+  -- what each branch of a union declares
   pub branches_of : Items → List (Meaning ℕ)
   branches_of no_items = []
   branches_of (item d ds) = meaning_of d ∷ branches_of ds
@@ -275,6 +284,7 @@ abbrev mutual
   fields_under key (member k d ms) =
       match_ordering (slice_cmp nat_cmp key k) (fields_under key ms) (fields_from d) (fields_under key ms)
 
+  -- the same of a value that must be an array
   pub fields_from : Data → Option (List (Meaning RawField))
   fields_from Data.null = None
   fields_from (Data.boolean b) = None
@@ -283,10 +293,12 @@ abbrev mutual
   fields_from (Data.array ds) = Some (field_meanings ds)
   fields_from (Data.object ms) = None
 
+  -- the same of each item
   pub field_meanings : Items → List (Meaning RawField)
   field_meanings no_items = []
   field_meanings (item d ds) = field_meaning d ∷ field_meanings ds
 
+  -- what a field declares
   pub field_meaning : Data → Meaning RawField
   field_meaning Data.null = no_field
   field_meaning (Data.boolean b) = no_field

@@ -23,8 +23,8 @@ use std::alloc::Global;
 /// The greatest length of a text.
 const MAX_TEXT: usize = 1_048_576;
 
-/// The schema that a JSON text declares (Avro 1.11, "Schema Declaration"). The length of the text
-/// is checked first, then its JSON, its numbers, the declarations, the rules of the whole schema,
+/// The schema that a JSON text declares (Avro 1.11, "Schema Declaration"), whenever it declares one and is not too long.
+/// The length of the text is checked first, then its JSON, its numbers, the declarations, the rules of the whole schema,
 /// and the defaults.
 ///
 /// # Errors

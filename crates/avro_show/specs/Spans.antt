@@ -22,7 +22,7 @@ use Rattle.avro_show.specs.declared.spans.KeyedSpans.{KeyedSpans}
 abbrev pub Keeps : Schema → List ℕ → Schema → List ℕ → Type 0
 Keeps t before u after = (u ≡ t) × Grows before after
 
--- these bytes stand in a text
+-- some bytes stand in a text from one offset to another
 abbrev pub StandsIn : List ℕ → Span → List ℕ → Type 0
 StandsIn text span bytes = StandsAt text span.start span.end bytes
 
@@ -31,7 +31,7 @@ abbrev pub AreItemsAt : List ℕ → List Span → Items → Type 0
 AreItemsAt text [] ds = ds ≡ no_items
 AreItemsAt text (s ∷ ss) ds = (d : Data) × (rest : Items) × (ds ≡ item d rest) × StandsIn text s (compact_text d) × AreItemsAt text ss rest
 
--- the values of an object's members, and their keys
+-- the values of an object's members, one after another, and their keys
 abbrev pub AreMembersAt : List ℕ → List (String Global × Span) → Members → Type 0
 AreMembersAt text [] ms = ms ≡ no_members
 AreMembersAt text (e ∷ es) ms =
@@ -60,32 +60,37 @@ IsOf t nodes n at = (nodes ≡ schema_nodes t) × (n ≡ part_at (schema_nodes t
 abbrev pub text_of : Schema → Option ℕ → Value → List ℕ
 text_of t at v = display_text (schema_nodes t) (part_at (schema_nodes t) at) v
 
--- the ids of the nodes of an array's items, and of a map's values
+-- the id of the node of an array's items
 abbrev pub item_id : Schema → Option ℕ → Option ℕ
 item_id t at = items_node (part_at (schema_nodes t) at)
 
+-- the id of the node of a map's values
 abbrev pub value_id : Schema → Option ℕ → Option ℕ
 value_id t at = values_node (part_at (schema_nodes t) at)
 
--- the id of the node of a union's branch, and of a record's field at an index
+-- the id of the node of a union's branch
 abbrev pub branch_id : Schema → Option ℕ → ℕ → Option ℕ
 branch_id t at k = option_and_then (λ ids. slice_get ids k) (branches_of (part_at (schema_nodes t) at))
 
+-- the id of the node of a record's field, by its index
 abbrev pub field_id_at : Schema → Option ℕ → ℕ → Option ℕ
 field_id_at t at k = option_map (λ f. f.node) (slice_get (record_fields (part_at (schema_nodes t) at)) k)
 
--- what is made of a datum, and of its parts so far, stands for it
+-- what stands in a text is the display of a datum of a node
 abbrev pub StandsFor : Schema → List ℕ → List Node → Node → Option ℕ → Span → Value → Type 0
 StandsFor t text nodes n at span v = IsOf t nodes n at → StandsIn text span (text_of t at v)
 
+-- the same of the items of an array so far
 abbrev pub ItemsStandFor : Schema → List ℕ → List Node → ℕ → Option ℕ → Spans → List Value → Type 0
 ItemsStandFor t text nodes id at items vs = IsOf t nodes (Node.array id) at
     → (items.owner ≡ at) × AreItemsAt text items.parts.items (display_items (schema_nodes t) (part_at (schema_nodes t) (item_id t at)) (values_from vs))
 
+-- the same of the entries of a map so far
 abbrev pub EntriesStandFor : Schema → List ℕ → List Node → ℕ → Option ℕ → KeyedSpans → List (List ℕ × Value) → Type 0
 EntriesStandFor t text nodes id at entries es = IsOf t nodes (Node.map_of id) at
     → (entries.owner ≡ at) × AreMembersAt text entries.parts.entries (display_entries (schema_nodes t) (part_at (schema_nodes t) (value_id t at)) (entries_from es) no_members)
 
+-- the same of the first fields of a record
 abbrev pub FieldsStandFor : Schema → List ℕ → List Node → List FieldNode → Option ℕ → Spans → List Value → Type 0
 FieldsStandFor t text nodes fs at fields vs = nodes ≡ schema_nodes t → fs ≡ record_fields (part_at (schema_nodes t) at)
     → (fields.owner ≡ at) × AreFieldsAt nodes text fs fields.parts.items vs

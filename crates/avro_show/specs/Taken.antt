@@ -6,11 +6,12 @@ use Rattle.avro_compare.specs.Fault.{fault_here, no_match}
 use Rattle.avro_compare.specs.Resolve.{Resolved, bytes_as, enum_as, fields_at, int_as, part_at, record_or_missing, resolve_entries, resolve_items, resolve_sources, result_map, string_as, symbol_at}
 use Rattle.avro_compare.specs.Source.{missing_field}
 
+-- a datum is one of a union
 abbrev pub is_union : Value → Bool
 is_union (Value.union k v) = true
 is_union v = false
 
--- a union has to be gone through before
+-- what resolution gives for a datum that is in no union, at a reader's node that is none
 abbrev pub taken_as : List Node → List Node → Node → Value → Node → Resolved
 taken_as writer reader w (Value.int i) q = int_as i q
 taken_as writer reader w (Value.bytes b) q = bytes_as b q

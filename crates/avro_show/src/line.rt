@@ -26,8 +26,8 @@ use std::alloc::{AllocError, Global};
 ///
 /// # Errors
 ///
-/// Those of [`avro_binary::decode`]; `OutOfMemory` also where the display and those of its parts have more than 64 KiB. The lines
-/// are as they were.
+/// Those of [`avro_binary::decode`]; `OutOfMemory` also if the display and those of its parts have more than 64 KiB. The lines are
+/// unchanged. No clause says that a short line is made: `avro show` is then only slower.
 pub fn append_line(
     alloc: Global,
     table: &DisplayTable<'_>,

@@ -18,7 +18,7 @@ pub struct Resolved<'a> {
 impl<'a> Resolved<'a> {
     ghost use Rattle.std.specs.Prelude.{◌≡◌};
 
-    /// The data by a plan. The table is that of the plan's reader.
+    /// The data by a plan, and the table by which they are displayed: that of the plan's reader, though no clause asks for it.
     pub fn new(plan: &'a PlanRef<'a>, table: &'a DisplayTable<'a>) -> Resolved<'a>
         ensures plan { result.plan.now ≡ plan.now }
         ensures table { result.table.now ≡ table.now }

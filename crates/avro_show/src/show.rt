@@ -15,12 +15,13 @@ use avro_display::{PutError, Text, put_byte, put_displayed};
 use avro_resolve::PlanPair;
 use avro_schema::Datum;
 
-/// Appends the line of what a writer's datum is for the reader, its display and a line feed, to a text, and puts the text in
-/// pieces if it is long: what the text held, and then the line, is what was put, and then what the text holds.
+/// Appends the line of what a writer's datum is for the reader, its display as a datum of the table's schema and a line feed, to a text,
+/// and puts the text in pieces if it is long: what the text held, and then the line, is what was put, and then what the text holds. If
+/// resolution gives nothing, no clause says what is put.
 ///
 /// # Errors
 ///
-/// The output failed, or took none of the bytes; memory ran out. Some of the text was put, or none.
+/// The output failed, or took none of the bytes; memory ran out. No clause says what was put then.
 pub fn put_resolved_line<O: Output>(
     out: &mut O,
     text: &mut Text,

@@ -10,23 +10,26 @@ use Rattle.avro_file.specs.declared.error.CountError.{CountError}
 use Rattle.avro_file.specs.declared.error.LimitPlace.{LimitPlace}
 use Rattle.avro_file.specs.ErrorText.{error_code, place_of}
 
--- a block, or a datum of a block; nothing outside the blocks; both are counted from 0
+-- the number of a block; blocks are counted from 0
 abbrev pub block_text : ℕ → List ℕ
 block_text block = codes " block " ++ decimal block
 
+-- the numbers of a datum and its block; data are counted from 0 in each block
 abbrev pub datum_text : ℕ → ℕ → List ℕ
 datum_text block datum = codes " block " ++ decimal block ++ codes " datum " ++ decimal datum
 
+-- a place in a file; none outside its blocks
 abbrev pub place_text : LimitPlace → List ℕ
 place_text LimitPlace.Header = []
 place_text (LimitPlace.Block block) = block_text block
 place_text (LimitPlace.Datum block datum) = datum_text block datum
 
+-- why a count cannot be read
 abbrev pub count_text : CountError → List ℕ
 count_text (CountError.Invalid e) = number_code e
 count_text CountError.Negative = codes "negative"
 
--- the reason, after a colon, where there is one
+-- the reason for a container's error, after a colon, if there is one
 abbrev pub reason_text : CopyError → List ℕ
 reason_text (CopyError.InvalidMetadata e) = codes ": " ++ reading_text e
 reason_text (CopyError.InvalidSchema e) = codes ": " ++ schema_code e
@@ -35,6 +38,6 @@ reason_text (CopyError.InvalidDatum block datum e) = codes ": " ++ reading_text 
 reason_text (CopyError.UnresolvedDatum block datum fault) = codes ": " ++ fault_text (fault_of fault)
 reason_text _ = []
 
--- the line, by the word that names the file
+-- the line of a container's error: its code, place and reason, by the word that names the file
 abbrev pub container_text : List ℕ → CopyError → List ℕ
 container_text word e = codes "avro: " ++ word ++ codes ": " ++ error_code e ++ place_text (place_of e) ++ reason_text e ++ codes "\n"

@@ -7,7 +7,7 @@ use Rattle.avro_answer.specs.RefusalText.{refusal_text}
 use Rattle.avro_tool.specs.ContainerText.{container_text}
 use Rattle.avro_tool.specs.declared.failure.Failure.{Failure}
 
--- 3 a text or a file that is refused, 4 a file or an output that fails, 5 no memory, 64 words that ask for nothing
+-- the exit status of a failure: 3 for a refusal, 4 for a file or an output that fails, 5 for memory, 64 for usage
 abbrev pub exit_status : Failure → ℕ
 exit_status (Failure.Schema word e) = 3
 exit_status (Failure.Certificate word e) = 3
@@ -19,7 +19,7 @@ exit_status Failure.CannotPrint = 4
 exit_status Failure.OutOfMemory = 5
 exit_status _ = 64
 
--- the line of what is refused, by the word that names its file
+-- the line of a refused text or container file, or of refused data, by the word that names it
 abbrev pub IsRefusal : Failure → List ℕ → Type 0
 IsRefusal (Failure.Schema word e) line = line ≡ refusal_text word.now (schema_code e)
 IsRefusal (Failure.Certificate word e) line = line ≡ refusal_text word.now (certificate_code e)

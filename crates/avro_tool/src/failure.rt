@@ -35,7 +35,7 @@ pub(crate) enum Failure<'a> {
     CannotRead(&'a str),
     /// A file could not be created or written.
     CannotWrite(&'a str),
-    /// The standard output could not be written.
+    /// Standard output could not be written.
     CannotPrint,
     /// Memory ran out.
     OutOfMemory,
@@ -45,27 +45,27 @@ pub(crate) enum Failure<'a> {
     NotText,
     /// A file was to be copied into itself.
     OneWord,
-    /// The word for a marker is not the digits of 16 bytes.
+    /// The word for a marker is not 32 hexadecimal digits.
     NoMarker,
     /// A file was to be copied into itself, by another name.
     OneFile,
-    /// A file of the words is the standard output.
+    /// A file of the words is standard output.
     IsOutput(&'a str),
-    /// A copy goes into the pipe that the standard output is.
+    /// OUT of a copy is the pipe that standard output is.
     IsPipe(&'a str),
-    /// A file of the words is the standard error.
+    /// A file of the words is standard error.
     IsError(&'a str),
-    /// A file of the words is both, so that no line can be written.
+    /// A file of the words is both, so that no line is written.
     IsStreams,
     /// A file that is to be written is one of those that are read.
     IsRead(&'a str),
-    /// A file that is to be written holds a schema.
+    /// A file that is to be written contains a schema.
     IsSchema(&'a str),
     /// The word after an option is not a number in its range.
     OutOfRange(NumberOption),
     /// The word after the option for a number of lines is not a number.
     NoLimit,
-    /// The word after the option of a number of bytes to skip is none that it takes.
+    /// The word after the option for a number of bytes to skip is not a number in its range.
     NoSkip,
 }
 
@@ -187,9 +187,7 @@ impl<'a> Failure<'a> {
                 format!(in alloc; "avro: {word} is the standard output: use avro pipe\n")
             }
             Failure::IsError(word) => format!(in alloc; "avro: {word} is the standard error\n"),
-            Failure::IsRead(word) => {
-                format!(in alloc; "avro: {word} is one of the files that are read\n")
-            }
+            Failure::IsRead(word) => { format!(in alloc; "avro: {word} is also an input\n") }
             Failure::IsSchema(word) => format!(in alloc; "avro: {word} is a schema\n"),
             Failure::OutOfRange(option) => range_line(alloc, *option),
             other => String::from_str(alloc, other.fixed_line()),
@@ -204,7 +202,7 @@ impl<'a> Failure<'a> {
             Failure::NotText => "avro: an argument is not UTF-8\n",
             Failure::OneWord => "avro: IN and OUT are one word\n",
             Failure::NoMarker => "avro: --sync takes 32 hexadecimal digits\n",
-            Failure::OneFile => "avro: IN and OUT are one file\n",
+            Failure::OneFile => "avro: IN and OUT are the same file\n",
             Failure::NoLimit => "avro: --limit takes 0 to 18446744073709551615\n",
             Failure::NoSkip => "avro: --skip takes 0 to 16777216\n",
             _ => "",

@@ -35,57 +35,53 @@ type Words = (&'static str, &'static str, &'static [Argument]);
 const WRITER: Argument = (
     "writer",
     Takes::Word("WRITER"),
-    "File of the schema that data were written with",
+    "Schema that the data were written with",
 );
 
-const READER: Argument = (
-    "reader",
-    Takes::Word("READER"),
-    "File of the schema that they are to be read with",
-);
+const READER: Argument = ("reader", Takes::Word("READER"), "Schema to read them with");
 
 const RESOLVED: Argument = (
     "reader",
     Takes::Option("SCHEMA"),
-    "File of a schema that the data are resolved for",
+    "Resolve each datum to SCHEMA",
 );
 
-const CONTAINER: Argument = ("file", Takes::Word("FILE"), "File of the container");
+const CONTAINER: Argument = ("file", Takes::Word("FILE"), "Container file");
 
 const SYNC: Argument = (
     "sync",
     Takes::Option("HEX32"),
-    "Marker after each block of the copy, in place of the container's",
+    "Use this sync marker instead of the input's",
 );
 
 const JSON: Argument = (
     "json",
     Takes::Nothing,
-    "Prints each answer as a line of JSON",
+    "Print each answer as a line of JSON",
 );
 
 const PROGRESS: Argument = (
     "progress",
     Takes::Nothing,
-    "Tells how far it is, on the standard error",
+    "Report progress on standard error",
 );
 
 const MAX_PAIRS: Argument = (
     "max-pairs",
     Takes::NumberOr("4194304"),
-    "Greatest product of the two numbers of nodes, up to 16777216: raise N where the answer is 'undecided Pairs'",
+    "Limit the product of the node counts to N, at most 16777216: raise N if the answer is 'undecided Pairs'",
 );
 
 const MAX_SIZE: Argument = (
     "max-size",
     Takes::NumberOr("4096"),
-    "Most nodes of a datum that fails, up to 1048576: raise N where the answer is 'undecided Size'",
+    "Limit the refuting datum to N nodes, at most 1048576: raise N if the answer is 'undecided Size'",
 );
 
 const MAX_DEPTH: Argument = (
     "max-depth",
     Takes::NumberOr("128"),
-    "Greatest depth of a datum that fails, up to 256: raise N where the answer is 'undecided Depth'",
+    "Limit the refuting datum to depth N, at most 256: raise N if the answer is 'undecided Depth'",
 );
 
 const JUDGE: [Argument; 8] = [
@@ -94,12 +90,12 @@ const JUDGE: [Argument; 8] = [
     (
         "certificate",
         Takes::Option("OUT"),
-        "File that a yes writes its certificate into",
+        "Write the certificate of a yes to OUT",
     ),
     (
         "refutation",
         Takes::Option("OUT"),
-        "File that a no writes a container of its datum into",
+        "Write the refuting datum to OUT, as a container",
     ),
     MAX_PAIRS,
     MAX_SIZE,
@@ -113,7 +109,7 @@ const EXPLAIN: [Argument; 4] = [
     (
         "max-pairs",
         Takes::NumberOr("4194304"),
-        "Most pairs of nodes that are reached, up to 16777216: raise N where the answer is 'undecided Pairs'",
+        "Limit the pairs of nodes to visit to N, at most 16777216: raise N if the answer is 'undecided Pairs'",
     ),
     JSON,
 ];
@@ -121,11 +117,7 @@ const EXPLAIN: [Argument; 4] = [
 const CONFIRM: [Argument; 4] = [
     WRITER,
     READER,
-    (
-        "certificate",
-        Takes::Word("CERT"),
-        "File of the certificate",
-    ),
+    ("certificate", Takes::Word("CERT"), "Certificate of the yes"),
     JSON,
 ];
 
@@ -133,27 +125,27 @@ const HISTORY: [Argument; 9] = [
     (
         "files",
         Takes::Words("SCHEMA"),
-        "Files of the schemas, two at least; the last one is the reader's",
+        "Schemas in order, two at least",
     ),
     (
         "certificates",
         Takes::Option("OUT"),
-        "File that a yes for each schema writes the certificates into",
+        "Write the certificates to OUT if each answer is yes",
     ),
     (
         "confirm",
         Takes::Option("CERT"),
-        "File of certificates that are to show it; nothing is judged",
+        "Recheck the certificates in CERT, and judge nothing",
     ),
     (
         "mode",
         Takes::Mode,
-        "Which data are to be read: the earlier schema's, the later one's, or those of both",
+        "Judge whether later schemas read earlier data, earlier schemas read later data, or both",
     ),
     (
         "next",
         Takes::Nothing,
-        "Judges each schema with the next one alone",
+        "Judge each schema with the next one only",
     ),
     MAX_PAIRS,
     MAX_SIZE,
@@ -162,30 +154,26 @@ const HISTORY: [Argument; 9] = [
 ];
 
 const SCHEMA: [Argument; 4] = [
-    ("file", Takes::Word("FILE"), "File of the schema"),
+    ("file", Takes::Word("FILE"), "Schema"),
     (
         "canonical",
         Takes::Nothing,
-        "Shows the canonical form in place of the number of nodes",
+        "Print the Parsing Canonical Form instead of the number of nodes",
     ),
     (
         "fingerprint",
         Takes::Nothing,
-        "Shows the fingerprint in place of the number of nodes",
+        "Print the SHA-256 fingerprint instead of the number of nodes",
     ),
     (
         "why",
         Takes::Nothing,
-        "Tells of a text that is refused where and why, in a line for each place",
+        "Print where and why a schema is refused, a line for each place",
     ),
 ];
 
 const CHECK: [Argument; 3] = [
-    (
-        "files",
-        Takes::Words("FILE"),
-        "Files of the containers, each of which is checked",
-    ),
+    ("files", Takes::Words("FILE"), "Container files"),
     JSON,
     PROGRESS,
 ];
@@ -193,12 +181,16 @@ const CHECK: [Argument; 3] = [
 const SHOW: [Argument; 3] = [
     CONTAINER,
     RESOLVED,
-    ("limit", Takes::Number, "Stops after N lines"),
+    ("limit", Takes::Number, "Stop after N lines"),
 ];
 
 const COPY: [Argument; 5] = [
-    ("input", Takes::Word("IN"), "File of the container"),
-    ("output", Takes::Word("OUT"), "File that the copy goes into"),
+    ("input", Takes::Word("IN"), "Container file"),
+    (
+        "output",
+        Takes::Word("OUT"),
+        "File that the copy is written to",
+    ),
     RESOLVED,
     SYNC,
     PROGRESS,
@@ -210,7 +202,7 @@ const PIPE: [Argument; 4] = [
     (
         "counts",
         Takes::Nothing,
-        "Tells how many data and blocks there were, on the standard error",
+        "Print the numbers of data and blocks on standard error",
     ),
     PROGRESS,
 ];
@@ -220,7 +212,7 @@ const HEADER: [Argument; 2] = [
     (
         "metadata",
         Takes::Nothing,
-        "Shows all of the metadata in place of the schema",
+        "Print all metadata instead of the schema, as a line of JSON",
     ),
 ];
 
@@ -229,13 +221,13 @@ const READ: [Argument; 5] = [
     (
         "data",
         Takes::Word("DATA"),
-        "File of the encoded data; what follows the datum is left",
+        "Encoded data; what follows the first datum is ignored",
     ),
     RESOLVED,
     (
         "skip",
         Takes::Number,
-        "Passes over N bytes first, as over the 5 of a registry's messages",
+        "Skip N bytes first (5 for a schema registry's message)",
     ),
     JSON,
 ];
@@ -243,7 +235,7 @@ const READ: [Argument; 5] = [
 /// The command over a history of schemas.
 const OF_HISTORY: Words = (
     "history",
-    "Tells whether the last schema takes all data of each earlier one",
+    "Check that the last schema reads data written with each earlier one",
     &HISTORY,
 );
 
@@ -251,49 +243,45 @@ const OF_HISTORY: Words = (
 const COMMANDS: [Words; 11] = [
     (
         "judge",
-        "Tells whether a reader's schema takes all data of a writer's",
+        "Check that one schema reads all data written with another",
         &JUDGE,
     ),
     (
         "explain",
-        "Lists all faults of a reader's schema with a writer's, by names",
+        "List all faults of two schemas, by name",
         &EXPLAIN,
     ),
-    (
-        "confirm",
-        "Tells whether a certificate shows that a reader's schema takes all data of a writer's",
-        &CONFIRM,
-    ),
+    ("confirm", "Recheck the certificate of a yes", &CONFIRM),
     OF_HISTORY,
     (
         "schema",
-        "Tells whether a text is a schema, and its number of nodes",
+        "Check a schema, and print its canonical form or fingerprint",
         &SCHEMA,
     ),
     (
         "check",
-        "Tells whether containers are valid, and how many data and blocks each has",
+        "Check container files, and count their data and blocks",
         &CHECK,
     ),
-    ("show", "Shows each datum of a container in a line", &SHOW),
+    ("show", "Print each datum of a container file", &SHOW),
     (
         "copy",
-        "Copies a container, with each datum in its plain encoding",
+        "Copy a container file, each datum in its plain encoding",
         &COPY,
     ),
     (
         "pipe",
-        "Copies a container from the standard input to the standard output",
+        "Copy a container file from standard input to standard output",
         &PIPE,
     ),
     (
         "header",
-        "Shows the text of a container's schema, whatever its codec",
+        "Print the schema of a container file, whatever its codec",
         &HEADER,
     ),
     (
         "read",
-        "Shows the datum that encoded data begin with, and how many bytes it takes",
+        "Print the first datum in DATA, and its length in bytes",
         &READ,
     ),
 ];
@@ -302,7 +290,7 @@ const COMMANDS: [Words; 11] = [
 pub(crate) fn program<'a>(alloc: Global, words: &[String]) -> Result<Command<'a>, AllocError> {
     let commands = all_commands(alloc, words)?;
     Command::new(alloc, "avro")
-        .about("Checks Avro schemas and container files")
+        .about("Check Avro schemas and container files")
         .version(VERSION)
         .no_binary_name(true)
         .subcommand_required(true)

@@ -1,4 +1,6 @@
-//! The program `avro`, as a function over its words, a reader and two writers.
+//! The program `avro`, as a function over its words, a reader and two writers. Of its own functions the exit status of each `Failure` and
+//! the line of each refusal are proved, and that `Watched`, an input around another for `--progress`, takes, ends and counts as the other
+//! does; the rest is safe, and returns.
 #![tactic(auto)]
 
 mod command_line;
@@ -83,7 +85,7 @@ pub fn refuse_words<E: Write>(error: &io::Error, err: &mut E) -> u8 {
 
 /// Runs the program on its words, without its name, and returns its exit status: 0 good or yes, 1
 /// no, 2 undecided, 3 refused input, 4 a file's fault, 5 out of memory, 64 usage. Answers go to
-/// `out`, errors and usage texts to `err`; that a file is the standard error goes to `out`, since it would stand in the
+/// `out`, errors and usage texts to `err`; that a file is standard error goes to `out`, since it would stand in the
 /// file. Only the command that copies `input` reads it.
 pub fn run<R: Files + Clock + AllocGlobal, I: Read, O: Write, E: Write>(
     rt: &R,
@@ -99,7 +101,7 @@ pub fn run<R: Files + Clock + AllocGlobal, I: Read, O: Write, E: Write>(
     }
 }
 
-/// Reports a failure by one write, and returns its status. If the standard error fails too, the
+/// Reports a failure by one write, and returns its status. If standard error fails too, the
 /// status is all that can be reported; if memory runs out for the line, that is reported in its
 /// place.
 fn report<E: Write>(alloc: Global, failure: &Failure<'_>, err: &mut E) -> u8 {

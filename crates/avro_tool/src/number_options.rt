@@ -9,7 +9,7 @@ use hex::FromHex;
 /// The most bytes that are skipped.
 const MAX_SKIP: u32 = 16_777_216;
 
-/// An option that takes a number from 1 to a greatest one.
+/// An option that takes a number from 1 to a maximum.
 #[derive(Clone, Copy)]
 pub(crate) enum NumberOption {
     /// The greatest product of the two node counts.
@@ -30,7 +30,7 @@ impl NumberOption {
         }
     }
 
-    /// The greatest number that it takes.
+    /// The maximum.
     pub(crate) fn most(self) -> u32 {
         match self {
             NumberOption::MaxPairs => JudgeLimits::MAX_PAIRS,
@@ -84,7 +84,7 @@ pub(crate) fn lines_in<'a>(matches: &ArgMatches<'a>) -> Result<Option<u64>, Fail
     }
 }
 
-/// How many bytes the words ask to pass over.
+/// How many bytes the words ask to skip.
 pub(crate) fn skip_in<'a>(matches: &ArgMatches<'a>) -> Result<u32, Failure<'a>> {
     let Some(word) = matches.get_str("skip") else {
         return Ok(0);

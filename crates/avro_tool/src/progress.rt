@@ -1,4 +1,4 @@
-//! How far an input is read, told on the standard error while it is read.
+//! How far an input is read, reported on standard error while it is read.
 
 use avro_device::{DeviceFault, Input};
 use std::fmt;
@@ -11,7 +11,7 @@ const PAUSE: u128 = 250;
 /// How many bytes a line has at the most.
 const ROOM: usize = 96;
 
-/// An input of which it is told how far it is read: a line that is rewritten at most four times a second, and once at
+/// An input whose progress is reported: a line that is rewritten at most four times a second, and once at
 /// the end. A standard error that fails changes nothing.
 #[derive(Drop)]
 pub(crate) struct Watched<I, C, E> {
@@ -30,7 +30,7 @@ struct Meter {
     /// The length of the whole, if it is known.
     length: Option<u64>,
     begun: Option<Instant>,
-    /// How many milliseconds after the beginning the last line was told.
+    /// How many milliseconds after the beginning the last line was written.
     told: u128,
     /// How long the last line was.
     width: usize,
@@ -55,7 +55,7 @@ impl<I: Input, C: Clock, E: Write> Watched<I, C, E> {
         }
     }
 
-    /// Tells for the last time how far the input was read, if it can be read.
+    /// Reports for the last time how far the input was read, if it can be read.
     pub(crate) fn finish(&mut self) {
         if !self.meter.is_begun {
             return;
@@ -83,7 +83,7 @@ impl<I: Input, C: Clock, E: Write> Input for Watched<I, C, E> {
     }
 }
 
-/// Notes that so many bytes more were read, and tells it where that is due.
+/// Notes that so many bytes more were read, and reports it if that is due.
 fn note<C: Clock, E: Write>(meter: &mut Meter, clock: &C, err: &mut E, count: usize) {
     meter.is_begun = true;
     meter.read = meter.read.saturating_add(count as u64);

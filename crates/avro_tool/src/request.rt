@@ -22,7 +22,7 @@ pub(crate) enum Request<'a> {
     },
     /// Whether several schemas read each other's data.
     History(History<'a>),
-    /// Whether a text declares a schema, what is asked of it, and whether the places of faults are told.
+    /// Whether a text declares a schema, what is asked of it, and whether the places of faults are reported.
     Schema {
         file: &'a str,
         shown: Shown,
@@ -96,7 +96,7 @@ impl<'a> Request<'a> {
         }
     }
 
-    /// Whether more than an error goes to the standard error.
+    /// Whether more than an error goes to standard error.
     pub(crate) fn is_told(&self) -> bool {
         match self {
             Request::Check { is_watched, .. } => *is_watched,
@@ -106,7 +106,7 @@ impl<'a> Request<'a> {
         }
     }
 
-    /// What is reported of a file that the standard output is.
+    /// What is reported of a file that standard output is.
     pub(crate) fn output_failure(&self, word: &'a str) -> Failure<'a> {
         match self {
             Request::Pipe(_) if word == STANDARD_INPUT => Failure::OneFile,
@@ -114,7 +114,7 @@ impl<'a> Request<'a> {
         }
     }
 
-    /// What is reported of a file that is read, and is to be written by another word.
+    /// What is reported of an input that is to be written by another word.
     pub(crate) fn read_failure(&self, word: &'a str, output: &'a str) -> Failure<'a> {
         match self {
             Request::Copy(asked) if word == asked.source => Failure::OneFile,
@@ -174,8 +174,8 @@ pub(crate) struct Explaining<'a> {
     pub(crate) form: Form,
 }
 
-/// Encoded data that are read, as what they are for a reader's schema if there is one, and how many bytes are passed
-/// over first.
+/// Encoded data that are read, resolved to a reader's schema if there is one, and how many bytes are
+/// skipped first.
 #[derive(Clone, Copy)]
 pub(crate) struct Reading<'a> {
     pub(crate) writer: &'a str,

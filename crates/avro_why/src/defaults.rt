@@ -1,8 +1,8 @@
-//! Defaults that are no data of their fields.
+//! Defaults that are not valid data of their fields.
 
 use crate::fault::Fault;
 use crate::nodes::{Node, NodeId};
-use crate::walk::{Default, Members, Walk};
+use crate::walk::{FieldDefault, Members, Walk};
 use serde_json::{Number, Value};
 use std::alloc::{AllocError, Global};
 
@@ -17,23 +17,26 @@ struct Fitting<'n, 'a> {
 }
 
 impl<'a> Walk<'a> {
-    /// Notes the defaults that are no data of their fields.
+    /// Notes the defaults that are not valid data of their fields.
     pub(crate) fn check_defaults(&mut self) -> Result<(), AllocError> {
         let misfits = misfits(self.alloc, &self.nodes, &self.defaults)?;
         for default in &misfits {
-            let title = self.title(default.node);
-            self.note(default.place, Fault::Default(title))?;
+            let fault = match self.nodes.get(default.node) {
+                Some(Node::Union(_)) => Fault::NoBranchFits,
+                _ => Fault::Default(self.title(default.node)),
+            };
+            self.note(default.place, fault)?;
         }
         Ok(())
     }
 }
 
-/// The defaults that are no data of their fields.
+/// The defaults that are not valid data of their fields.
 fn misfits<'a>(
     alloc: Global,
     nodes: &[Node<'a>],
-    defaults: &[Default<'a>],
-) -> Result<Vec<Default<'a>>, AllocError> {
+    defaults: &[FieldDefault<'a>],
+) -> Result<Vec<FieldDefault<'a>>, AllocError> {
     let mut fitting = Fitting { nodes, steps: 0 };
     let mut misfits = Vec::new(alloc);
     for default in defaults {

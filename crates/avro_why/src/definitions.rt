@@ -14,59 +14,92 @@ use std::collections::BTreeMap;
 /// What a list of texts must be.
 const TEXTS: &str = "an array of strings";
 
+/// A definition whose name was read: its node, its name, and the namespace of what is inside.
+#[derive(Clone, Copy)]
+pub(crate) struct Begun<'a> {
+    pub(crate) id: NodeId,
+    pub(crate) name: Option<Name<'a>>,
+    pub(crate) inner: Option<Space<'a>>,
+}
+
 impl<'a> Walk<'a> {
     /// Begins a definition: its node, its name, and the namespace of what is inside.
     pub(crate) fn begin(
         &mut self,
         members: &'a Members,
-        enclosing: Space<'a>,
+        enclosing: Option<Space<'a>>,
         place: PlaceId,
-    ) -> Result<(NodeId, Name<'a>, Space<'a>), AllocError> {
+    ) -> Result<Begun<'a>, AllocError> {
         self.count_node(place)?;
         let written = self.text(members, "name", place)?;
-        let text = written.unwrap_or("");
-        let around = self.space_of(members, text, enclosing, place)?;
-        let (space, simple) = self.names.split(text, around)?;
-        let name = Name {
-            space: space.text,
-            simple,
+        let inner = self.space_of(members, written.unwrap_or(""), enclosing, place)?;
+        let id = self.add(Node::Unknown)?;
+        let name = match written {
+            Some(text) => self.read_name(text, inner, id, place)?,
+            None => None,
         };
-        let id = self.add(Node::Record(name, None))?;
-        if written.is_some() {
-            let at = self.places.member(place, "name")?;
-            if self.is_full_name(text, at)? {
-                self.define(space, name, id, place)?;
-            }
-        }
+        self.set(id, Node::Record(name, None));
         self.read_type_aliases(members, place)?;
-        Ok((id, name, space))
+        Ok(Begun { id, name, inner })
     }
 
-    /// The namespace around a definition's name. Where the name has a dot, it is not looked at.
+    /// The name of a definition, which it defines. There is none if it is refused, or if its namespace is unknown.
+    fn read_name(
+        &mut self,
+        text: &'a str,
+        space: Option<Space<'a>>,
+        id: NodeId,
+        place: PlaceId,
+    ) -> Result<Option<Name<'a>>, AllocError> {
+        let at = self.places.member(place, "name")?;
+        if !self.is_full_name(text, at)? {
+            return Ok(None);
+        }
+        let Some(space) = space else {
+            return Ok(None);
+        };
+        let name = Name {
+            space: space.text,
+            simple: simple_part(text),
+        };
+        self.define(space, name, id, place)?;
+        Ok(Some(name))
+    }
+
+    /// The namespace of a definition, which is unknown if it is refused. If the name has a dot, `namespace` is ignored.
     fn space_of(
         &mut self,
         members: &'a Members,
-        name: &str,
-        enclosing: Space<'a>,
+        name: &'a str,
+        enclosing: Option<Space<'a>>,
         place: PlaceId,
-    ) -> Result<Space<'a>, AllocError> {
-        if name.contains('.') || !members.contains_key("namespace") {
+    ) -> Result<Option<Space<'a>>, AllocError> {
+        if let Some((space, _)) = name.rsplit_once('.') {
+            return self.valid_space(space);
+        }
+        if !members.contains_key("namespace") {
             return Ok(enclosing);
         }
         let Some(text) = self.text(members, "namespace", place)? else {
-            return Ok(enclosing);
+            return Ok(None);
         };
+        let space = self.valid_space(text)?;
+        if space.is_none() {
+            self.note_member(place, "namespace", Fault::NoName(text))?;
+        }
+        Ok(space)
+    }
+
+    /// The namespace of a text, if it is valid.
+    fn valid_space(&mut self, text: &'a str) -> Result<Option<Space<'a>>, AllocError> {
         match Namespace::read(self.alloc, text) {
-            Ok(_) => self.names.space(text),
+            Ok(_) => Ok(Some(self.names.space(text)?)),
             Err(NameError::OutOfMemory) => Err(AllocError),
-            Err(_) => {
-                self.note_member(place, "namespace", Fault::NoName(text))?;
-                Ok(enclosing)
-            }
+            Err(_) => Ok(None),
         }
     }
 
-    /// Defines a name, unless it is defined before.
+    /// Defines a name. A duplicate is noted.
     fn define(
         &mut self,
         space: Space<'a>,
@@ -82,7 +115,7 @@ impl<'a> Walk<'a> {
         }
     }
 
-    /// Whether a text is a fullname. What it is else is noted.
+    /// Whether a text is a valid fullname. What is wrong with it is noted.
     pub(crate) fn is_full_name(
         &mut self,
         text: &'a str,
@@ -92,8 +125,7 @@ impl<'a> Walk<'a> {
             Ok(_) => return Ok(true),
             Err(NameError::OutOfMemory) => return Err(AllocError),
             Err(NameError::PrimitiveName) => {
-                let simple = text.rsplit_once('.').map_or(text, |parts| parts.1);
-                self.note(place, Fault::PrimitiveName(simple))?;
+                self.note(place, Fault::PrimitiveName(simple_part(text)))?;
             }
             Err(NameError::EmptyPart | NameError::BadCharacter) => {
                 self.note(place, Fault::NoName(text))?;
@@ -102,7 +134,7 @@ impl<'a> Walk<'a> {
         Ok(false)
     }
 
-    /// Whether a text is a simple name. That it is none is noted.
+    /// Whether a text is a valid simple name. If not, that is noted.
     fn is_simple_name(&mut self, text: &'a str, place: PlaceId) -> Result<bool, AllocError> {
         if is_simple_name(text) {
             return Ok(true);
@@ -111,7 +143,7 @@ impl<'a> Walk<'a> {
         Ok(false)
     }
 
-    /// The texts of a list with their places; none where an item is no text, which is noted.
+    /// The texts of a list with their places; none if an item is another value, which is noted.
     fn texts(
         &mut self,
         items: &'a Vec<Value>,
@@ -146,7 +178,7 @@ impl<'a> Walk<'a> {
         Ok(())
     }
 
-    /// The name of a field, if it is one. `seen` has the names and aliases of the fields before it.
+    /// The name of a field, if it has one. `seen` has the names and aliases of the fields before it.
     pub(crate) fn read_field_names(
         &mut self,
         members: &'a Members,
@@ -167,7 +199,7 @@ impl<'a> Walk<'a> {
         Ok(name)
     }
 
-    /// Notes a name or an alias of a field that is no name, or that is there before.
+    /// Notes a name or an alias of a field that is not valid, or a duplicate.
     fn read_field_name(
         &mut self,
         name: &'a str,
@@ -190,10 +222,10 @@ impl<'a> Walk<'a> {
     pub(crate) fn read_enum(
         &mut self,
         members: &'a Members,
-        space: Space<'a>,
+        space: Option<Space<'a>>,
         place: PlaceId,
     ) -> Result<NodeId, AllocError> {
-        let (id, name, _) = self.begin(members, space, place)?;
+        let Begun { id, name, .. } = self.begin(members, space, place)?;
         if !members.contains_key("symbols") {
             self.note(place, Fault::Missing("symbols"))?;
         }
@@ -206,14 +238,14 @@ impl<'a> Walk<'a> {
         Ok(id)
     }
 
-    /// The symbols of an enum with their places, unless an item is no text.
+    /// The symbols of an enum with their places, unless an item is another value.
     fn read_symbols(
         &mut self,
         items: &'a Vec<Value>,
         around: PlaceId,
     ) -> Result<Option<BTreeMap<&'a str, PlaceId>>, AllocError> {
         if items.is_empty() {
-            self.note_member(around, "symbols", Fault::NoSymbol)?;
+            self.note_member(around, "symbols", Fault::NoSymbols)?;
         }
         let texts = self.texts(items, "symbols", around)?;
         let mut seen = BTreeMap::new(self.alloc);
@@ -233,24 +265,21 @@ impl<'a> Walk<'a> {
         })
     }
 
-    /// Notes a default of an enum that is none of its symbols.
+    /// Notes a default of an enum that is not a string, or not one of its symbols if these are known.
     fn check_symbol(
         &mut self,
         members: &'a Members,
         symbols: &Option<BTreeMap<&'a str, PlaceId>>,
         place: PlaceId,
     ) -> Result<(), AllocError> {
-        let Some(symbols) = symbols else {
-            return Ok(());
-        };
-        match members.get("default") {
-            Some(Value::String(text)) => {
+        match (members.get("default"), symbols) {
+            (Some(Value::String(text)), Some(symbols)) => {
                 if !symbols.contains_key(text.as_str()) {
                     self.note_member(place, "default", Fault::NoSuchSymbol)?;
                 }
             }
-            Some(_) => self.note_must(place, "default", "a string")?,
-            None => {}
+            (None | Some(Value::String(_)), _) => {}
+            (Some(_), _) => self.note_must(place, "default", "a string")?,
         }
         Ok(())
     }
@@ -259,10 +288,10 @@ impl<'a> Walk<'a> {
     pub(crate) fn read_fixed(
         &mut self,
         members: &'a Members,
-        space: Space<'a>,
+        space: Option<Space<'a>>,
         place: PlaceId,
     ) -> Result<NodeId, AllocError> {
-        let (id, name, _) = self.begin(members, space, place)?;
+        let Begun { id, name, .. } = self.begin(members, space, place)?;
         let size = self.read_size(members, place)?;
         self.set(id, Node::Fixed(name, size));
         Ok(id)
@@ -283,7 +312,7 @@ impl<'a> Walk<'a> {
                 Ok(size)
             }
             Some(_) => {
-                self.note_must(place, "size", "a whole number")?;
+                self.note_must(place, "size", "an integer")?;
                 Ok(None)
             }
             None => {
@@ -292,4 +321,9 @@ impl<'a> Walk<'a> {
             }
         }
     }
+}
+
+/// The part of a name after its last dot.
+fn simple_part(name: &str) -> &str {
+    name.rsplit_once('.').map_or(name, |parts| parts.1)
 }

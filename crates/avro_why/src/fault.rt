@@ -5,43 +5,47 @@ use crate::places::PlaceId;
 /// What is wrong with a value.
 #[derive(Clone, Copy)]
 pub(crate) enum Fault<'a> {
-    /// A name that is not defined before.
+    /// A reference to a type that is not defined before it.
     Undefined(Name<'a>),
-    /// A name that is defined before, at a place.
+    /// A definition of a name that is defined already, at a place.
     Defined(Name<'a>, PlaceId),
-    /// A text that is no name.
+    /// A name that is not valid.
     NoName(&'a str),
     /// A name that is that of a primitive type.
     PrimitiveName(&'a str),
-    /// An attribute that is missing.
+    /// A missing attribute.
     Missing(&'a str),
-    /// An attribute that is not what it must be.
+    /// What a registry answers, which has the schema as a string.
+    Answer,
+    /// An attribute that must be something else.
     Must(&'a str, &'static str),
-    /// JSON that is no type.
+    /// JSON that is not a type.
     NoType,
-    /// JSON that is no field.
+    /// JSON that is not a field.
     NoField,
     /// A union without branches.
-    NoBranch,
+    EmptyUnion,
     /// A union in a union.
     UnionInUnion,
-    /// A branch that is there before, at a place.
+    /// A duplicate branch, the first of which is at a place.
     Branch(Title<'a>, PlaceId),
     /// An enum without symbols.
-    NoSymbol,
-    /// A symbol that is there before, at a place.
+    NoSymbols,
+    /// A duplicate symbol, the first of which is at a place.
     Symbol(&'a str, PlaceId),
-    /// A default that is none of the symbols.
+    /// A default that is not one of the symbols.
     NoSuchSymbol,
     /// A name or an alias that another field has, at a place.
     FieldName(&'a str, PlaceId),
-    /// A default that is not a datum of this type.
+    /// A default that is not valid for a type.
     Default(Title<'a>),
-    /// A type that is left out.
+    /// A default that matches no branch of a union.
+    NoBranchFits,
+    /// A type that is not supported.
     Unsupported(&'static str),
-    /// A number that is not a whole number of 64 bits.
-    NotWhole,
-    /// A node past the limit.
+    /// A number that is not a 64-bit integer.
+    NotInteger,
+    /// The first node past the limit.
     TooMany,
     /// The size of a fixed past its limit.
     Size,

@@ -35,16 +35,16 @@ pub(crate) fn json_fault(alloc: Global, text: &[u8]) -> Result<Option<JsonFault>
 {
     let beginning = Position::BEGINNING;
     if text.starts_with(b"Obj\x01") {
-        let words = "this is a container file: 'avro header FILE' prints its schema";
+        let words = "a container file, not a schema: 'avro header FILE' prints its schema";
         return Ok(Some(JsonFault::at(beginning, words)));
     }
     if text.starts_with(b"\xef\xbb\xbf") {
-        let words = "the text begins with a byte order mark";
+        let words = "starts with a byte order mark";
         return Ok(Some(JsonFault::at(beginning, words)));
     }
     if let Err(end) = text_of(text) {
         let position = position_at(text, end);
-        return Ok(Some(JsonFault::at(position, "the bytes are not UTF-8")));
+        return Ok(Some(JsonFault::at(position, "not UTF-8")));
     }
     syntax_fault(alloc, text)
 }
@@ -64,7 +64,7 @@ fn syntax_fault(alloc: Global, text: &[u8]) -> Result<Option<JsonFault>, AllocEr
                 JsonFault {
                     line: error.line().max(1),
                     column: error.column().max(1),
-                    words: "this is not JSON",
+                    words: "invalid JSON",
                 },
             )))
         }
@@ -82,7 +82,7 @@ fn nested_or(text: &[u8], fault: JsonFault) -> JsonFault
     if (fault.line, fault.column) < (position.line, position.column) {
         return fault;
     }
-    JsonFault::at(position, "this is nested more than 127 levels deep")
+    JsonFault::at(position, "nested more than 127 levels deep")
 }
 
 /// Where the first level past the limit begins.

@@ -2,7 +2,7 @@
 //!
 //! [`find_reasons`] looks at a refused text a second time. It walks through the tree that `serde_json` reads, goes on after
 //! each fault, and finds the places of all of them in the text by one scan. A [`Reason`] has the line and the column of a
-//! value, its JSON pointer, and words.
+//! value, its JSON pointer, and words, each at most a few hundred bytes long.
 #![tactic(auto)]
 
 mod defaults;
@@ -16,6 +16,7 @@ mod offsets;
 mod places;
 mod position;
 mod reasons;
+mod shortened;
 mod types;
 mod walk;
 mod words;

@@ -55,14 +55,14 @@ impl<'a> Names<'a> {
         Ok(Space { text, number })
     }
 
-    /// The namespace and the simple part of a name that is written where a namespace encloses it.
+    /// The namespace and the simple part of a name where a namespace encloses it, which may be unknown.
     pub(crate) fn split(
         &mut self,
         text: &'a str,
-        enclosing: Space<'a>,
-    ) -> Result<(Space<'a>, &'a str), AllocError> {
+        enclosing: Option<Space<'a>>,
+    ) -> Result<(Option<Space<'a>>, &'a str), AllocError> {
         match text.rsplit_once('.') {
-            Some((space, simple)) => Ok((self.space(space)?, simple)),
+            Some((space, simple)) => Ok((Some(self.space(space)?), simple)),
             None => Ok((enclosing, text)),
         }
     }

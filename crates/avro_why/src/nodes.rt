@@ -6,7 +6,7 @@ use std::collections::BTreeMap;
 /// The number of a node.
 pub(crate) type NodeId = usize;
 
-/// A type. What is wrong with a part of it makes that part unknown.
+/// A type. A part with a fault is unknown, and a name too that is missing or refused.
 #[derive(Drop)]
 pub(crate) enum Node<'a> {
     Unknown,
@@ -20,11 +20,11 @@ pub(crate) enum Node<'a> {
     Map(NodeId),
     Union(Vec<NodeId>),
     /// A record with its fields.
-    Record(Name<'a>, Option<BTreeMap<&'a str, NodeId>>),
+    Record(Option<Name<'a>>, Option<BTreeMap<&'a str, NodeId>>),
     /// An enum with its symbols.
-    Enum(Name<'a>, Option<BTreeMap<&'a str, usize>>),
+    Enum(Option<Name<'a>>, Option<BTreeMap<&'a str, usize>>),
     /// A fixed with its size.
-    Fixed(Name<'a>, Option<u64>),
+    Fixed(Option<Name<'a>>, Option<u64>),
 }
 
 /// What a node is called.
@@ -47,14 +47,14 @@ impl<'a> Node<'a> {
             Node::Str => Title::Kind("string"),
             Node::Array(_) => Title::Kind("array"),
             Node::Map(_) => Title::Kind("map"),
-            Node::Union(_) => Title::Kind("any branch"),
-            Node::Record(name, _) => Title::Name(*name),
-            Node::Enum(name, _) => Title::Name(*name),
-            Node::Fixed(name, _) => Title::Name(*name),
+            Node::Union(_) => Title::Kind("union"),
+            Node::Record(name, _) => name_or(*name, "record"),
+            Node::Enum(name, _) => name_or(*name, "enum"),
+            Node::Fixed(name, _) => name_or(*name, "fixed"),
         }
     }
 
-    /// A number that two branches of a union have alike where they may not stand beside each other.
+    /// A number that is the same for two branches that a union cannot both have.
     pub(crate) fn branch_code(&self, id: NodeId) -> Option<usize> {
         match self {
             Node::Unknown | Node::Union(_) => None,
@@ -73,6 +73,14 @@ impl<'a> Node<'a> {
     }
 }
 
+/// The name of a definition, or its kind if it has none.
+fn name_or<'a>(name: Option<Name<'a>>, kind: &'static str) -> Title<'a> {
+    match name {
+        Some(name) => Title::Name(name),
+        None => Title::Kind(kind),
+    }
+}
+
 /// The primitive type that a word names.
 pub(crate) fn primitive<'a>(word: &str) -> Option<Node<'a>> {
     match word {
@@ -86,8 +94,8 @@ pub(crate) fn primitive<'a>(word: &str) -> Option<Node<'a>> {
     }
 }
 
-/// The primitive type that a word names, if it is left out.
-pub(crate) fn left_out(word: &str) -> Option<&'static str> {
+/// The primitive type that a word names, if it is not supported.
+pub(crate) fn unsupported(word: &str) -> Option<&'static str> {
     match word {
         "float" => Some("float"),
         "double" => Some("double"),

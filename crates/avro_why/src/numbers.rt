@@ -7,7 +7,7 @@ use serde_json::Value;
 use std::alloc::AllocError;
 
 impl<'a> Walk<'a> {
-    /// Notes each number in a tree that is not a whole number of 64 bits.
+    /// Notes each number in a tree that is not a 64-bit integer.
     #[cycle(numbers)]
     pub(crate) fn read_numbers(
         &mut self,
@@ -18,7 +18,7 @@ impl<'a> Walk<'a> {
             Value::Null | Value::Bool(_) | Value::String(_) => Ok(()),
             Value::Number(number) => {
                 if number.is_f64() {
-                    self.note(place, Fault::NotWhole)?;
+                    self.note(place, Fault::NotInteger)?;
                 }
                 Ok(())
             }

@@ -1,6 +1,7 @@
 //! The places of values in a tree.
 
-use crate::words::put_escaped;
+use crate::shortened::shortened;
+use crate::words::escaped;
 use std::alloc::{AllocError, Global};
 use std::collections::BTreeMap;
 
@@ -112,8 +113,8 @@ impl<'a> Places<'a> {
         Ok(steps)
     }
 
-    /// The JSON pointer of a place (RFC 6901), and `/` for the whole. Where a key needs it, it is written as in a JSON
-    /// string (section 5), so that it stays in its line.
+    /// The JSON pointer of a place (RFC 6901), which is empty for the whole. Keys are escaped as in a JSON string
+    /// (section 5), so that it stays in its line, and a long pointer is cut in the middle.
     pub(crate) fn pointer(&self, alloc: Global, place: PlaceId) -> Result<String, AllocError> {
         let mut pointer = String::new(alloc);
         let steps = self.steps_to(alloc, place)?;
@@ -124,17 +125,13 @@ impl<'a> Places<'a> {
                 Step::Item(index) => pointer.push_str(index.to_string(alloc)?.as_str())?,
             }
         }
-        if pointer.is_empty() {
-            pointer.push('/')?;
-        }
-        Ok(pointer)
+        shortened(alloc, pointer)
     }
 }
 
 /// Puts a key of a pointer (RFC 6901, section 3).
 fn put_key(alloc: Global, pointer: &mut String, key: &str) -> Result<(), AllocError> {
-    let mut escaped = String::new(alloc);
-    put_escaped(alloc, &mut escaped, key)?;
+    let escaped = escaped(alloc, key)?;
     for character in escaped.chars() {
         match character {
             '~' => pointer.push_str("~0")?,

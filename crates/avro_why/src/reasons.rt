@@ -23,7 +23,8 @@ pub struct Reason {
     pub line: usize,
     /// The column in bytes, counted from 1.
     pub column: usize,
-    /// The JSON pointer of the value (RFC 6901), and `/` for the whole; none where there is no JSON.
+    /// The JSON pointer of the value (RFC 6901), which is empty for the whole text; none if the text is not JSON or too
+    /// long. A pointer of more than 200 bytes is cut in the middle, and so is a name in the words.
     pub pointer: Option<String>,
     /// What is wrong there.
     pub words: String,
@@ -53,7 +54,7 @@ pub fn find_reasons(
     ensures placed { IfOk result (λ r. ArePlaced text.now r.first.items) }
 {
     if text.len() > MAX_TEXT {
-        let words = "the text has more than 1048576 bytes";
+        let words = "more than 1048576 bytes";
         return reasons_without_json(alloc, Some(JsonFault::at(Position::BEGINNING, words)));
     }
     if error == SchemaError::NotJson {
@@ -94,18 +95,22 @@ fn reasons_in_tree(
     ensures { IfOk result (λ r. ArePlaced text.now r.first.items) }
 {
     let mut walk = Walk::new(alloc)?;
-    // Other errors are found in trees of whole numbers alone.
+    // Other errors are found only in trees of integers.
     if error == SchemaError::UnsupportedNumber {
         walk.read_numbers(tree, WHOLE)?;
     }
     let null = walk.names.space("")?;
-    walk.read_type(tree, null, WHOLE)?;
+    walk.read_type(tree, Some(null), WHOLE)?;
     walk.check_defaults()?;
-    told(alloc, text, &walk, limit)
+    first_reasons(alloc, text, &walk, limit)
 }
 
 /// The faults of a walk, by the offsets of their places.
-fn ordered(alloc: Global, text: &[u8], walk: &Walk<'_>) -> Result<Vec<(usize, usize)>, AllocError> {
+fn by_offset(
+    alloc: Global,
+    text: &[u8],
+    walk: &Walk<'_>,
+) -> Result<Vec<(usize, usize)>, AllocError> {
     let offsets = offsets_of(alloc, text, &walk.places)?;
     let mut order = Vec::new(alloc);
     for (index, (place, _)) in walk.faults.iter().enumerate() {
@@ -118,11 +123,16 @@ fn ordered(alloc: Global, text: &[u8], walk: &Walk<'_>) -> Result<Vec<(usize, us
 }
 
 /// The first faults of a walk.
-fn told(alloc: Global, text: &[u8], walk: &Walk<'_>, limit: usize) -> Result<Reasons, AllocError>
+fn first_reasons(
+    alloc: Global,
+    text: &[u8],
+    walk: &Walk<'_>,
+    limit: usize,
+) -> Result<Reasons, AllocError>
     requires small { length text.now ≤ 1048576 }
     ensures { IfOk result (λ r. ArePlaced text.now r.first.items) }
 {
-    let order = ordered(alloc, text, walk)?;
+    let order = by_offset(alloc, text, walk)?;
     let mut first = Vec::new(alloc);
     for (offset, index) in order.iter().take(limit) {
         if let Some((place, fault)) = walk.faults.get(*index) {

@@ -1,21 +1,22 @@
 //! Types, in the order in which a schema is read.
 
+use crate::definitions::Begun;
 use crate::fault::Fault;
 use crate::names::{Name, Space};
-use crate::nodes::{Node, NodeId, left_out, primitive};
-use crate::places::PlaceId;
-use crate::walk::{Default, Members, UNKNOWN, Walk};
+use crate::nodes::{Node, NodeId, primitive, unsupported};
+use crate::places::{PlaceId, WHOLE};
+use crate::walk::{FieldDefault, Members, UNKNOWN, Walk};
 use serde_json::Value;
 use std::alloc::AllocError;
 use std::collections::BTreeMap;
 
 impl<'a> Walk<'a> {
-    /// The type that a tree declares at a place, where a namespace encloses it.
+    /// The type that a tree declares at a place. The namespace that encloses it may be unknown.
     #[cycle(types)]
     pub(crate) fn read_type(
         &mut self,
         tree: &'a Value,
-        space: Space<'a>,
+        space: Option<Space<'a>>,
         place: PlaceId,
     ) -> Result<NodeId, AllocError> {
         match tree {
@@ -34,12 +35,12 @@ impl<'a> Walk<'a> {
     fn read_union(
         &mut self,
         branches: &'a Vec<Value>,
-        space: Space<'a>,
+        space: Option<Space<'a>>,
         place: PlaceId,
     ) -> Result<NodeId, AllocError> {
         self.count_node(place)?;
         if branches.is_empty() {
-            self.note(place, Fault::NoBranch)?;
+            self.note(place, Fault::EmptyUnion)?;
         }
         let mut ids = Vec::new(self.alloc);
         let mut seen = BTreeMap::new(self.alloc);
@@ -57,9 +58,13 @@ impl<'a> Walk<'a> {
     fn read_object(
         &mut self,
         members: &'a Members,
-        space: Space<'a>,
+        space: Option<Space<'a>>,
         place: PlaceId,
     ) -> Result<NodeId, AllocError> {
+        if is_answer(members, place) {
+            self.note(place, Fault::Answer)?;
+            return Ok(UNKNOWN);
+        }
         let Some(word) = self.text(members, "type", place)? else {
             return Ok(UNKNOWN);
         };
@@ -92,7 +97,7 @@ impl<'a> Walk<'a> {
         &mut self,
         members: &'a Members,
         key: &'a str,
-        space: Space<'a>,
+        space: Option<Space<'a>>,
         place: PlaceId,
     ) -> Result<NodeId, AllocError> {
         self.count_node(place)?;
@@ -113,10 +118,10 @@ impl<'a> Walk<'a> {
     fn read_record(
         &mut self,
         members: &'a Members,
-        space: Space<'a>,
+        space: Option<Space<'a>>,
         place: PlaceId,
     ) -> Result<NodeId, AllocError> {
-        let (id, name, inner) = self.begin(members, space, place)?;
+        let Begun { id, name, inner } = self.begin(members, space, place)?;
         match members.get("fields") {
             Some(Value::Array(items)) => {
                 let at = self.places.member(place, "fields")?;
@@ -134,7 +139,7 @@ impl<'a> Walk<'a> {
     fn read_fields(
         &mut self,
         items: &'a Vec<Value>,
-        space: Space<'a>,
+        space: Option<Space<'a>>,
         place: PlaceId,
     ) -> Result<Option<BTreeMap<&'a str, NodeId>>, AllocError> {
         let mut fields = BTreeMap::new(self.alloc);
@@ -157,7 +162,7 @@ impl<'a> Walk<'a> {
     fn read_field(
         &mut self,
         item: &'a Value,
-        space: Space<'a>,
+        space: Option<Space<'a>>,
         place: PlaceId,
         seen: &mut BTreeMap<&'a str, PlaceId>,
     ) -> Result<Option<(&'a str, NodeId)>, AllocError> {
@@ -189,12 +194,12 @@ impl<'a> Walk<'a> {
     ) -> Result<(), AllocError> {
         if let Some(value) = members.get("default") {
             let place = self.places.member(place, "default")?;
-            self.defaults.push(Default { value, node, place })?;
+            self.defaults.push(FieldDefault { value, node, place })?;
         }
         Ok(())
     }
 
-    /// Notes a branch that is a union, or that is there before.
+    /// Notes a branch that is a union, or a duplicate.
     fn note_branch(
         &mut self,
         seen: &mut BTreeMap<usize, PlaceId>,
@@ -223,14 +228,14 @@ impl<'a> Walk<'a> {
     fn read_word(
         &mut self,
         word: &'a str,
-        space: Space<'a>,
+        space: Option<Space<'a>>,
         place: PlaceId,
     ) -> Result<NodeId, AllocError> {
         if let Some(node) = primitive(word) {
             self.count_node(place)?;
             return self.add(node);
         }
-        if let Some(kind) = left_out(word) {
+        if let Some(kind) = unsupported(word) {
             self.count_node(place)?;
             self.note(place, Fault::Unsupported(kind))?;
             return Ok(UNKNOWN);
@@ -238,17 +243,19 @@ impl<'a> Walk<'a> {
         self.read_reference(word, space, place)
     }
 
-    /// The definition that a word refers to.
+    /// The definition that a word refers to, if the namespace around it is known.
     fn read_reference(
         &mut self,
         word: &'a str,
-        space: Space<'a>,
+        space: Option<Space<'a>>,
         place: PlaceId,
     ) -> Result<NodeId, AllocError> {
         if !self.is_full_name(word, place)? {
             return Ok(UNKNOWN);
         }
-        let (space, simple) = self.names.split(word, space)?;
+        let (Some(space), simple) = self.names.split(word, space)? else {
+            return Ok(UNKNOWN);
+        };
         if let Some(definition) = self.names.find(space, simple) {
             return Ok(definition.node);
         }
@@ -259,4 +266,11 @@ impl<'a> Walk<'a> {
         self.note(place, Fault::Undefined(name))?;
         Ok(UNKNOWN)
     }
+}
+
+/// Whether the whole text is what a registry answers: an object with the schema as a string.
+fn is_answer(members: &Members, place: PlaceId) -> bool {
+    place == WHOLE
+        && !members.contains_key("type")
+        && matches!(members.get("schema"), Some(Value::String(_)))
 }

@@ -14,7 +14,7 @@ pub(crate) const UNKNOWN: NodeId = 0;
 
 /// A default, the type of its field, and its place.
 #[derive(Clone, Copy)]
-pub(crate) struct Default<'a> {
+pub(crate) struct FieldDefault<'a> {
     pub(crate) value: &'a Value,
     pub(crate) node: NodeId,
     pub(crate) place: PlaceId,
@@ -28,13 +28,13 @@ pub(crate) struct Walk<'a> {
     pub(crate) faults: Vec<(PlaceId, Fault<'a>)>,
     pub(crate) nodes: Vec<Node<'a>>,
     pub(crate) names: Names<'a>,
-    pub(crate) defaults: Vec<Default<'a>>,
+    pub(crate) defaults: Vec<FieldDefault<'a>>,
     // how many nodes the schema has so far
     count: usize,
 }
 
 impl<'a> Walk<'a> {
-    /// A walk that has not begun.
+    /// A walk before its first step.
     pub(crate) fn new(alloc: Global) -> Result<Walk<'a>, AllocError> {
         let mut nodes = Vec::new(alloc);
         nodes.push(Node::Unknown)?;
@@ -97,7 +97,7 @@ impl<'a> Walk<'a> {
         }
     }
 
-    /// The text under a key. That it is missing or no text is noted.
+    /// The text of a member. A missing one, or another value, is noted.
     pub(crate) fn text(
         &mut self,
         members: &'a Members,
@@ -116,7 +116,7 @@ impl<'a> Walk<'a> {
         Ok(None)
     }
 
-    /// Notes that the member of a key must be something else.
+    /// Notes that a member must be something else.
     pub(crate) fn note_must(
         &mut self,
         around: PlaceId,
@@ -127,7 +127,7 @@ impl<'a> Walk<'a> {
         self.note(place, Fault::Must(key, what))
     }
 
-    /// The items under a key, if it is there. That they are no array is noted, with what it must be.
+    /// The items of a member, if it is there. Another value is noted, with what it must be.
     pub(crate) fn items(
         &mut self,
         members: &'a Members,

@@ -3,30 +3,40 @@
 use crate::fault::Fault;
 use crate::names::Name;
 use crate::nodes::Title;
-use crate::places::Places;
+use crate::places::{PlaceId, Places, WHOLE};
+use crate::shortened::{shortened, without_middle};
 use avro_cursor::text_of;
 use serde_json::Value;
 use std::alloc::{AllocError, Global};
 
-/// Puts a text as in a JSON string, without the quotes.
-pub(crate) fn put_escaped(alloc: Global, out: &mut String, text: &str) -> Result<(), AllocError> {
-    let quoted = quoted(alloc, text)?;
-    let inner = quoted.strip_prefix('"').unwrap_or("");
-    out.push_str(inner.strip_suffix('"').unwrap_or(""))
+/// A text as in a JSON string, without the quotes. A long one lacks what is cut in any case.
+pub(crate) fn escaped(alloc: Global, text: &str) -> Result<String, AllocError> {
+    let (head, tail) = without_middle(text);
+    let mut escaped = escaped_whole(alloc, head)?;
+    escaped.push_str(escaped_whole(alloc, tail)?.as_str())?;
+    Ok(escaped)
 }
 
-/// A text as a JSON string.
-fn quoted(alloc: Global, text: &str) -> Result<String, AllocError> {
-    Value::String(String::from_str(alloc, text)?).to_string(alloc)
+/// A text as in a JSON string, without the quotes.
+fn escaped_whole(alloc: Global, text: &str) -> Result<String, AllocError> {
+    let quoted = Value::String(String::from_str(alloc, text)?).to_string(alloc)?;
+    let inner = quoted.strip_prefix('"').unwrap_or("");
+    String::from_str(alloc, inner.strip_suffix('"').unwrap_or(""))
+}
+
+/// A text as it is printed: escaped, and cut if it is long.
+fn printable(alloc: Global, text: &str) -> Result<String, AllocError> {
+    shortened(alloc, escaped(alloc, text)?)
 }
 
 /// A name in full.
 fn full(alloc: Global, name: Name<'_>) -> Result<String, AllocError> {
     let Name { space, simple } = name;
     if space.is_empty() {
-        return String::from_str(alloc, simple);
+        return printable(alloc, simple);
     }
-    format!(in alloc; "{space}.{simple}")
+    let name = format!(in alloc; "{space}.{simple}")?;
+    printable(alloc, &name)
 }
 
 /// What a type is called.
@@ -35,6 +45,14 @@ fn called(alloc: Global, title: Title<'_>) -> Result<String, AllocError> {
         Title::Kind(kind) => String::from_str(alloc, kind),
         Title::Name(name) => full(alloc, name),
     }
+}
+
+/// A place by its pointer. The whole text, whose pointer is empty, is called the root.
+fn place_words(alloc: Global, places: &Places<'_>, place: PlaceId) -> Result<String, AllocError> {
+    if place == WHOLE {
+        return String::from_str(alloc, "the root");
+    }
+    places.pointer(alloc, place)
 }
 
 /// The number at an offset, as it is written.
@@ -59,60 +77,65 @@ pub(crate) fn words_of(
     fault: Fault<'_>,
 ) -> Result<String, AllocError> {
     match fault {
-        Fault::NotWhole => {
-            let number = number_at(text, offset);
-            format!(in alloc; "{number} is not a whole number of 64 bits")
+        Fault::NotInteger => {
+            let number = printable(alloc, number_at(text, offset))?;
+            format!(in alloc; "{number} is not a 64-bit integer")
         }
-        Fault::Defined(..) | Fault::Branch(..) | Fault::Symbol(..) | Fault::FieldName(..) => {
-            words_of_repeated(alloc, places, fault)
+        Fault::Defined(name, first) => {
+            let name = full(alloc, name)?;
+            let place = place_words(alloc, places, first)?;
+            format!(in alloc; "duplicate type {name}, first defined at {place}")
         }
+        Fault::Branch(..) | Fault::Symbol(..) | Fault::FieldName(..) => {
+            words_of_duplicate(alloc, places, fault)
+        }
+        other => words_of_name(alloc, other),
+    }
+}
+
+/// The words of a duplicate.
+fn words_of_duplicate(
+    alloc: Global,
+    places: &Places<'_>,
+    fault: Fault<'_>,
+) -> Result<String, AllocError> {
+    let (what, name, first) = match fault {
+        Fault::Branch(title, first) => ("branch", called(alloc, title)?, first),
+        Fault::Symbol(name, first) => ("symbol", printable(alloc, name)?, first),
+        Fault::FieldName(name, first) => ("field name", printable(alloc, name)?, first),
+        _ => return Ok(String::new(alloc)),
+    };
+    let place = place_words(alloc, places, first)?;
+    format!(in alloc; "duplicate {what} {name}, first at {place}")
+}
+
+/// The words of a fault that names a type.
+fn words_of_name(alloc: Global, fault: Fault<'_>) -> Result<String, AllocError> {
+    match fault {
         Fault::Undefined(name) => {
             let name = full(alloc, name)?;
-            format!(in alloc; "no type {name} is defined before this")
+            format!(in alloc; "unknown type {name} (a type must be defined before it is used)")
         }
         Fault::NoName(name) => {
-            let name = quoted(alloc, name)?;
-            format!(in alloc; "{name} is not a name")
+            let name = printable(alloc, name)?;
+            format!(in alloc; "\"{name}\" is not a valid name")
         }
         Fault::Default(title) => {
             let name = called(alloc, title)?;
-            format!(in alloc; "the default is not a datum of {name}")
+            format!(in alloc; "the default is not a valid {name}")
         }
         other => words_of_kind(alloc, other),
     }
 }
 
-/// The words of what is there before.
-fn words_of_repeated(
-    alloc: Global,
-    places: &Places<'_>,
-    fault: Fault<'_>,
-) -> Result<String, AllocError> {
-    let (name, what, before) = match fault {
-        Fault::Defined(name, before) => (full(alloc, name)?, "is defined before", before),
-        Fault::Branch(title, before) => (called(alloc, title)?, "is a branch before", before),
-        Fault::Symbol(name, before) => {
-            let name = String::from_str(alloc, name)?;
-            (name, "is a symbol before", before)
-        }
-        Fault::FieldName(name, before) => {
-            let name = String::from_str(alloc, name)?;
-            (name, "names a field before", before)
-        }
-        _ => return Ok(String::new(alloc)),
-    };
-    let place = places.pointer(alloc, before)?;
-    format!(in alloc; "{name} {what}, at {place}")
-}
-
-/// The words of a fault that names nothing, or an attribute or a kind of type.
+/// The words of a fault of an attribute or of a kind of type.
 fn words_of_kind(alloc: Global, fault: Fault<'_>) -> Result<String, AllocError> {
     match fault {
         Fault::PrimitiveName(name) => {
-            format!(in alloc; "{name} is the name of a primitive type")
+            format!(in alloc; "{name} is a primitive type and cannot be defined")
         }
-        Fault::Missing(key) => format!(in alloc; "there is no {key}"),
-        Fault::Must(key, what) => format!(in alloc; "{key} must be {what}"),
+        Fault::Missing(key) => format!(in alloc; "missing \"{key}\""),
+        Fault::Must(key, what) => format!(in alloc; "\"{key}\" must be {what}"),
         Fault::Unsupported(kind) => format!(in alloc; "{kind} is not supported"),
         other => String::from_str(alloc, fixed_words(other)),
     }
@@ -121,14 +144,18 @@ fn words_of_kind(alloc: Global, fault: Fault<'_>) -> Result<String, AllocError> 
 /// The words of a fault that are always the same; others have none here.
 fn fixed_words(fault: Fault<'_>) -> &'static str {
     match fault {
+        Fault::Answer => {
+            "missing \"type\" (a registry's answer? its schema is the string under \"schema\")"
+        }
         Fault::NoType => "a type must be a string, an object or an array",
         Fault::NoField => "a field must be an object",
-        Fault::NoBranch => "the union has no branch",
-        Fault::UnionInUnion => "a union is a branch of a union",
-        Fault::NoSymbol => "the enum has no symbol",
-        Fault::NoSuchSymbol => "the default is none of the symbols",
-        Fault::TooMany => "this is node 4097",
-        Fault::Size => "size must be 0 to 1048576",
+        Fault::EmptyUnion => "empty union",
+        Fault::UnionInUnion => "a union cannot be a branch of a union",
+        Fault::NoSymbols => "an enum needs at least one symbol",
+        Fault::NoSuchSymbol => "the default is not one of the symbols",
+        Fault::NoBranchFits => "the default matches no branch of the union",
+        Fault::TooMany => "more than 4096 nodes, counted from here",
+        Fault::Size => "\"size\" must be 0 to 1048576",
         _ => "",
     }
 }

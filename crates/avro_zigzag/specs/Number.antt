@@ -23,10 +23,11 @@ pub record AreGroups (most n : ℕ) (bytes : List ℕ) : Type 0 where
   pub value : groups_value bytes ≡ n
   pub few : length bytes ≤ most
 
--- the bytes spell the number v as a long, in at most 10 of them, or as an int, in at most 5; the last groups may be 0
+-- the bytes spell the number v as a long: its groups, at most 10, the last of which may be 0
 abbrev pub SpellsLong : ℤ → List ℕ → Type 0
 SpellsLong v bytes = AreGroups 10 (zigzag v) bytes
 
+-- the bytes spell the number v as an int: its groups, at most 5, the last of which may be 0
 abbrev pub SpellsInt : ℤ → List ℕ → Type 0
 SpellsInt v bytes = AreGroups 5 (zigzag v) bytes
 
@@ -52,9 +53,10 @@ groups_within (suc more) n = elim (nat_lt n 128) [
 abbrev pub number_bytes : ℤ → List ℕ
 number_bytes v = groups_within (zigzag v) (zigzag v)
 
--- 32 and 64 bits
+-- the number fits in 32 bits
 abbrev pub is_int : ℤ → Bool
 is_int v = int_le (negsuc (2 ^ 31 - 1)) v && int_le v (pos (2 ^ 31 - 1))
 
+-- the number fits in 64 bits
 abbrev pub is_long : ℤ → Bool
 is_long v = int_le (negsuc (2 ^ 63 - 1)) v && int_le v (pos (2 ^ 63 - 1))

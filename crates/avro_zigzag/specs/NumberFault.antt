@@ -24,7 +24,7 @@ LongFails = NumberFails 10 1
 abbrev pub IntFails : List ℕ → VarError → Type 0
 IntFails = NumberFails 5 15
 
--- the code of an error
+-- the code of an error, Z1 to Z3
 abbrev pub number_code : VarError → List ℕ
 number_code EndOfInput = codes "Z1"
 number_code NotShortest = codes "Z2"

@@ -65,7 +65,7 @@ fn read_each_group(bytes: &[u8], most: usize, top: u8) -> Result<(u64, usize), V
     Err(VarError::EndOfInput)
 }
 
-/// Reads the long at the start of `bytes`; returns it and the number of bytes it takes.
+/// Reads the long at the start of `bytes`, padded or not; returns it and the number of bytes it takes.
 ///
 /// Avro 1.11, "Binary Encoding", "Primitive Types": zig-zag, then groups of seven bits, least significant first. The
 /// number may be padded with groups of 0, up to ten bytes in all.
@@ -86,7 +86,7 @@ pub fn read_long(bytes: &[u8]) -> Result<(i64, usize), VarError>
     Ok((from_zigzag(number), len))
 }
 
-/// Reads the int at the start of `bytes`; returns it and the number of bytes it takes.
+/// Reads the int at the start of `bytes`, padded or not; returns it and the number of bytes it takes.
 ///
 /// Avro 1.11, "Binary Encoding", "Primitive Types": zig-zag, then groups of seven bits, least significant first. The
 /// number may be padded with groups of 0, up to five bytes in all.

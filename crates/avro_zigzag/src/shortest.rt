@@ -3,7 +3,8 @@
 ghost use Rattle.std.specs.Prelude.{◌≡◌, ℕ, ℤ, true, List, ◌++◌};
 ghost use Rattle.avro_zigzag.specs.Number.{zigzag, are_groups, groups_value, AreGroups, AreLeastGroups, IsShortest};
 
-/// Whether the number at the start of `bytes` is in its shortest encoding, the one that `write_long` writes.
+/// Whether the number at the start of `bytes` is in its shortest encoding, the one that `write_long` writes. No clause says that a
+/// shortest one is found to be so: a copy is then only slower.
 ///
 /// Most numbers take one byte: this case is inlined.
 #[inline(always)]

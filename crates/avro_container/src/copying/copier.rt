@@ -86,11 +86,12 @@ impl<'a> Copier<'a> {
     }
 
     /// Reads the header or the next block, and puts its copy. Once the input has reported its end, each later step returns the
-    /// end.
+    /// end. What is held between steps is bounded by the limits.
     ///
     /// # Errors
     ///
-    /// The first fault of the part; `InputFailed`, `OutputFailed`, `OutOfMemory`. After an error, `FailedBefore`.
+    /// The first fault of the part, of which nothing was put then; `InputFailed`, `OutputFailed`, `OutOfMemory`, where a prefix of the
+    /// part's copy may have been put. After an error, `FailedBefore`, which leaves both devices as they were.
     pub fn step<I: Input, O: Output>(
         &mut self,
         input: &mut I,

@@ -61,7 +61,7 @@ impl<'a> Checker<'a> {
         }
     }
 
-    /// Reads the data of a block as data of the header's schema, as [`Block::check`] does.
+    /// Reads the data of a block as data of the header's schema, as [`Block::check`] does. A datum without bytes is read once for all blocks.
     ///
     /// # Errors
     ///

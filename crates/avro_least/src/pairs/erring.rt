@@ -11,11 +11,12 @@ use crate::pairs::near::index_near;
 use crate::pairs::reaching::number;
 use crate::queue::entry_at;
 use avro_schema::NodeId;
+use avro_texts::Seeded;
 use indexmap::IndexSet;
 
 /// The entry of a pair, given its number, which is looked for at the index `near` first.
 fn numbered_entry(
-    known: &IndexSet<u64>,
+    known: &IndexSet<u64, Seeded>,
     entries: &[Option<Least>],
     key: u64,
     near: usize,
@@ -31,7 +32,7 @@ fn numbered_entry(
 /// The entry of a pair whose writer's node has data.
 fn live_entry(
     count: u32,
-    known: &IndexSet<u64>,
+    known: &IndexSet<u64, Seeded>,
     entries: &[Option<Least>],
     w: NodeId,
     r: NodeId,
@@ -51,7 +52,7 @@ fn live_entry(
 pub fn pair_entry(
     table: &[Option<Least>],
     count: u32,
-    known: &IndexSet<u64>,
+    known: &IndexSet<u64, Seeded>,
     entries: &[Option<Least>],
     w: NodeId,
     r: NodeId,
@@ -65,7 +66,7 @@ pub fn pair_entry(
 pub(crate) fn pair_entry_near(
     table: &[Option<Least>],
     count: u32,
-    known: &IndexSet<u64>,
+    known: &IndexSet<u64, Seeded>,
     entries: &[Option<Least>],
     w: NodeId,
     r: NodeId,

@@ -16,6 +16,7 @@ use crate::pairs::near::index_next;
 use crate::pairs::parts::{nth_part, part_count};
 use crate::pairs::reaching::{Reached, ask_at_index, number, readers, writers};
 use avro_schema::{Memory, NodeId, Schema};
+use avro_texts::Seeded;
 use indexmap::IndexSet;
 use std::alloc::Global;
 use std::slice;
@@ -116,7 +117,7 @@ fn push_lead(alloc: Global, row: &mut LeadRow, lead: Lead) -> Result<(), Memory>
 pub(crate) struct Targets<'a> {
     table: &'a [Option<Least>],
     count: u32,
-    known: &'a IndexSet<u64>,
+    known: &'a IndexSet<u64, Seeded>,
 }
 
 /// A pair by its index, with its nodes and what it asks for.
@@ -131,7 +132,7 @@ pub(crate) struct Origin<'a> {
 /// Adds a lead to the row of the pair of this number, which is looked for first after the one that was found before.
 fn add_lead(
     alloc: Global,
-    known: &IndexSet<u64>,
+    known: &IndexSet<u64, Seeded>,
     key: u64,
     lead: Lead,
     next: &mut usize,

@@ -4,10 +4,11 @@ ghost use Rattle.std.specs.Prelude.{◌≡◌, ◌<◌, ◌==◌, Some, true, na
 ghost use Rattle.indexmap.specs.IndexSet.{index_set_len, insert_key, keys};
 
 use avro_schema::Memory;
+use avro_texts::Seeded;
 use indexmap::IndexSet;
 
 /// Whether a number is the one at an index.
-fn is_at(known: &IndexSet<u64>, i: usize, key: u64) -> bool
+fn is_at(known: &IndexSet<u64, Seeded>, i: usize, key: u64) -> bool
     ensures { result ≡ true → slice_get (keys known.now) i ≡ Some key }
 {
     match known.get_index(i) {
@@ -17,7 +18,7 @@ fn is_at(known: &IndexSet<u64>, i: usize, key: u64) -> bool
 }
 
 /// The index of a number, if it is known, which is looked for at the index `near` first.
-pub(crate) fn index_near(known: &IndexSet<u64>, key: u64, near: usize) -> Option<usize>
+pub(crate) fn index_near(known: &IndexSet<u64, Seeded>, key: u64, near: usize) -> Option<usize>
     ensures index { result ≡ position (λ k. key == k) (keys known.now) }
     ensures within { IfSome result (λ i. i < index_set_len known.now) }
 {
@@ -30,7 +31,7 @@ pub(crate) fn index_near(known: &IndexSet<u64>, key: u64, near: usize) -> Option
 }
 
 /// The same, looked for first after the number that was found before.
-pub(crate) fn index_next(known: &IndexSet<u64>, key: u64, next: &mut usize) -> Option<usize>
+pub(crate) fn index_next(known: &IndexSet<u64, Seeded>, key: u64, next: &mut usize) -> Option<usize>
     ensures index { result ≡ position (λ k. key == k) (keys known.now) }
     ensures within { IfSome result (λ i. i < index_set_len known.now) }
 {
@@ -43,7 +44,11 @@ pub(crate) fn index_next(known: &IndexSet<u64>, key: u64, next: &mut usize) -> O
 }
 
 /// Adds a number if it is not known, which is looked for first after the number that was added before.
-pub(crate) fn add_next(known: &mut IndexSet<u64>, key: u64, next: &mut usize) -> Result<(), Memory>
+pub(crate) fn add_next(
+    known: &mut IndexSet<u64, Seeded>,
+    key: u64,
+    next: &mut usize,
+) -> Result<(), Memory>
     ensures { OnOk result (keys known.new ≡ insert_key nat_eq (keys known.old) key) }
 {
     if is_at(known, *next, key) {

@@ -17,8 +17,9 @@ use crate::kept::Least;
 use crate::nodes::least::{count, entry};
 use crate::pairs::asking::{Ask, ask_of_pair};
 use crate::pairs::near::add_next;
-use avro_compare::{Comparison, Lead, Names, compare, has_fault, leads};
+use avro_compare::{Comparison, Lead, Names, compare, has_fault, leads, seed_of};
 use avro_schema::{Memory, NodeId, Schema};
+use avro_texts::Seeded;
 use indexmap::IndexSet;
 use std::alloc::Global;
 
@@ -26,13 +27,13 @@ use std::alloc::Global;
 #[derive(Drop)]
 pub struct Reached {
     /// The number of each pair, in order of discovery.
-    pub known: IndexSet<u64>,
+    pub known: IndexSet<u64, Seeded>,
     /// The comparison of the pair at each index.
     pub found: Vec<Comparison>,
 }
 
 /// Adds numbers, each once. Each is looked for first after the one before, at `next`.
-fn add_all(known: &mut IndexSet<u64>, more: &[u64], next: &mut usize) -> Result<(), Memory>
+fn add_all(known: &mut IndexSet<u64, Seeded>, more: &[u64], next: &mut usize) -> Result<(), Memory>
     ensures kept { OnOk result ((rest : List ℕ) × (keys known.new ≡ keys known.old ++ rest)) }
     ensures added { OnOk result (list_all (is_key (keys known.new)) more.now ≡ true) }
     ensures old_or_new { OnOk result ((k : ℕ) → is_key (keys known.new) k ≡ true → (is_key (keys known.old) k || is_key more.now k) ≡ true) }
@@ -168,13 +169,13 @@ pub(crate) fn ask_at_index<'a>(
 }
 
 /// The pair of the roots alone, before it is compared.
-fn start(alloc: Global) -> Result<Reached, Memory>
+fn start(alloc: Global, seed: Seeded) -> Result<Reached, Memory>
     ensures root { IfOk result (λ p. is_key (keys p.known) 0 ≡ true) }
     ensures alone { IfOk result (λ p. (k : ℕ) → is_key (keys p.known) k ≡ true → is_key (0 ∷ []) k ≡ true) }
     ensures all { IfOk result (λ p. (P : ℕ → Bool) → P 0 ≡ true → list_all P (keys p.known) ≡ true) }
     ensures none { IfOk result (λ p. p.found.items ≡ []) }
 {
-    let mut known = IndexSet::new(alloc);
+    let mut known = IndexSet::with_hasher(alloc, seed);
     let mut near = 0;
     add_all(&mut known, &[0], &mut near)?;
     Ok(Reached {
@@ -202,7 +203,7 @@ fn keep(
 }
 
 /// The number of the pair at an index.
-fn key_at(known: &IndexSet<u64>, i: usize) -> u64
+fn key_at(known: &IndexSet<u64, Seeded>, i: usize) -> u64
     requires { i < length (keys known.now) }
     ensures { slice_get (keys known.now) i ≡ Some result }
 {
@@ -262,7 +263,7 @@ fn reach_by(
     // The contract of these calls bounds the number of nodes, which the proof needs.
     let _ = count(writer);
     let _ = count(reader);
-    let mut reached = start(alloc)?;
+    let mut reached = start(alloc, seed_of(writer, reader))?;
     let mut near = 0;
     let mut next = 0;
     while next < reached.known.len() {

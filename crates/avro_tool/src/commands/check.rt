@@ -48,7 +48,7 @@ fn check_file<'a, R: Files + AllocGlobal>(rt: &R, word: &'a str) -> Result<Count
     }
 }
 
-/// The same, and tells how far it is.
+/// The same, with its progress reported.
 fn watch_file<'a, R: Files + Clock + AllocGlobal, E: Write>(
     rt: &R,
     word: &'a str,

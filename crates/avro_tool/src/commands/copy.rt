@@ -39,7 +39,7 @@ fn copy_for<'a, R: Files + AllocGlobal>(
     copy_from(rt, &mut source, asked, reader)
 }
 
-/// The same, and tells how far it is.
+/// The same, with its progress reported.
 fn copy_watched<'a, R: Files + Clock + AllocGlobal, E: Write>(
     rt: &R,
     asked: &Copying<'a>,
@@ -52,7 +52,7 @@ fn copy_watched<'a, R: Files + Clock + AllocGlobal, E: Write>(
     counts
 }
 
-/// Copies a container into a file, which is closed before the counts are told.
+/// Copies a container into a file, which is closed before the counts are printed.
 fn copy_from<'a, R: Files + AllocGlobal, I: Input>(
     rt: &R,
     source: &mut I,

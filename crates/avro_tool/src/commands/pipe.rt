@@ -16,7 +16,7 @@ use std::alloc::Global;
 use std::io::{BufReader, Read, Write};
 use std::rt::{Clock, Files};
 
-/// The word for the standard input.
+/// The word for standard input.
 const INPUT: &str = "-";
 
 /// Copies a container from a reader to a writer, and, if asked for, reports how many data and blocks a whole copy
@@ -56,7 +56,7 @@ fn pipe_for<'a, I: Read, O: Write>(
     }
 }
 
-/// The same, and tells how far it is.
+/// The same, with its progress reported.
 fn pipe_watched<'a, R: Files + Clock + AllocGlobal, I: Read, O: Write, E: Write>(
     rt: &R,
     reader: Option<&ReaderText>,

@@ -1,4 +1,4 @@
-//! The datum that encoded data begin with.
+//! The first datum of encoded data.
 
 use crate::Finding;
 use crate::failure::Failure;
@@ -22,8 +22,8 @@ const MAX_DATUM: usize = 16_777_216;
 /// So many bytes may be walked over in vain, besides twice those that there are.
 const FREE: usize = 1_048_576;
 
-/// Prints the datum that the data in a file begin with, after the bytes that are passed over, and how many bytes it
-/// takes; what follows it is left.
+/// Prints the first datum of the data in a file, after the bytes that are skipped, and its length in bytes; what follows
+/// it is ignored.
 pub(crate) fn read_file<'a, R: Files + AllocGlobal, O: Write>(
     rt: &R,
     asked: &Reading<'a>,

@@ -10,11 +10,11 @@ use std::alloc::{AllocError, Global};
 use std::io::Write;
 use std::rt::Files;
 
-/// The most places of faults that are told.
+/// The most places of faults that are reported.
 const MAX_REASONS: usize = 100;
 
-/// Reads the schema of a file, and prints its number of nodes, its canonical form or its fingerprint. Where it is
-/// refused, and that is asked for, the places of its faults are told.
+/// Reads the schema of a file, and prints its number of nodes, its canonical form or its fingerprint. If it is refused,
+/// and the words ask for that, the places of its faults are reported.
 pub(crate) fn show_schema<'a, R: Files + AllocGlobal, O: Write, E: Write>(
     rt: &R,
     file: &'a str,
@@ -45,8 +45,8 @@ fn tell_schema<'a, O: Write>(
     Ok(Finding::Good)
 }
 
-/// Reports a text that is refused, and the places of its faults, by one write. If the standard error fails too, the
-/// status is all that can be reported.
+/// Reports a refused text and the places of its faults, in one write. If standard error fails too, the status is all that
+/// is reported.
 fn tell_reasons<'a, E: Write>(
     alloc: Global,
     file: &'a str,
@@ -75,7 +75,7 @@ fn lines_of(
     Ok(lines)
 }
 
-/// Puts the line of a place.
+/// Appends the line of a place; the whole text has no pointer.
 fn put_reason(
     alloc: Global,
     lines: &mut Vec<u8>,
@@ -89,13 +89,15 @@ fn put_reason(
         words,
     } = reason;
     let text = match pointer {
-        Some(pointer) => format!(in alloc; "{file}:{line}:{column}: {pointer}: {words}\n")?,
-        None => format!(in alloc; "{file}:{line}:{column}: {words}\n")?,
+        Some(pointer) if !pointer.is_empty() => format!(in alloc;
+            "{file}:{line}:{column}: {pointer}: {words}\n"
+        )?,
+        _ => format!(in alloc; "{file}:{line}:{column}: {words}\n")?,
     };
     lines.extend_from_slice(text.as_bytes())
 }
 
-/// Puts the line of how many places there are after those that are told.
+/// Appends the line of how many places there are after the reported ones.
 fn put_others(
     alloc: Global,
     lines: &mut Vec<u8>,

@@ -16,10 +16,10 @@ use std::alloc::Global;
 use std::io::Write;
 use std::rt::Files;
 
-/// More text is not held.
+/// The most text that is buffered.
 const MOST: usize = 1_048_576;
 
-/// A block of which data are shown, its schema, the word for its file, and how much text was held before it.
+/// A block of which data are shown, its schema, the word for its file, and how much text was buffered before it.
 #[derive(Drop)]
 struct Shown<'a, 'w> {
     block: &'a Block<'a>,
@@ -30,7 +30,7 @@ struct Shown<'a, 'w> {
     is_walked: bool,
 }
 
-/// Where lines go: the displays of a schema's data, the room for one, the text that is held, and the output.
+/// Where lines go: the displays of a schema's data, the scratch space for one, the buffered text, and the output.
 #[derive(Drop)]
 struct Lines<'a, O> {
     table: DisplayTable<'a>,
@@ -125,7 +125,7 @@ fn finished<'a, O: Write>(
     shown
 }
 
-/// Puts the text that is held. No part of it is put again if the output fails.
+/// Puts the buffered text. No part of it is put again if the output fails.
 fn put_held<O: Write>(lines: &mut Lines<'_, O>) -> Result<(), PutError> {
     let put = put_all(&mut lines.out, lines.text.as_slice());
     lines.text.clear();
@@ -240,8 +240,8 @@ fn read_all(block: &Block<'_>, plan: &Option<Plan<'_>>) -> Result<(), CopyError>
     }
 }
 
-/// Prints the datum at the front of bytes of a block, and returns its length. Its line is held, as those before it are, until the
-/// block was read to its end, or walked over since they are long.
+/// Prints the datum at the front of bytes of a block, and returns its length. Lines are buffered until the block is known to
+/// be valid: it was read to its end, or walked over since they are long.
 fn show_datum<'a, O: Write>(
     alloc: Global,
     shown: &mut Shown<'_, 'a>,
@@ -264,8 +264,8 @@ fn show_datum<'a, O: Write>(
     show_read(alloc, shown.schema, plan, bytes, lines)
 }
 
-/// Holds the line of the datum at the front of bytes, and returns its length. Nothing is held if the line is long or the bytes
-/// have a fault.
+/// Buffers the line of the datum at the front of bytes, and returns its length. Nothing is buffered if the line is long or
+/// the bytes have a fault.
 fn hold_line<O>(alloc: Global, bytes: &[u8], lines: &mut Lines<'_, O>) -> Option<usize>
     ensures { IfSome result (λ len. len ≤ length bytes.now) }
 {
@@ -296,7 +296,7 @@ fn show_read<'a, O: Write>(
     Ok(len)
 }
 
-/// Puts the line of a datum, or holds it. After an error what is held goes on where what was put ends.
+/// Puts the line of a datum, or buffers it. After an error the buffered text goes on where what was put ends.
 fn show_line<'a, O: Write>(
     lines: &mut Lines<'_, O>,
     plan: &Option<Plan<'_>>,
@@ -332,7 +332,7 @@ fn put_line_by<O: Write>(
     }
 }
 
-/// Puts what is held if it is long.
+/// Puts the buffered text if it is long.
 fn put_long<'a, O: Write>(lines: &mut Lines<'_, O>) -> Result<(), Failure<'a>> {
     if ROOM <= lines.text.len() {
         put_held(lines)?;

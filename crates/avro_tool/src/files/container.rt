@@ -38,7 +38,7 @@ pub(crate) fn open_file<'a, R: Files + AllocGlobal>(
     }
 }
 
-/// The same, of which it is told how far it is read.
+/// The same, with its progress reported.
 pub(crate) fn open_watched<'a, 'r, R: Files + Clock + AllocGlobal, E: Write + Drop>(
     rt: &'r R,
     word: &'a str,

@@ -1,4 +1,4 @@
-//! Files that a run would spoil: those that are the standard output or error, those that are read and written too, and those
+//! Files that a run would spoil: those that are standard output or standard error, those that are read and written too, and those
 //! that hold a schema and are written.
 
 use crate::failure::Failure;
@@ -10,16 +10,16 @@ use std::os::unix::fs::{FileTypeExt, MetadataExt};
 use std::rt::Files;
 use std::{fs, io};
 
-/// The file that the standard input is.
+/// The file that standard input is.
 pub(crate) const STANDARD_INPUT: &str = "/dev/stdin";
 
-/// The file that the standard output is.
+/// The file that standard output is.
 const STANDARD_OUTPUT: &str = "/dev/stdout";
 
-/// The file that the standard error is.
+/// The file that standard error is.
 const STANDARD_ERROR: &str = "/dev/stderr";
 
-/// The regular files that the standard output and error are.
+/// The regular files that standard output and standard error are.
 #[derive(Drop)]
 struct Streams {
     output: Option<Metadata>,
@@ -41,7 +41,7 @@ pub(crate) fn refuse_files<'a, R: Files + AllocGlobal>(
     refuse_schema_file(rt, second)
 }
 
-/// Refuses files that the standard output is, or the standard error where more than an error goes there.
+/// Refuses files that standard output is, or standard error where more than an error goes there.
 fn refuse_streams<'a, R: Files>(
     rt: &R,
     request: &Request<'a>,
@@ -86,7 +86,7 @@ fn refuse_stream<'a, R: Files>(
     }
 }
 
-/// Refuses a copy into the pipe that the standard output is: the counts would stand behind it.
+/// Refuses a copy into the pipe that standard output is: the counts would stand behind it.
 fn refuse_pipe<'a, R: Files>(rt: &R, request: &Request<'a>) -> Result<(), Failure<'a>> {
     let Request::Copy(asked) = request else {
         return Ok(());

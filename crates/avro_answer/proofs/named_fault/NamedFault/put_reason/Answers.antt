@@ -6,9 +6,9 @@ use Rattle.avro_answer.specs.inside.NamedLine.{missing_seen}
 use Rattle.avro_answer.proofs.named_fault.NamedFault.put_reason.Goals as goal
 
 symbol_reason : (d : Detail) (k : ℕ) → d ≡ Detail.NoSymbol k → (old missing written read : List ℕ)
-    → old ++ (missing ++ (codes " of the writer is none of " ++ (read ++ codes ", which has no default"))) ≡ old ++ reason_text d missing written read
+    → old ++ (missing ++ (codes " is not a symbol of the reader's " ++ (read ++ codes ", which has no default"))) ≡ old ++ reason_text d missing written read
 symbol_reason d k e old missing written read =
-    subst (λ (x : Detail). old ++ (missing ++ (codes " of the writer is none of " ++ (read ++ codes ", which has no default"))) ≡ old ++ reason_text x missing written read) (sym e) refl
+    subst (λ (x : Detail). old ++ (missing ++ (codes " is not a symbol of the reader's " ++ (read ++ codes ", which has no default"))) ≡ old ++ reason_text x missing written read) (sym e) refl
 
 pub returns-in_ok-push_str-in-NotUtf8 : goal.returns-in_ok-push_str-in-NotUtf8
 returns-in_ok-push_str-in-NotUtf8 c =
@@ -24,7 +24,7 @@ returns-in_ok-push_str-in-NoBranch-2 c =
     c.in_ok-push_str-in-NoBranch-2.ensures.bytes
     ∙ ap (λ (ts : List ℕ). string_bytes c.push_str-in-NoBranch.new.self ++ ts) c.as_str-in-NoBranch.ensures.value
     ∙ ap (λ (ts : List ℕ). ts ++ written) c.in_ok-push_str-in-NoBranch.ensures.bytes
-    ∙ append_assoc old (codes "no branch takes ") written
+    ∙ append_assoc old (codes "no branch of the reader's union accepts ") written
     ∙ ap (λ (d : Detail). old ++ reason_text d (missing_seen named) written (string_bytes named.reader.type_text)) (sym c.in-NoBranch.is)
 
 pub returns-in_ok-push_str-in-MissingField-2 : goal.returns-in_ok-push_str-in-MissingField-2
@@ -44,7 +44,7 @@ returns-in_ok-push_str-in-NoSymbol-3 c =
     let old = string_bytes c.args.text.now in
     let missing = missing_seen named in
     let read = string_bytes named.reader.type_text in
-    let words = codes " of the writer is none of " in
+    let words = codes " is not a symbol of the reader's " in
     let end = codes ", which has no default" in
     c.in_ok-push_str-in-NoSymbol-3.ensures.bytes
     ∙ ap (λ (ts : List ℕ). ts ++ end) (c.in_ok-push_str-in-NoSymbol-2.ensures.bytes

@@ -1,0 +1,127 @@
+//! Names that are found by number.
+
+ghost use Rattle.std.specs.Prelude.{◌≡◌, ℕ, IfSome, List, Some, bytes_eq, position, slice_get};
+ghost use Rattle.std.specs.Global.{Vec as SeenVec};
+ghost use Rattle.avro_schema.specs.Node.{FieldNode, Node as SeenNode, node_at};
+ghost use Rattle.avro_compare.specs.Resolve.{fields_at, symbol_at};
+ghost use Rattle.avro_compare.specs.Source.{first_index, source_of};
+ghost use Rattle.avro_compare.specs.inside.NameTables.{symbols_at};
+ghost use Rattle.avro_compare.specs.inside.PartNumbers.{ArePartLists, HasField, HasSymbol, IsNumberAt, IsTabled};
+
+use crate::part_numbers::{FieldNumbers, NodeParts, PartNumbers, SymbolNumbers};
+use crate::places::{first_among, first_named, place};
+use avro_schema::NodeId;
+
+/// The lists of a node.
+fn parts_at(all: &[NodeParts], id: NodeId) -> Option<NodeParts>
+    ensures { result ≡ slice_get all.now id.0 }
+{
+    all.get(id.0 as usize).copied()
+}
+
+/// The number at an index of a list.
+fn number_at(lists: &[Vec<u32>], id: u32, index: usize) -> Option<u32>
+    ensures { IfSome result (λ number. IsNumberAt lists.now id index number) }
+{
+    let list = lists.get(id as usize)?;
+    let number = list.get(index)?;
+    Some(*number)
+}
+
+/// The list of an index.
+fn list_at(lists: &[Vec<u32>], id: u32) -> &[u32]
+    ensures { (list : SeenVec ℕ) → slice_get lists.now id ≡ Some list → result.now ≡ list.items }
+{
+    match lists.get(id as usize) {
+        Some(list) => list,
+        None => &[],
+    }
+}
+
+/// The numbers by which the source of a reader's field, by its record and its index, is found in a writer's record.
+pub(crate) fn field_numbers_at(
+    numbers: &PartNumbers,
+    w: NodeId,
+    r: NodeId,
+    index: usize,
+) -> Option<FieldNumbers>
+    ensures { IfSome result (λ found. (writer reader : List SeenNode) (field : FieldNode) → ArePartLists writer reader numbers.now
+        → slice_get (fields_at (node_at reader r.0)) index ≡ Some field → HasField numbers.now (fields_at (node_at writer w.0)) field found) }
+{
+    let writes = parts_at(&numbers.writes, w)?;
+    let reads = parts_at(&numbers.reads, r)?;
+    let name = number_at(&numbers.plain, reads.fields, index)?;
+    let aliases = number_at(&numbers.aliases, r.0, index)?;
+    Some(FieldNumbers {
+        fields: writes.fields,
+        name,
+        aliases,
+    })
+}
+
+/// The source of a reader's field, by number.
+pub(crate) fn source_by_numbers(numbers: &PartNumbers, found: FieldNumbers) -> Option<usize>
+    ensures { (writes : List FieldNode) (field : FieldNode) → IsTabled numbers.now → HasField numbers.now writes field found → result ≡ source_of writes field }
+{
+    match place(&numbers.places, found.fields, found.name) {
+        Some(index) => Some(index),
+        None => source_by_aliases(numbers, found),
+    }
+}
+
+/// The same by the aliases of the field alone. There is a step for each of them, or for each of the writer's fields if
+/// those are fewer.
+fn source_by_aliases(numbers: &PartNumbers, found: FieldNumbers) -> Option<usize>
+    ensures { (writes : List FieldNode) (field : FieldNode) → IsTabled numbers.now → HasField numbers.now writes field found → result ≡ first_index writes field.aliases }
+{
+    let fields = list_at(&numbers.tabled, found.fields);
+    let aliases = list_at(&numbers.tabled, found.aliases);
+    if fields.len() < aliases.len() {
+        first_among(&numbers.places, found.aliases, fields)
+    } else {
+        first_named(&numbers.places, found.fields, aliases)
+    }
+}
+
+/// The numbers by which the reader's symbol for a writer's, by its enum and its index, is found in a reader's enum.
+pub(crate) fn symbol_numbers_at(
+    numbers: &PartNumbers,
+    w: NodeId,
+    index: usize,
+    q: NodeId,
+) -> Option<SymbolNumbers>
+    ensures { IfSome result (λ found. (writer reader : List SeenNode) → ArePartLists writer reader numbers.now
+        → HasSymbol numbers.now (symbols_at (node_at reader q.0)) (symbol_at (node_at writer w.0) index) found) }
+{
+    let writes = parts_at(&numbers.writes, w)?;
+    let reads = parts_at(&numbers.reads, q)?;
+    let symbol = number_at(&numbers.plain, writes.symbols, index)?;
+    Some(SymbolNumbers {
+        symbols: reads.symbols,
+        symbol,
+    })
+}
+
+/// The numbers by which a symbol is found in a reader's enum, if its text has one.
+pub(crate) fn symbol_numbers_of(
+    numbers: &PartNumbers,
+    symbol: &str,
+    q: NodeId,
+) -> Option<SymbolNumbers>
+    ensures { IfSome result (λ found. (writer reader : List SeenNode) → ArePartLists writer reader numbers.now
+        → HasSymbol numbers.now (symbols_at (node_at reader q.0)) symbol.now found) }
+{
+    let reads = parts_at(&numbers.reads, q)?;
+    let symbol = numbers.texts.number(symbol)?;
+    Some(SymbolNumbers {
+        symbols: reads.symbols,
+        symbol,
+    })
+}
+
+/// The first index of a symbol among the reader's, by number.
+pub(crate) fn symbol_by_numbers(numbers: &PartNumbers, found: SymbolNumbers) -> Option<usize>
+    ensures { (reads : List (List ℕ)) (symbol : List ℕ) → IsTabled numbers.now → HasSymbol numbers.now reads symbol found → result ≡ position (λ s. bytes_eq s symbol) reads }
+{
+    place(&numbers.places, found.symbols, found.symbol)
+}

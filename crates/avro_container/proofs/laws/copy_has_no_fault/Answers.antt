@@ -1,0 +1,5 @@
+use Rattle.avro_container.proofs.public.NoFaults.{copy_has_no_fault_lem}
+use Rattle.avro_container.proofs.laws.copy_has_no_fault.Goals as goal
+
+pub returns : goal.returns
+returns g c = λ input. copy_has_no_fault_lem c.prefix.ensures c.one_schema.ensures c.fault_or_within.ensures c.declared_is_schema.ensures (g.I.Input.ended input)

@@ -1,0 +1,5 @@
+pub mod Known
+pub mod CopiedFiles
+pub mod CopiedAgain
+pub mod NoFault
+pub mod NoFaults

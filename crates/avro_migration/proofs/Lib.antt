@@ -1,0 +1,4 @@
+pub mod Unresolved
+pub mod Migrated
+pub mod Sound
+pub mod ReadData

@@ -1,5 +1,0 @@
-use Rattle.avro_why.specs.Placed.{ArePlaced}
-use Rattle.avro_why.proofs.reasons.told.Given as goal
-
-abbrev pub invariant-loop-offset : goal.invariant-loop-offset
-invariant-loop-offset l = ArePlaced l.fn.text l.first.items
