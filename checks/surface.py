@@ -218,10 +218,6 @@ EXCEPTIONS = {
         ("avro_display/src/display.rt show_by", "a text that was just made of texts: this check cannot fail"),
     ],
     TREE: [
-        ("avro_compare/src/first_branches.rt &str", NUMBERED),
-        ("avro_compare/src/name_numbers.rt &str", NUMBERED),
-        ("avro_compare/src/numbering.rt &str", NUMBERED),
-        ("avro_compare/src/union_tables.rt &str", NUMBERED),
         ("avro_cursor/src/keys.rt &[u8]", KEYS),
         ("avro_display/src/members.rt &str", ORDERED),
         ("avro_display/src/putting.rt &str", ORDERED),

@@ -5,15 +5,14 @@ pub mod FaultsLed
 pub mod FieldsNoted
 pub mod FirstLacking
 pub mod FirstNumber
-pub mod LongSpaces
+pub mod FirstOfType
+pub mod HeldAliases
 pub mod Named
-pub mod NamedKeys
-pub mod NamedStarts
+pub mod NumberedTexts
+pub mod PlainBranches
 pub mod NoFields
-pub mod NodeTables
 pub mod NumberedNames
 pub mod PlacesFound
 pub mod Shared
 mod RowsMatch
 mod RowsSource
-pub mod ByNumber

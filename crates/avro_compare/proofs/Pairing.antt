@@ -1,13 +1,15 @@
 -- Pairs of nodes.
 use Rattle.std.proofs.Common.{◌≡◌, ℕ, zero, suc, ◌-◌, ◌+◌, ◌<◌, ◌≤◌, Bool, true, false, IsTrue, List, [], ◌∷◌, length, refl, sym, ap, ◌∙◌, subst, arith, ◌↔◌, ⊎_elim}
-use Rattle.std.specs.Prelude.{slice_index_or, unwrap_or, Some, slice_get, drop}
+use Rattle.std.specs.Prelude.{slice_index_or, unwrap_or, option_and_then, cond, Option, None, Some, slice_get, drop}
 use Rattle.std.proofs.lemmas.Bool.{cond-true, cases_lt}
-use Rattle.avro_schema.specs.Node.{Node, node_at, field_ids}
+use Rattle.std.proofs.lemmas.Option.{slice_get-get_or}
+use Rattle.avro_schema.specs.Node.{Node, node_at, field_ids, branches_of}
 use Rattle.avro_schema.specs.Seen.{ids_of, seen_fields}
 use Rattle.avro_schema.specs.declared.schema.NodeId.{NodeId}
 use Rattle.avro_schema.specs.declared.schema.Field.{Field}
 use Rattle.avro_schema.specs.WellFormed.{is_schema}
-use Rattle.avro_compare.specs.Match.{Matches, reader_union, nulls, match_within, is_match, first_match_from}
+use Rattle.avro_compare.specs.Match.{Matches, reader_union, nulls, match_within, is_match, first_match, first_match_at, first_match_from}
+use Rattle.avro_compare.specs.inside.TypeNames.{branches_at}
 use Rattle.avro_compare.proofs.EnoughSteps.{is_match-Matches}
 use Rattle.avro_compare.proofs.public.MatchTest.{match_within-sound}
 
@@ -95,3 +97,53 @@ ids_count (x ∷ ids) = ap suc (ids_count ids)
 
 pub id_below : (ids : List NodeId) (i : ℕ) → i < length ids → i < length (ids_of ids)
 id_below ids i low = omega (arith, low, ids_count ids)
+
+-- ---- The first match among the branches of a node
+
+pub match_of_branches : (writer reader : List Node) (w r : Node) → first_match writer reader w (branches_at r) ≡ first_match_at writer reader w r
+match_of_branches writer reader w r = by (branches_of r)
+  where
+    by : (o : Option (List ℕ)) → first_match writer reader w (unwrap_or o []) ≡ option_and_then (first_match writer reader w) o
+    by None = refl
+    by (Some ids) = refl
+
+module _ (writer reader : List Node) (w : Node) where
+  -- it is the index of a branch that matches
+  found_at : (n i : ℕ) (ids : List ℕ) → first_match_from n writer reader w ids ≡ Some i → (j : ℕ) × (b : ℕ) × (i ≡ n + j) × (slice_get ids j ≡ Some b) × (is_match writer reader w (node_at reader b) ≡ true)
+  found_at n i [] e = absurd cc
+  found_at n i (x ∷ ids) e = by (is_match writer reader w (node_at reader x)) refl (found_at (suc n) i ids)
+    where
+      by : (t : Bool) → is_match writer reader w (node_at reader x) ≡ t
+          → (first_match_from (suc n) writer reader w ids ≡ Some i → (j : ℕ) × (b : ℕ) × (i ≡ suc n + j) × (slice_get ids j ≡ Some b) × (is_match writer reader w (node_at reader b) ≡ true))
+          → (j : ℕ) × (b : ℕ) × (i ≡ n + j) × (slice_get (x ∷ ids) j ≡ Some b) × (is_match writer reader w (node_at reader b) ≡ true)
+      by true h later =
+          let here : Some n ≡ Some i = sym (ap (λ c. cond c (Some n) (first_match_from (suc n) writer reader w ids)) h) ∙ e in
+          let same : n ≡ i = cc in (0, x, omega (arith, same), refl, h)
+      by false h later =
+          let rest = later (sym (ap (λ c. cond c (Some n) (first_match_from (suc n) writer reader w ids)) h) ∙ e) in
+          let at = rest.2 in (suc rest.0, rest.1, omega (arith, at), rest.3, rest.4)
+
+  pub first_matches : (ids : List ℕ) (n i b : ℕ) → first_match_from n writer reader w ids ≡ Some (n + i) → slice_get ids i ≡ Some b → is_match writer reader w (node_at reader b) ≡ true
+  first_matches ids n i b e at =
+      let found = found_at n (n + i) ids e in
+      let there = found.2 in
+      let same : found.0 ≡ i = omega (arith, there) in
+      let one : Some found.1 ≡ Some b = sym found.3 ∙ ap (slice_get ids) same ∙ at in
+      let is : found.1 ≡ b = cc in subst (λ (k : ℕ). is_match writer reader w (node_at reader k) ≡ true) is found.4
+
+  pub first_within : (ids : List NodeId) (i : ℕ) → first_match writer reader w (ids_of ids) ≡ Some i → i < length ids
+  first_within ids i e =
+      let found = found_at 0 i (ids_of ids) e in
+      let there = found.2 in
+      let low = get_low (ids_of ids) found.0 found.1 found.3 in omega (arith, there, low, ids_count ids)
+    where
+      get_low : (xs : List ℕ) (j b : ℕ) → slice_get xs j ≡ Some b → j < length xs
+      get_low [] j b e = absurd cc
+      get_low (x ∷ xs) zero b e = omega arith
+      get_low (x ∷ xs) (suc j) b e = let low = get_low xs j b e in omega (arith, low)
+
+  pub never_past : (ids : List NodeId) (i : ℕ) → first_match writer reader w (ids_of ids) ≡ Some i → slice_get ids i ≡ None → ⊥
+  never_past ids i e none = apart (sym none ∙ slice_get-get_or ids i (record { 0 = 0 }) (first_within ids i e))
+    where
+      apart : {A : Type 0} {x : A} → None ≡ Some x → ⊥
+      apart h = cc

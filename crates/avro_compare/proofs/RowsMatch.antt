@@ -3,7 +3,7 @@ use Rattle.std.proofs.Common.{◌≡◌, refl, ℕ, zero, suc, Bool, true, false
 use Rattle.avro_schema.specs.Node.{Node, root_of}
 use Rattle.avro_schema.proofs.public.RowsSchemas.{simply, within, array_of_long, array_of_int, array_of_string, array_of_int_union, map_of_int, long_or_int, one_of_int, two_of_one_simple_name, before_renaming, after_renaming}
 use Rattle.avro_compare.specs.Match.{Matches, int_to_long, writer_union, reader_union, arrays, records, is_match, first_match}
-use Rattle.avro_compare.specs.inside.NameTables.{passes, is_named}
+use Rattle.avro_compare.specs.inside.TypeNames.{passes, is_own}
 
 -- whether the roots match
 abbrev roots_match : List Node → List Node → Bool
@@ -95,20 +95,20 @@ first_of_one_simple_name = refl
 first_of_none : first_match (Node.string ∷ []) long_or_int Node.string (1 ∷ 2 ∷ []) ≡ None
 first_of_none = refl
 
--- the names that tables have: by kind, and a simple name or that of an alias
-named_record : passes two_of_one_simple_name (is_named 0 (codes "A")) 3 ≡ true
+-- the names that tables have: by kind, and the number of a simple name
+named_record : passes two_of_one_simple_name (is_own (codes "A" ∷ []) 0 0) 3 ≡ true
 named_record = refl
 
-named_enum : passes two_of_one_simple_name (is_named 1 (codes "A")) 3 ≡ false
+named_enum : passes two_of_one_simple_name (is_own (codes "A" ∷ []) 1 0) 3 ≡ false
 named_enum = refl
 
-record_of_old_name : passes after_renaming (is_named 0 (codes "P")) 0 ≡ true
+record_of_old_name : passes after_renaming (is_own (codes "P" ∷ []) 0 0) 0 ≡ false
 record_of_old_name = refl
 
-record_of_its_name : passes after_renaming (is_named 0 (codes "Q")) 0 ≡ true
+record_of_its_name : passes after_renaming (is_own (codes "Q" ∷ []) 0 0) 0 ≡ true
 record_of_its_name = refl
 
-fixed_of_its_size : passes (Node.fixed (simply (codes "F")) [] 2 ∷ []) (is_named 4 (codes "F")) 0 ≡ true
+fixed_of_its_size : passes (Node.fixed (simply (codes "F")) [] 2 ∷ []) (is_own (codes "E" ∷ codes "F" ∷ []) 4 1) 0 ≡ true
 fixed_of_its_size = refl
 
 -- matches by the rules

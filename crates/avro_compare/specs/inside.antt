@@ -1,7 +1,7 @@
 -- What only proofs and private contracts need.
-pub mod ByNode
-pub mod NameNumbers
 pub mod NameTables
+pub mod NamedTypes
+pub mod TypeNames
 pub mod Listed
 pub mod Nearer
 pub mod Noting

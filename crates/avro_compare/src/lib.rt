@@ -7,33 +7,32 @@
 //! enums, and `lacking.rt` finds the first symbol that the reader lacks.
 #![tactic(auto)]
 
-mod by_node;
+mod alias_sets;
+mod alike;
 mod children;
 mod comparing;
 mod comparison;
 mod entries;
 mod error;
-mod first_branches;
+mod first_matches;
 mod guided;
 mod lacking;
 pub mod laws;
 mod lead;
-mod long_spaces;
 mod matching;
-mod name_numbers;
 mod named_type;
 mod names;
-mod numbering;
 mod pairs;
 mod part_finding;
 mod part_lists;
 mod part_numbering;
 mod part_numbers;
 mod places;
-mod reader_numbers;
 mod seed;
 mod sourcing;
 mod symbols;
+mod type_names;
+mod type_numbers;
 mod union_tables;
 
 pub use children::{has_fault, leads};

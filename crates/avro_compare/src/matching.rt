@@ -5,13 +5,14 @@ ghost use Rattle.avro_schema.specs.SeenSchema.{schema_nodes};
 ghost use Rattle.std.specs.Option.{IfSome};
 ghost use Rattle.std.specs.List.{list_any};
 ghost use Rattle.avro_name.specs.Name.{same_name};
-ghost use Rattle.avro_compare.specs.inside.NameNumbers.{AreNumbers, TellsAlike};
+ghost use Rattle.avro_compare.specs.inside.NamedTypes.{TellsAlike};
+ghost use Rattle.avro_compare.specs.inside.TypeNames.{AreTypeNames};
 ghost use Rattle.avro_compare.specs.Match.{Matches, is_match, are_alike as are_named_alike, match_within as within};
 ghost use Rattle.avro_compare.specs.Pairs.{IsStep};
 
+use crate::alike::alike;
 use crate::guided::Step;
-use crate::name_numbers::NameNumbers;
-use crate::numbering::alike;
+use crate::type_names::TypeNames;
 use avro_name::FullName;
 use avro_schema::{Node, NodeId, Schema};
 
@@ -29,36 +30,36 @@ pub fn matches(writer: &Schema, w: NodeId, reader: &Schema, r: NodeId) -> bool
 
 /// The same, by the numbers of names, if they are there.
 pub(crate) fn matches_by(
-    numbers: Option<&NameNumbers>,
+    names: Option<&TypeNames>,
     writer: &Schema,
     w: NodeId,
     reader: &Schema,
     r: NodeId,
 ) -> bool
-    requires { IfSome numbers (λ n. AreNumbers (schema_nodes writer.now) (schema_nodes reader.now) n.now) }
+    requires { IfSome names (λ n. AreTypeNames (schema_nodes writer.now) (schema_nodes reader.now) n.now) }
     ensures { result ≡ is_match (schema_nodes writer.now) (schema_nodes reader.now)
         (node_at (schema_nodes writer.now) w.0) (node_at (schema_nodes reader.now) r.0) }
 {
-    match_within(writer.len(), numbers, writer, w, reader, r)
+    match_within(writer.len(), names, writer, w, reader, r)
 }
 
 /// The same, looking into arrays and maps at most this deep.
 fn match_within(
     steps: usize,
-    numbers: Option<&NameNumbers>,
+    names: Option<&TypeNames>,
     writer: &Schema,
     w: NodeId,
     reader: &Schema,
     r: NodeId,
 ) -> bool
-    requires { IfSome numbers (λ n. AreNumbers (schema_nodes writer.now) (schema_nodes reader.now) n.now) }
+    requires { IfSome names (λ n. AreTypeNames (schema_nodes writer.now) (schema_nodes reader.now) n.now) }
     ensures { result ≡ within steps (schema_nodes writer.now) (schema_nodes reader.now)
         (node_at (schema_nodes writer.now) w.0) (node_at (schema_nodes reader.now) r.0) }
 {
     let mut a = w;
     let mut b = r;
     for _done in 0..steps {
-        match step(numbers, writer, a, reader, b) {
+        match step(names, writer, a, reader, b) {
             Step::Known(answer) => return answer,
             Step::Parts(x, y) => {
                 a = x;
@@ -66,30 +67,19 @@ fn match_within(
             }
         }
     }
-    match step(numbers, writer, a, reader, b) {
+    match step(names, writer, a, reader, b) {
         Step::Known(answer) => answer,
         Step::Parts(_, _) => false,
     }
 }
 
 /// What the nodes of two ids say about their match.
-fn step(
-    numbers: Option<&NameNumbers>,
-    writer: &Schema,
-    w: NodeId,
-    reader: &Schema,
-    r: NodeId,
-) -> Step
-    requires { IfSome numbers (λ n. AreNumbers (schema_nodes writer.now) (schema_nodes reader.now) n.now) }
+fn step(names: Option<&TypeNames>, writer: &Schema, w: NodeId, reader: &Schema, r: NodeId) -> Step
+    requires { IfSome names (λ n. AreTypeNames (schema_nodes writer.now) (schema_nodes reader.now) n.now) }
     ensures { IsStep (schema_nodes writer.now) (schema_nodes reader.now)
         (node_at (schema_nodes writer.now) w.0) (node_at (schema_nodes reader.now) r.0) result }
 {
-    step_to(
-        alike(numbers, writer, w, reader, r),
-        writer.get(w),
-        reader,
-        r,
-    )
+    step_to(alike(names, writer, w, reader, r), writer.get(w), reader, r)
 }
 
 /// What a node and that of an id say about their match. Whether they are named alike may be known.

@@ -1,6 +1,6 @@
 ghost use Rattle.std.specs.Prelude.{◌≡◌};
 ghost use Rattle.avro_schema.specs.Seen.{node_of};
-ghost use Rattle.avro_compare.specs.inside.NameTables.{named_type};
+ghost use Rattle.avro_compare.specs.inside.NamedTypes.{named_type};
 
 use avro_name::FullName;
 use avro_schema::Node;
@@ -18,7 +18,7 @@ pub struct NamedType<'s> {
 }
 
 impl<'s> Model for NamedType<'s> {
-    ghost use Rattle.avro_compare.specs.inside.NameTables.{NamedType};
+    ghost use Rattle.avro_compare.specs.inside.NamedTypes.{NamedType};
 
     ghost Value = { NamedType };
 

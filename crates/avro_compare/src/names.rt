@@ -1,7 +1,5 @@
 use crate::guided::Aim;
-use crate::name_numbers::NameNumbers;
-use crate::numbering::{name_numbers, no_numbers};
-use crate::pairs::{aim_after, first_match_after};
+use crate::pairs::{aim_by, first_match_by};
 use crate::part_finding::{
     field_numbers_at, source_by_numbers, symbol_by_numbers, symbol_numbers_at, symbol_numbers_of,
 };
@@ -10,25 +8,22 @@ use crate::part_numbers::PartNumbers;
 use crate::seed::seed_of;
 use crate::sourcing::{fields_of, source_among};
 use crate::symbols::{symbol_of_id, symbol_of_place, text_of};
-use crate::union_tables::{start_by, union_tables};
+use crate::type_names::TypeNames;
+use crate::type_numbers::type_names;
 use avro_schema::{Field, Memory, NodeId, Schema};
 use std::alloc::Global;
-use std::collections::BTreeMap;
 use std::marker::Model;
 
 /// A writer's schema and a reader's, with tables by which names are found without looking at all of
 /// them: the branches of the reader's unions, for the first match of a record, an enum or a fixed,
 /// the fields of the writer's records, the aliases of the reader's fields, and the symbols of the
-/// reader's enums. A union of few branches, or with more aliases than branches, is looked through,
-/// and takes no memory here. All names are numbered, and compared by their numbers. Contracts see the
-/// two schemas.
+/// reader's enums. All names are numbered, and compared by their numbers. Contracts see the two
+/// schemas.
 #[derive(Drop)]
 pub struct Names<'a> {
     writer: &'a Schema,
     reader: &'a Schema,
-    numbers: NameNumbers<'a>,
-    // The list rises by its nodes, so that a table is found by binary search.
-    unions: Vec<(NodeId, BTreeMap<(u64, u32), usize>)>,
+    types: Option<TypeNames<'a>>,
     parts: Option<PartNumbers<'a>>,
 }
 
@@ -38,9 +33,8 @@ impl<'a> Model for Names<'a> {
     ghost use Rattle.avro_schema.specs.contracts.datum.Datum as datum;
     ghost use Rattle.avro_schema.specs.declared.schema.Schema.{Schema};
     ghost use Rattle.avro_schema.specs.SeenSchema.{schema_nodes};
-    ghost use Rattle.avro_compare.specs.inside.NameTables.{AreUnionTables};
-    ghost use Rattle.avro_compare.specs.inside.NameNumbers.{AreNumbers};
     ghost use Rattle.avro_compare.specs.inside.PartNumbers.{ArePartNumbers};
+    ghost use Rattle.avro_compare.specs.inside.TypeNames.{AreTypeNames};
 
     ghost Value = { Schema × Schema };
 
@@ -48,8 +42,7 @@ impl<'a> Model for Names<'a> {
 
     ghost view = { λ names. (names.writer.now, names.reader.now) };
 
-    ghost invariant = { λ names. AreNumbers (schema_nodes names.writer.now) (schema_nodes names.reader.now) names.numbers
-        × AreUnionTables names.numbers.table.simples (schema_nodes names.reader.now) names.unions.items
+    ghost invariant = { λ names. IfSome names.types (AreTypeNames (schema_nodes names.writer.now) (schema_nodes names.reader.now))
         × IfSome names.parts (ArePartNumbers (schema_nodes names.writer.now) (schema_nodes names.reader.now)) };
 }
 
@@ -59,7 +52,6 @@ impl<'a> Names<'a> {
     ghost use Rattle.avro_schema.specs.Seen.{field_of};
     ghost use Rattle.avro_schema.specs.SeenSchema.{schema_nodes};
     ghost use Rattle.avro_compare.specs.Match.{first_match_at};
-    ghost use Rattle.avro_compare.specs.inside.NameTables.{StartsAt};
     ghost use Rattle.avro_compare.specs.Pairs.{IsAim, IsSymbol, aim_at};
     ghost use Rattle.avro_compare.specs.Resolve.{enum_as, fields_at, symbol_at};
     ghost use Rattle.avro_compare.specs.Source.{source_of};
@@ -72,14 +64,13 @@ impl<'a> Names<'a> {
     pub fn new(alloc: Global, writer: &'a Schema, reader: &'a Schema) -> Result<Names<'a>, Memory>
         ensures { IfOk result (λ names. names ≡ (writer.now, reader.now)) }
     {
-        let numbers = name_numbers(alloc, writer, reader)?;
-        let unions = union_tables(alloc, &numbers.table.simples, reader)?;
-        let parts = part_numbers(alloc, seed_of(writer, reader), writer, reader)?;
+        let seed = seed_of(writer, reader);
+        let types = type_names(alloc, seed, writer, reader)?;
+        let parts = part_numbers(alloc, seed, writer, reader)?;
         Ok(Names {
             writer,
             reader,
-            numbers,
-            unions,
+            types: Some(types),
             parts: Some(parts),
         })
     }
@@ -91,8 +82,7 @@ impl<'a> Names<'a> {
         Names {
             writer,
             reader,
-            numbers: no_numbers(alloc),
-            unions: Vec::new(alloc),
+            types: None,
             parts: None,
         }
     }
@@ -103,8 +93,7 @@ impl<'a> Names<'a> {
         ensures { result ≡ first_match_at (schema_nodes self.now.0) (schema_nodes self.now.1)
             (node_at (schema_nodes self.now.0) w.0) (node_at (schema_nodes self.now.1) r.0) }
     {
-        let start = self.start(w, r);
-        first_match_after(Some(&self.numbers), self.writer, w, self.reader, r, start)
+        first_match_by(self.types.as_ref(), self.writer, w, self.reader, r)
     }
 
     /// The index of the field of a writer's record that a reader's field takes its value from, as
@@ -167,8 +156,7 @@ impl<'a> Names<'a> {
         ensures leads { IsAim (schema_nodes self.now.0) (schema_nodes self.now.1)
             (node_at (schema_nodes self.now.0) w.0) (node_at (schema_nodes self.now.1) r.0) result }
     {
-        let start = self.start(w, r);
-        aim_after(Some(&self.numbers), self.writer, w, self.reader, r, start)
+        aim_by(self.types.as_ref(), self.writer, w, self.reader, r)
     }
 
     /// The writer's schema.
@@ -183,13 +171,5 @@ impl<'a> Names<'a> {
         ensures { result.now ≡ self.now.1 }
     {
         self.reader
-    }
-
-    /// An index in a reader's union before which no branch matches a writer's node.
-    fn start(&self, w: NodeId, r: NodeId) -> usize
-        ensures { StartsAt (schema_nodes self.now.0) (schema_nodes self.now.1)
-            (node_at (schema_nodes self.now.0) w.0) (node_at (schema_nodes self.now.1) r.0) result }
-    {
-        start_by(&self.unions, &self.numbers, self.writer, w, self.reader, r)
     }
 }

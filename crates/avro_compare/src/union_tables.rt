@@ -1,60 +1,55 @@
-ghost use Rattle.std.specs.Prelude.{◌≡◌, ◌≤◌, true, List, IfOk, is_some};
-ghost use Rattle.std.specs.Option.{IfSome};
-ghost use Rattle.std.specs.List.{list_all, position_or_len};
-ghost use Rattle.avro_schema.specs.Node.{Node as SeenNode, node_at};
+//! How the branches of the reader's unions are found.
+
+ghost use Rattle.std.specs.Prelude.{◌≡◌, true, IfOk, OnOk, Some, cond, is_some};
+ghost use Rattle.std.specs.BTreeMap.{get};
+ghost use Rattle.std.specs.List.{list_all};
+ghost use Rattle.avro_schema.specs.Node.{node_at};
 ghost use Rattle.avro_schema.specs.Seen.{ids_of};
 ghost use Rattle.avro_schema.specs.SeenSchema.{schema_nodes};
 ghost use Rattle.avro_schema.specs.WellFormed.{branch_kind};
-ghost use Rattle.avro_compare.specs.inside.NameNumbers.{AreNumbers};
-ghost use Rattle.avro_compare.specs.inside.NameTables.{AreUnionTables, FindsFirst, NumberMap, StartsAt, branches_at, passes, is_numbered};
+ghost use Rattle.avro_compare.specs.inside.TypeNames.{AreUnionTables, FindsFirst, FindsPlaces, IsUnionTable, NameKey, branches_at, is_own, key_cmp, passes};
 
-use crate::by_node::{FEWEST, add_table, table_of};
-use crate::first_branches::{first_branches, type_at};
-use crate::name_numbers::NameNumbers;
 use crate::named_type::NamedType;
-use crate::numbering::number_of;
+use crate::type_names::UnionTable;
+use crate::type_numbers::{simple_of, type_at};
 use avro_schema::{Node, NodeId, Schema};
+use avro_texts::Texts;
 use std::alloc::{AllocError, Global};
 use std::collections::BTreeMap;
 
-/// The tables of the reader's unions with many branches, sorted by the unions' nodes. Each maps a kind and the number
-/// of a simple name to the first branch that has them.
+/// For each of the reader's nodes how its branches are found. A node that is no union has none.
 pub(crate) fn union_tables(
     alloc: Global,
-    simples: &BTreeMap<&str, u32>,
+    texts: &Texts,
     reader: &Schema,
-) -> Result<Vec<(NodeId, BTreeMap<(u64, u32), usize>)>, AllocError>
-    ensures { IfOk result (λ tables. AreUnionTables simples.now (schema_nodes reader.now) tables.items) }
+) -> Result<Vec<UnionTable>, AllocError>
+    ensures { IfOk result (λ tables. AreUnionTables texts.now (schema_nodes reader.now) tables.items) }
 {
     let mut tables = Vec::new(alloc);
-    let mut number = 0u32;
-    for _round in 0..reader.len() {
-        let id = NodeId(number);
-        add_table(&mut tables, id, union_table(alloc, simples, reader, id)?)?;
-        number = number.saturating_add(1);
+    for index in 0..reader.len() {
+        let table = union_table(alloc, texts, reader, NodeId(index as u32))?;
+        tables.push(table)?;
     }
     Ok(tables)
 }
 
-/// The table of a union, which maps a kind and the number of a simple name to the first branch that has them, if the
-/// union has many branches and few aliases.
+/// How the branches of a node are found.
 fn union_table(
     alloc: Global,
-    simples: &BTreeMap<&str, u32>,
+    texts: &Texts,
     reader: &Schema,
     id: NodeId,
-) -> Result<Option<BTreeMap<(u64, u32), usize>>, AllocError>
-    ensures { IfOk result (λ table. IfSome table (FindsFirst simples.now (schema_nodes reader.now) (branches_at (node_at (schema_nodes reader.now) id.0)))) }
+) -> Result<UnionTable, AllocError>
+    ensures { IfOk result (IsUnionTable texts.now (schema_nodes reader.now) (node_at (schema_nodes reader.now) id.0)) }
 {
     let branches = branches_of(reader, id);
-    if branches.len() < FEWEST || !has_few_aliases(reader, branches) {
-        return Ok(None);
-    }
-    Ok(Some(first_branches(alloc, simples, reader, branches)?))
+    let firsts = first_branches(alloc, texts, reader, branches)?;
+    let places = branch_places(alloc, branches)?;
+    Ok(UnionTable { firsts, places })
 }
 
 /// The branches of a union, or none if the node is no union. No branch is a union itself.
-fn branches_of(schema: &Schema, id: NodeId) -> &[NodeId]
+pub(crate) fn branches_of(schema: &Schema, id: NodeId) -> &[NodeId]
     ensures ids { ids_of result.now ≡ branches_at (node_at (schema_nodes schema.now) id.0) }
     ensures plain { list_all (λ branch. is_some (branch_kind (node_at (schema_nodes schema.now) branch))) (ids_of result.now) ≡ true }
 {
@@ -64,64 +59,69 @@ fn branches_of(schema: &Schema, id: NodeId) -> &[NodeId]
     }
 }
 
-/// Whether the branches of a union have no more aliases than there are branches. The size of the table is then
-/// bounded by the text of the union, even if many unions share branches with many aliases.
-fn has_few_aliases(reader: &Schema, branches: &[NodeId]) -> bool {
-    let mut left = branches.len();
-    for branch in branches {
-        let count = alias_count(reader, *branch);
-        if count > left {
-            return false;
-        }
-        left -= count;
-    }
-    true
-}
-
-/// How many aliases a node has.
-fn alias_count(reader: &Schema, id: NodeId) -> usize {
-    match type_at(reader, id) {
-        Some(named) => named.aliases.len(),
-        None => 0,
-    }
-}
-
-/// An index in a reader's union such that no branch before it matches the writer's node.
-pub(crate) fn start_by(
-    tables: &[(NodeId, BTreeMap<(u64, u32), usize>)],
-    numbers: &NameNumbers,
-    writer: &Schema,
-    w: NodeId,
+/// The first branch of each kind and number of a simple name. Branches are gone through from the last, so that the
+/// first is kept.
+fn first_branches(
+    alloc: Global,
+    texts: &Texts,
     reader: &Schema,
-    r: NodeId,
-) -> usize
-    requires numbers { AreNumbers (schema_nodes writer.now) (schema_nodes reader.now) numbers.now }
-    requires tables { AreUnionTables numbers.now.table.simples (schema_nodes reader.now) tables.now }
-    ensures { StartsAt (schema_nodes writer.now) (schema_nodes reader.now)
-        (node_at (schema_nodes writer.now) w.0) (node_at (schema_nodes reader.now) r.0) result }
+    branches: &[NodeId],
+) -> Result<BTreeMap<(u64, u32), usize>, AllocError>
+    ensures { IfOk result (FindsFirst texts.now (schema_nodes reader.now) (ids_of branches.now)) }
 {
-    match table_of(tables, r) {
-        None => 0,
-        Some(first) => match type_at(writer, w) {
-            None => 0,
-            Some(named) => match number_of(numbers, w) {
-                None => 0,
-                Some(full) => first_named(first, branches_of(reader, r), &named, full.0),
-            },
-        },
+    let mut firsts = BTreeMap::new(alloc);
+    let mut left = branches.len();
+    while left > 0 {
+        left -= 1;
+        add_branch(&mut firsts, texts, reader, branches[left], left)?;
+    }
+    Ok(firsts)
+}
+
+/// Adds a branch by its kind and its simple name, if it is a type.
+fn add_branch(
+    firsts: &mut BTreeMap<(u64, u32), usize>,
+    texts: &Texts,
+    reader: &Schema,
+    id: NodeId,
+    branch: usize,
+) -> Result<(), AllocError>
+    ensures { OnOk result ((key : NameKey) → get key_cmp firsts.new key
+        ≡ cond (passes (schema_nodes reader.now) (is_own texts.now key.0 key.1) id.0) (Some branch) (get key_cmp firsts.old key)) }
+{
+    match type_at(reader, id) {
+        None => Ok(()),
+        Some(named) => add_named(firsts, texts, &named, branch),
     }
 }
 
-/// The index of the first branch of the kind of a type with a simple name of a number, or the number of branches.
-fn first_named(
-    first: &BTreeMap<(u64, u32), usize>,
-    branches: &[NodeId],
+/// Adds a branch by its kind and its simple name, if the name has a number.
+fn add_named(
+    firsts: &mut BTreeMap<(u64, u32), usize>,
+    texts: &Texts,
     named: &NamedType,
-    simple: u32,
-) -> usize
-    ensures { (simples : NumberMap) (reader : List SeenNode) → FindsFirst simples reader (ids_of branches.now) first.now
-        → result ≤ position_or_len (passes reader (is_numbered simples named.now.kind simple)) (ids_of branches.now) }
+    branch: usize,
+) -> Result<(), AllocError>
+    ensures { OnOk result ((key : NameKey) → get key_cmp firsts.new key ≡ cond (is_own texts.now key.0 key.1 named.now) (Some branch) (get key_cmp firsts.old key)) }
 {
-    let found = first.get(&(named.kind, simple));
-    found.copied().unwrap_or(branches.len())
+    match simple_of(texts, named) {
+        None => Ok(()),
+        Some(simple) => {
+            firsts.insert((named.kind, simple), branch)?;
+            Ok(())
+        }
+    }
+}
+
+/// The first index of each branch.
+fn branch_places(alloc: Global, branches: &[NodeId]) -> Result<BTreeMap<u32, usize>, AllocError>
+    ensures { IfOk result (FindsPlaces (ids_of branches.now)) }
+{
+    let mut places = BTreeMap::new(alloc);
+    let mut left = branches.len();
+    while left > 0 {
+        left -= 1;
+        places.insert(branches[left].0, left)?;
+    }
+    Ok(places)
 }

@@ -2,7 +2,7 @@ use Rattle.std.proofs.Common.{sym, subst}
 use Rattle.avro_schema.specs.Node.{Node, node_at}
 use Rattle.avro_schema.specs.SeenSchema.{schema_nodes}
 use Rattle.avro_compare.specs.Pairs.{IsStep}
-use Rattle.avro_compare.specs.inside.NameNumbers.{TellsAlike}
+use Rattle.avro_compare.specs.inside.NamedTypes.{TellsAlike}
 use Rattle.avro_compare.proofs.matching.step.Goals as goal
 
 pub step_to-requires : goal.step_to-requires

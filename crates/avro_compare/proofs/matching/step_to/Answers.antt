@@ -3,7 +3,7 @@ use Rattle.avro_schema.specs.Node.{Node}
 use Rattle.avro_schema.specs.Seen.{node_of}
 use Rattle.avro_schema.specs.SeenSchema.{schema_nodes}
 use Rattle.avro_compare.specs.Pairs.{IsStep}
-use Rattle.avro_compare.specs.inside.NameNumbers.{TellsAlike}
+use Rattle.avro_compare.specs.inside.NamedTypes.{TellsAlike}
 use Rattle.avro_compare.proofs.matching.step_to.Goals as goal
 
 pub step_of-requires : goal.step_of-requires

@@ -9,4 +9,4 @@ pub returns : goal.returns
 returns c =
     let writer = schema_nodes c.args.writer.now in
     let reader = schema_nodes c.args.reader.now in
-    subst (λ a. IsAim writer reader (node_at writer c.args.w.0) (node_at reader c.args.r.0) a) (sym c.aim_after.ensures) (pair_leads writer reader c.args.w c.args.r)
+    subst (λ a. IsAim writer reader (node_at writer c.args.w.0) (node_at reader c.args.r.0) a) (sym c.aim_by.ensures) (pair_leads writer reader c.args.w c.args.r)

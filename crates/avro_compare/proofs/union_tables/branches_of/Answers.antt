@@ -5,8 +5,8 @@ use Rattle.avro_schema.specs.Node.{node_at}
 use Rattle.avro_schema.specs.Seen.{node_of, ids_of}
 use Rattle.avro_schema.specs.SeenSchema.{schema_nodes}
 use Rattle.avro_schema.specs.WellFormed.{branch_kind}
-use Rattle.avro_compare.specs.inside.NameTables.{branches_at}
-use Rattle.avro_compare.proofs.NamedStarts.{all_plain}
+use Rattle.avro_compare.specs.inside.TypeNames.{branches_at}
+use Rattle.avro_compare.proofs.PlainBranches.{all_plain}
 use Rattle.avro_compare.proofs.union_tables.branches_of.Goals as goal
 
 pub returns-in-Union-clause-plain : goal.returns-in-Union-clause-plain

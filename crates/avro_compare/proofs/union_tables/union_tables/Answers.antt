@@ -1,10 +1,19 @@
+use Rattle.std.proofs.Common.{◌≡◌, [], rules}
 use Rattle.avro_schema.specs.Node.{node_at}
-use Rattle.avro_compare.specs.inside.NameTables.{FindsFirst, branches_at}
 use Rattle.avro_schema.specs.SeenSchema.{schema_nodes}
-use Rattle.avro_compare.proofs.NodeTables.{each_more}
+use Rattle.avro_compare.specs.inside.TypeNames.{IsUnionTable}
+use Rattle.avro_compare.proofs.public.Planning.{holds_none, holds_push}
 use Rattle.avro_compare.proofs.union_tables.union_tables.Goals as goal
 
-pub loop-round-preserved : goal.loop-round-preserved
-loop-round-preserved c =
-    each_more (λ union_at first. FindsFirst c.args.simples.now (schema_nodes c.args.reader.now) (branches_at (node_at (schema_nodes c.args.reader.now) union_at)) first) c.loop-round.tables.items c.add_table.new.tables.items (record { 0 = c.loop-round.number }) c.in_ok-union_table.field-0
-    c.in_ok-add_table.ensures c.in_ok-union_table.ensures c.loop-round.invariant
+pub loop-index-init : goal.loop-index-init
+loop-index-init c =
+    let none : c.new-tables.result.items ≡ [] = search rules in
+    holds_none (λ k table. IsUnionTable c.args.texts.now (schema_nodes c.args.reader.now) (node_at (schema_nodes c.args.reader.now) k) table) none
+
+pub loop-index-preserved : goal.loop-index-preserved
+loop-index-preserved c =
+    holds_push (λ k table. IsUnionTable c.args.texts.now (schema_nodes c.args.reader.now) (node_at (schema_nodes c.args.reader.now) k) table) c.loop-index.tables.items c.push.new.self.items c.in_ok-table.table
+    c.loop-index.index c.in_ok-push.ensures.items c.loop-index.invariant c.in_ok-table.ensures
+
+pub returns : goal.returns
+returns c = c.loop-index.invariant.0

@@ -4,7 +4,15 @@ use Rattle.avro_schema.specs.SeenSchema.{schema_nodes}
 use Rattle.avro_schema.specs.declared.schema.Schema.{Schema}
 use Rattle.avro_compare.specs.Pairs.{IsAim}
 use Rattle.avro_compare.proofs.public.Leading.{pair_leads}
+use Rattle.std.specs.Option.{IfSome}
+use Rattle.avro_compare.specs.inside.TypeNames.{AreTypeNames}
+use Rattle.avro_compare.proofs.NumberedTexts.{borrowed}
 use Rattle.avro_compare.proofs.names.Names.aim.Goals as goal
+
+pub aim_by-requires : goal.aim_by-requires
+aim_by-requires c =
+    let are = AreTypeNames (schema_nodes c.self.inside.writer.now) (schema_nodes c.self.inside.reader.now) in
+    borrowed are c.as_ref.result (subst (λ o. IfSome o are) (sym c.as_ref.ensures.value) c.self.invariant.0)
 
 pub returns-clause-leads : goal.returns-clause-leads
 returns-clause-leads c =
@@ -12,5 +20,5 @@ returns-clause-leads c =
     let reader = schema_nodes c.self.inside.reader.now in
     let w = c.args.w in
     let r = c.args.r in
-    subst (λ (v : Schema × Schema). IsAim (schema_nodes v.0) (schema_nodes v.1) (node_at (schema_nodes v.0) w.0) (node_at (schema_nodes v.1) r.0) c.aim_after.result)
-    c.self.view_is (subst (λ a. IsAim writer reader (node_at writer w.0) (node_at reader r.0) a) (sym c.aim_after.ensures) (pair_leads writer reader w r))
+    subst (λ (v : Schema × Schema). IsAim (schema_nodes v.0) (schema_nodes v.1) (node_at (schema_nodes v.0) w.0) (node_at (schema_nodes v.1) r.0) c.aim_by.result)
+    c.self.view_is (subst (λ a. IsAim writer reader (node_at writer w.0) (node_at reader r.0) a) (sym c.aim_by.ensures) (pair_leads writer reader w r))
