@@ -112,8 +112,8 @@ module _ (T : List (List ℕ)) (distinct : AreDistinct T) where
   place_from n t is at (u ∷ us) (k ∷ ks) h =
       let here : slice_get T k ≡ Some u = h.0 0 k refl u refl in
       let one : (k == n) ≡ bytes_eq u t = same (k == n) (bytes_eq u t)
-          (λ e. (bytes_eq-Decides u t).1 (same_some here (ap (slice_get T) (eqb-true k n e) ∙ is)))
-          (λ e. eq-eqb k n (one_number T t k n distinct (here ∙ ap (λ (v : List ℕ). Some v) ((bytes_eq-Decides u t).0 e)) is)) in
+      (λ e. (bytes_eq-Decides u t).1 (same_some here (ap (slice_get T) (eqb-true k n e) ∙ is)))
+      (λ e. eq-eqb k n (one_number T t k n distinct (here ∙ ap (λ (v : List ℕ). Some v) ((bytes_eq-Decides u t).0 e)) is)) in
       ap (λ b. cond b (Some at) (position_from (λ j. j == n) (at + 1) ks)) one
       ∙ ap (λ o. cond (bytes_eq u t) (Some at) o) (place_from n t is (at + 1) us ks (rest_of T u us k ks h))
 

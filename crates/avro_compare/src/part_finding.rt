@@ -60,10 +60,7 @@ pub(crate) fn field_numbers_at(
 }
 
 /// The source of a reader's field, by number.
-pub(crate) fn source_by_numbers(
-    numbers: &PartNumbers,
-    found: FieldNumbers,
-) -> Option<usize>
+pub(crate) fn source_by_numbers(numbers: &PartNumbers, found: FieldNumbers) -> Option<usize>
     ensures { (writes : List FieldNode) (field : FieldNode) → IsTabled numbers.now → HasField numbers.now writes field found → result ≡ source_of writes field }
 {
     match place(&numbers.places, found.fields, found.name) {
@@ -123,10 +120,7 @@ pub(crate) fn symbol_numbers_of(
 }
 
 /// The first index of a symbol among the reader's, by number.
-pub(crate) fn symbol_by_numbers(
-    numbers: &PartNumbers,
-    found: SymbolNumbers,
-) -> Option<usize>
+pub(crate) fn symbol_by_numbers(numbers: &PartNumbers, found: SymbolNumbers) -> Option<usize>
     ensures { (reads : List (List ℕ)) (symbol : List ℕ) → IsTabled numbers.now → HasSymbol numbers.now reads symbol found → result ≡ position (λ s. bytes_eq s symbol) reads }
 {
     place(&numbers.places, found.symbols, found.symbol)

@@ -1,7 +1,6 @@
 //! Where numbers are in lists.
 
 ghost use Rattle.std.specs.Prelude.{◌≡◌, ◌==◌, ℕ, IfOk, List, None, OnOk, cond};
-
 ghost use Rattle.indexmap.specs.IndexMap.{get};
 ghost use Rattle.avro_compare.specs.Source.{or_else};
 ghost use Rattle.avro_compare.specs.inside.Nearer.{field_in, nearer};
