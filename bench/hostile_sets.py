@@ -115,6 +115,25 @@ def symbols_twice(size, number=60):
     return filled(fields, kinds, size, lambda: '"%s"' % next(names, "x" * size))
 
 
+def one_set(records, maps, holders, labels):
+    """Records without fields, some in maps and some in records of one field, and short defaults of members that are all of the one
+    large set of these records: it is asked for its parents under each label, anew for each default."""
+    def text(size):
+        fields = [{"name": "s", "type": {"type": "enum", "name": "S", "symbols": list(LETTERS[:labels])}}]
+        fields += [{"name": f"r{k}", "type": record(f"R{k}")} for k in range(records)]
+        fields += [{"name": f"m{k}", "type": {"type": "map", "values": f"R{k}"}} for k in range(maps)]
+        fields += [{"name": f"h{k}", "type": record(f"H{k}", A=f"R{k}")} for k in range(holders)]
+        fields.append({"name": "of", "type": record("Of", m={"type": "map", "values": "R0"})})
+        left = size - len(written({"type": "record", "name": "Root", "fields": fields}))
+        while True:
+            last = {"name": f"d{len(fields)}", "type": "Of", "default": {"m": {label: {} for label in LETTERS[:labels]}}}
+            left -= len(written(last)) + 1
+            if left < 0:
+                return written({"type": "record", "name": "Root", "fields": fields})
+            fields.append(last)
+    return text
+
+
 KINDS = {
     "crossing 1000 x 750 x 100": crossing(1000, 750, 100, 32), "crossing 1600 x 1100 x 60": crossing(1600, 1100, 60, 40),
     "crossing 1700 x 1100 x 40": crossing(1700, 1100, 40, 60), "crossing 2000 x 900 x 30": crossing(2000, 900, 30, 60),
@@ -124,4 +143,5 @@ KINDS = {
     "classes 1900 by 30": classes(1900, 30, 600), "classes 1500 by 60": classes(1500, 60, 500), "classes 1000 by 100": classes(1000, 100, 300),
     "members 2000 x 2": members(2000, 2), "members 1000 x 6": members(1000, 6), "members 300 x 20": members(300, 20),
     "symbols twice": symbols_twice, "many defaults": many_defaults,
+    "one set, 53 labels": one_set(3900, 0, 0, 53), "one set, a label": one_set(1300, 0, 1300, 1), "one set in maps": one_set(1900, 1900, 0, 1),
 }

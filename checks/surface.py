@@ -204,8 +204,6 @@ RULES = {
 }
 # The reasons of the exceptions.
 NUMBERED = "names stand in a tree until they have numbers"
-PLACED = "names of a refused text stand in a tree, beside their places"
-DEFAULT = "keys of the JSON of a default, each beside what it may be"
 KEYS = "keys of data or of metadata, in the order of their bytes"
 ORDERED = "a display has the names of fields in the order of their bytes"
 SPELLED = "the specification spells the canonical form; no JSON is shown"
@@ -222,23 +220,9 @@ EXCEPTIONS = {
         ("avro_display/src/members.rt &str", ORDERED),
         ("avro_display/src/putting.rt &str", ORDERED),
         ("avro_file/src/header/properties.rt String", KEYS),
-        ("avro_schema_json/src/declarations/name_table.rt Namespace", NUMBERED),
-        ("avro_schema_json/src/declarations/name_table.rt (u32, String)", NUMBERED),
-        ("avro_schema_json/src/defaults/edges.rt &str", NUMBERED),
-        ("avro_schema_json/src/defaults/fields.rt &str", NUMBERED),
-        ("avro_schema_json/src/defaults/walk.rt &str", DEFAULT),
-        ("avro_schema_json/src/raw.rt String", NUMBERED),
-        ("avro_schema_json/src/repeats.rt &str", NUMBERED),
-        ("avro_schema_json/src/symbol_indices.rt String", NUMBERED),
         ("avro_show/src/composing.rt String", KEYS),
         ("avro_show/src/room.rt String", KEYS),
         ("avro_show/src/spans.rt String", KEYS),
-        ("avro_why/src/definitions.rt &str", PLACED),
-        ("avro_why/src/names.rt &str", PLACED),
-        ("avro_why/src/names.rt (usize, &str)", PLACED),
-        ("avro_why/src/nodes.rt &str", PLACED),
-        ("avro_why/src/places.rt &str", PLACED),
-        ("avro_why/src/types.rt &str", PLACED),
     ],
     BY_HAND: [
         ("avro_compare/src/error.rt Fault", "it shows a path, which no attribute of a derive can write"),

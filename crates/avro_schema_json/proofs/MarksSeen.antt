@@ -1,8 +1,7 @@
 -- The marks of JSON as those of its parts are kept.
-use Rattle.avro_schema_json.proofs.Words.{◌≡◌, ℕ, zero, suc, ◌+◌, true, List, [], ◌∷◌, ◌++◌, length, length-append, Option, Some, None, get_or, refl, sym, ap, subst, ◌∙◌, ◌<◌, ◌⊎◌, inl, inr, arith, unwrap_or, Vec, none-some, same_Some, Node, Data, get_item, view, items_view, Tree, get_item_within, place_of, Covers, part_at, IsPartUnder, IsSetOf, IsMarked, marked, Stays, ArePartsMarked, Label, IsStep, AreParents, has_bit, words_of, label_of, has_place, LeadsTo, AreSteps, Mark}
+use Rattle.avro_schema_json.proofs.Words.{◌≡◌, ℕ, zero, suc, ◌+◌, true, List, [], ◌∷◌, ◌++◌, length, length-append, Option, Some, None, get_or, refl, sym, ap, subst, ◌∙◌, ◌<◌, ◌⊎◌, inl, inr, arith, unwrap_or, Vec, none-some, same_Some, Node, Data, get_item, view, items_view, Tree, get_item_within, place_of, Covers, part_at, IsPartUnder, IsSetOf, IsMarked, marked, Stays, ArePartsMarked, Label, Numbered, IsStep, AreParents, has_bit, words_of, label_of, has_place, LeadsTo, AreSteps, Mark}
 use Rattle.std.specs.Prelude.{slice_get, Result, Ok, Err, IfOk}
 use Rattle.std.specs.BTreeMap.{BTreeMap}
-use denote.Ref.{Bor}
 use Rattle.avro_schema_json.specs.inside.Parents.{number_of}
 use Rattle.avro_schema_json.specs.inside.Sets.{row_at, KeepsRows}
 use Rattle.avro_schema_json.specs.inside.Tables.{AreTables}
@@ -121,7 +120,7 @@ place-below : (last m : ℕ) → last < 4096 → place_of last m < 4096
 place-below last m below = grind arith
 
 -- the parents of what a set has
-stepped : (nodes : List Node) (last : ℕ) (labels : BTreeMap (Bor (List ℕ)) ℕ) (parents : List (BTreeMap ℕ (Vec ℕ))) (label : Label) (k number : ℕ) (sets : Sets)
+stepped : (nodes : List Node) (last : ℕ) (labels : Numbered) (parents : List (BTreeMap ℕ (Vec ℕ))) (label : Label) (k number : ℕ) (sets : Sets)
     (s n : ℕ) (row : List ℕ) → AreParents nodes last labels parents → number_of labels label ≡ Some k → (k ≡ number) ⊎ (k ≡ 1) → last < 4096 → row_at sets s ≡ Some row
     → (leads : LeadsTo parents sets number s n) → IsStep nodes last label row leads.1
 stepped nodes last labels parents label k number sets s n row are is either below at leads = λ x t y part own there.

@@ -1,11 +1,10 @@
 -- Parents of places, as they are put.
-use Rattle.avro_schema_json.proofs.Words.{◌≡◌, ℕ, ◌/◌, ◌%◌, ◌<◌, ◌≤◌, Bool, true, false, cond, ◌==◌, List, length, set, get_or, Option, Some, None, refl, sym, subst, ◌∙◌, arith, length-set, Vec, bit_at, bit_or, Decides-eqb, none-some, same_Some, slice_get_read, length-map, Name, Node, FieldNode, ids_of, NodeId, place_of, own_ids, Label, has_bit, words_or_none, words_under, words_at, words_of, label_of, HasParent, HasParts, IsField, AreFields, IsParent, KeepsUnder, KeepsParents, KeepsLabels, Equal-is, get_or-set_same, get_or-set_other}
+use Rattle.avro_schema_json.proofs.Words.{◌≡◌, ℕ, ◌/◌, ◌%◌, ◌<◌, ◌≤◌, Bool, true, false, cond, ◌==◌, List, length, set, get_or, Option, Some, None, refl, sym, subst, ◌∙◌, arith, length-set, Vec, bit_at, bit_or, Decides-eqb, none-some, same_Some, slice_get_read, length-map, Name, Node, FieldNode, ids_of, NodeId, place_of, own_ids, Label, Numbered, has_bit, words_or_none, words_under, words_at, words_of, label_of, HasParent, HasParts, IsField, AreFields, IsParent, KeepsUnder, KeepsParents, KeepsLabels, Equal-is, get_or-set_same, get_or-set_other}
 use Rattle.std.specs.Prelude.{slice_get, Contains, bytes_eq}
 use Rattle.std.specs.Ordering.{nat_cmp, is_eq}
 use Rattle.std.specs.BTreeMap.{BTreeMap}
 use Rattle.std.proofs.lemmas.Grind.{get_or_default_zero}
 use Rattle.std.proofs.lemmas.Map.Lookups.{exact_unsigned}
-use denote.Ref.{Bor}
 use Rattle.avro_schema_json.specs.inside.Parents.{number_of}
 use Rattle.avro_schema_json.proofs.RowsSeen.{more-left, bit-of, of-bit}
 use Rattle.avro_schema_json.proofs.EachSeen.{Before, before-all, put-each, set-each, set-there, exact-texts}
@@ -31,7 +30,7 @@ bit-same words more p same h = of-bit more p (rw (same (p / 64)) (bit-of words p
 
 -- ---- labels
 
-pub label-kept : (old new : BTreeMap (Bor (List ℕ)) ℕ) (name : List ℕ) (label : ℕ) → label_of old name ≡ None
+pub label-kept : (old new : Numbered) (name : List ℕ) (label : ℕ) → label_of old name ≡ None
     → ((word : List ℕ) → label_of new word ≡ cond (bytes_eq name word) (Some label) (label_of old word)) → KeepsLabels old new
 label-kept old new name label fresh put = grind (arith, exact-texts, none-some, put-each)
 
@@ -60,7 +59,7 @@ pub parents-added : (parents : List (BTreeMap ℕ (Vec ℕ))) (i number p : ℕ)
     → has_bit (words_of (set parents i after) i number) p
 parents-added parents i number p after below = subst (λ (o : Option (BTreeMap ℕ (Vec ℕ))). has_bit (words_at o number) p) (sym (set-there parents i after below))
 
-pub names-on : (a b c : BTreeMap (Bor (List ℕ)) ℕ) → KeepsLabels a b → KeepsLabels b c → KeepsLabels a c
+pub names-on : (a b c : Numbered) → KeepsLabels a b → KeepsLabels b c → KeepsLabels a c
 names-on a b c first second = λ name number at. second name number (first name number at)
 
 pub keeps-on : (a b c : List (BTreeMap ℕ (Vec ℕ))) → KeepsParents a b → KeepsParents b c → KeepsParents a c
@@ -74,13 +73,13 @@ parts-all last i number parent ids parents past each y among = grind (arith, bef
 
 -- ---- fields
 
-pub field-kept : (nodes : List Node) (last : ℕ) (labels more : BTreeMap (Bor (List ℕ)) ℕ) (old new : List (BTreeMap ℕ (Vec ℕ))) (f : FieldNode) (p : ℕ)
+pub field-kept : (nodes : List Node) (last : ℕ) (labels more : Numbered) (old new : List (BTreeMap ℕ (Vec ℕ))) (f : FieldNode) (p : ℕ)
     → KeepsLabels labels more → KeepsParents old new → IsField nodes last labels old f p → IsField nodes last more new f p
 field-kept nodes last labels more old new f p names kept h = grind arith
 
 -- ---- a node as the parent of its parts
 
-module _ (nodes : List Node) (last : ℕ) (labels : BTreeMap (Bor (List ℕ)) ℕ) (parents : List (BTreeMap ℕ (Vec ℕ))) (p : ℕ) where
+module _ (nodes : List Node) (last : ℕ) (labels : Numbered) (parents : List (BTreeMap ℕ (Vec ℕ))) (p : ℕ) where
   pub array-parent : (id : ℕ) → HasParts last (own_ids nodes id) parents 0 p → IsParent nodes last labels parents (Node.array id) p
   array-parent id parts label t y part among = grind (arith, none-some, same_Some)
 
@@ -95,19 +94,19 @@ module _ (nodes : List Node) (last : ℕ) (labels : BTreeMap (Bor (List ℕ)) �
       → IsParent nodes last labels parents (Node.record_of name aliases fields) p
   record-parent name aliases fields each label t y part among = grind (arith, none-some)
 
-number-kept : (labels more : BTreeMap (Bor (List ℕ)) ℕ) (label : Label) (number : ℕ) → KeepsLabels labels more → number_of labels label ≡ Some number → number_of more label ≡ Some number
+number-kept : (labels more : Numbered) (label : Label) (number : ℕ) → KeepsLabels labels more → number_of labels label ≡ Some number → number_of more label ≡ Some number
 number-kept labels more label number names h = grind arith
 
-pub has-kept : (labels more : BTreeMap (Bor (List ℕ)) ℕ) (old new : List (BTreeMap ℕ (Vec ℕ))) (label : Label) (part p : ℕ) → KeepsLabels labels more
+pub has-kept : (labels more : Numbered) (old new : List (BTreeMap ℕ (Vec ℕ))) (label : Label) (part p : ℕ) → KeepsLabels labels more
     → KeepsParents old new → HasParent labels old label part p → HasParent more new label part p
 has-kept labels more old new label part p names kept h = (h.0, number-kept labels more label h.0 names h.1, kept.1 part h.0 p h.2)
 
-pub parent-kept : (nodes : List Node) (last : ℕ) (labels more : BTreeMap (Bor (List ℕ)) ℕ) (old new : List (BTreeMap ℕ (Vec ℕ))) (n : Node) (p : ℕ)
+pub parent-kept : (nodes : List Node) (last : ℕ) (labels more : Numbered) (old new : List (BTreeMap ℕ (Vec ℕ))) (n : Node) (p : ℕ)
     → KeepsLabels labels more → KeepsParents old new → IsParent nodes last labels old n p → IsParent nodes last more new n p
 parent-kept nodes last labels more old new n p names kept are = λ label t y part among.
     has-kept labels more old new label (place_of last y) p names kept (are label t y part among)
 
 -- null is no parent
-pub null-parent : (nodes : List Node) (last : ℕ) (labels : BTreeMap (Bor (List ℕ)) ℕ) (parents : List (BTreeMap ℕ (Vec ℕ))) (p : ℕ)
+pub null-parent : (nodes : List Node) (last : ℕ) (labels : Numbered) (parents : List (BTreeMap ℕ (Vec ℕ))) (p : ℕ)
     → IsParent nodes last labels parents Node.null p
 null-parent nodes last labels parents p label t y part among = grind (arith, none-some)

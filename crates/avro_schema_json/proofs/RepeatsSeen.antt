@@ -1,5 +1,5 @@
 -- A union in which a branch occurs twice, and a record that has two fields of one name, is a fault of the nodes with their defaults.
-use Rattle.avro_schema_json.proofs.Words.{◌≡◌, ℕ, zero, suc, ◌+◌, ◌<◌, ◌≤◌, Bool, true, false, not, ◌&&◌, cond, List, [], ◌∷◌, ◌++◌, length, map, drop, add-one, filter_map, Option, Some, None, get_or, ◌⊎◌, refl, sym, ap, subst, ◌∙◌, arith, nat_lt, slice_get, is_some, bytes_eq, flat_map, nat_cmp, BTreeSet, Bor, BTreeMap, list_all, list_any, AllByRecursion, and_parts, or_parts, false≢true, not-true, false_from_ne_true, length-map, list_any-append, bytes_eq-Decides, Name, same_name-self, are_distinct, invalid_union, duplicate_field, breaks, has_fields_rule, IsThere, Node, FieldNode, node_at, node_name, ids_of, field_names, is_edge, is_union, BranchKind, branch_kind, same_kind, broken-there, RawField, RawNode, field_without_default, node_without_defaults, completed_field, completed_node, without_defaults, all_without_defaults, KeptNode, kind_code, code_by, Repeats, SomeRepeats, RepeatsName, RecordRepeatsName, SomeRepeatsName, AreFieldsDistinct, or-true, label_of, NodeId}
+use Rattle.avro_schema_json.proofs.Words.{◌≡◌, ℕ, zero, suc, ◌+◌, ◌<◌, ◌≤◌, Bool, true, false, not, ◌&&◌, cond, List, [], ◌∷◌, ◌++◌, length, map, drop, add-one, filter_map, Option, Some, None, get_or, ◌⊎◌, refl, sym, ap, subst, ◌∙◌, arith, nat_lt, slice_get, is_some, bytes_eq, flat_map, nat_cmp, BTreeSet, Numbered, list_all, list_any, AllByRecursion, and_parts, or_parts, false≢true, not-true, false_from_ne_true, length-map, list_any-append, bytes_eq-Decides, Name, same_name-self, are_distinct, invalid_union, duplicate_field, breaks, has_fields_rule, IsThere, Node, FieldNode, node_at, node_name, ids_of, field_names, is_edge, is_union, BranchKind, branch_kind, same_kind, broken-there, RawField, RawNode, field_without_default, node_without_defaults, completed_field, completed_node, without_defaults, all_without_defaults, KeptNode, kind_code, code_by, Repeats, SomeRepeats, RepeatsName, RecordRepeatsName, SomeRepeatsName, AreFieldsDistinct, or-true, label_of, NodeId}
 use Rattle.std.specs.BTreeSet.{contains}
 use Rattle.avro_schema.specs.Node.{branches_of}
 use Rattle.avro_schema.specs.SeenKind.{kind_at, has_kind}
@@ -183,25 +183,25 @@ repeated_field-there nodes raws some =
     broken-there duplicate_field completed some.0 (rw count some.1) (ap not (names_break nodes raws some.0 some.2))
 
 -- each name is that of a field before this one
-abbrev pub AreFieldNames : List FieldNode → BTreeMap (Bor (List ℕ)) ℕ → ℕ → Type 0
+abbrev pub AreFieldNames : List FieldNode → Numbered → ℕ → Type 0
 AreFieldNames fields names i =
     (word : List ℕ) (j : ℕ) → label_of names word ≡ Some j → (f : FieldNode) × (j < i) × (slice_get fields j ≡ Some f) × (word ≡ f.name)
 
-pub names-next : (fields : List FieldNode) (old new : BTreeMap (Bor (List ℕ)) ℕ) (i : ℕ) (f : FieldNode) (name : List ℕ) → slice_get fields i ≡ Some f → name ≡ f.name
+pub names-next : (fields : List FieldNode) (old new : Numbered) (i : ℕ) (f : FieldNode) (name : List ℕ) → slice_get fields i ≡ Some f → name ≡ f.name
     → ((word : List ℕ) → label_of new word ≡ cond (bytes_eq name word) (Some i) (label_of old word)) → AreFieldNames fields old i → AreFieldNames fields new (i + 1)
 names-next fields old new i f name at is put are =
     put-all bytes_eq exact-texts (λ word j. (g : FieldNode) × (j < i + 1) × (slice_get fields j ≡ Some g) × (word ≡ g.name)) (label_of old) (label_of new) name i put
     (λ word j found. let was = are word j found in (was.0, omega (arith, was.1), was.2, was.3)) (f, omega arith, at, is)
 
-pub name-found : (fields : List FieldNode) (names : BTreeMap (Bor (List ℕ)) ℕ) (i : ℕ) (f : FieldNode) (word : List ℕ) → slice_get fields i ≡ Some f → word ≡ f.name
+pub name-found : (fields : List FieldNode) (names : Numbered) (i : ℕ) (f : FieldNode) (word : List ℕ) → slice_get fields i ≡ Some f → word ≡ f.name
     → is_some (label_of names word) ≡ true → AreFieldNames fields names i → RepeatsName fields
 name-found fields names i f word at is there are = grind arith
 
 -- the fields that are left have different names, none of which was kept
-abbrev pub AreNew : BTreeMap (Bor (List ℕ)) ℕ → List FieldNode → Type 0
+abbrev pub AreNew : Numbered → List FieldNode → Type 0
 AreNew names fields = AreFieldsDistinct fields × AllByRecursion (λ word. label_of names word ≡ None) (map (λ (f : FieldNode). f.name) fields)
 
-apart : (old new : BTreeMap (Bor (List ℕ)) ℕ) (name : List ℕ) (i : ℕ) → ((word : List ℕ) → label_of new word ≡ cond (bytes_eq name word) (Some i) (label_of old word))
+apart : (old new : Numbered) (name : List ℕ) (i : ℕ) → ((word : List ℕ) → label_of new word ≡ cond (bytes_eq name word) (Some i) (label_of old word))
     → (words : List (List ℕ)) → AllByRecursion (λ word. label_of new word ≡ None) words
     → AllByRecursion (λ word. bytes_eq name word ≡ false) words × AllByRecursion (λ word. label_of old word ≡ None) words
 apart old new name i put [] fresh = (tt, tt)
@@ -213,7 +213,7 @@ apart old new name i put (word ∷ words) fresh =
     by : (b : Bool) → bytes_eq name word ≡ b → (bytes_eq name word ≡ false) × (label_of old word ≡ None)
     by b e = grind arith
 
-pub new-next : (fields : List FieldNode) (old new : BTreeMap (Bor (List ℕ)) ℕ) (i : ℕ) (f : FieldNode) (name : List ℕ) → slice_get fields i ≡ Some f → name ≡ f.name
+pub new-next : (fields : List FieldNode) (old new : Numbered) (i : ℕ) (f : FieldNode) (name : List ℕ) → slice_get fields i ≡ Some f → name ≡ f.name
     → label_of old name ≡ None → ((word : List ℕ) → label_of new word ≡ cond (bytes_eq name word) (Some i) (label_of old word))
     → AreNew new (drop (i + 1) fields) → AreNew old (drop i fields)
 unfolding IsDistinct
@@ -222,7 +222,7 @@ new-next fields old new i f name at is fresh put left =
     let others = apart old new f.name i (subst (λ (n : List ℕ). (word : List ℕ) → label_of new word ≡ cond (bytes_eq n word) (Some i) (label_of old word)) is put) _ left.1 in
     rw here ((others.0, left.0), (subst (λ (n : List ℕ). label_of old n ≡ None) is fresh, others.1))
 
-pub none-left : (fields : List FieldNode) (names : BTreeMap (Bor (List ℕ)) ℕ) (i : ℕ) → length fields ≤ i → AreNew names (drop i fields)
+pub none-left : (fields : List FieldNode) (names : Numbered) (i : ℕ) → length fields ≤ i → AreNew names (drop i fields)
 unfolding IsDistinct
 none-left fields names i past = rw (drop_past fields i past) (tt, tt)
 

@@ -1,5 +1,5 @@
 -- What the marks say, as the walk goes down.
-use Rattle.avro_schema_json.proofs.Words.{◌≡◌, ℕ, zero, suc, ◌+◌, ◌<◌, false, cond, List, [], ◌∷◌, ◌++◌, length, length-append, drop, Option, Some, None, get_or, refl, sym, ap, subst, ◌∙◌, arith, Ordering, unwrap_or, AllByRecursion, string_cmp, slice_cmp, get_by, none-some, same_Some, Node, node_at, ids_of, Value, NodeId, Data, Members, get_member, view, members_view, Tree, Entry, member_here, member_later, first_fit, place_of, Covers, pair_cmp, IsSetOf, member_at, part_at, own_default, has_place, nodes_of, IsKnown, FitsNoneBefore, HasNoneBefore, first_of, AreFirsts, AreMemberMarks, Mark}
+use Rattle.avro_schema_json.proofs.Words.{◌≡◌, ℕ, zero, suc, ◌+◌, ◌<◌, false, cond, List, [], ◌∷◌, ◌++◌, length, length-append, drop, Option, Some, None, get_or, refl, sym, ap, subst, ◌∙◌, arith, Ordering, unwrap_or, AllByRecursion, string_cmp, slice_cmp, none-some, same_Some, Node, node_at, ids_of, Value, NodeId, Data, Members, get_member, view, members_view, Tree, Entry, member_here, member_later, first_fit, place_of, Covers, pair_cmp, IsSetOf, member_at, part_at, own_default, has_place, nodes_of, IsKnown, FitsNoneBefore, HasNoneBefore, first_of, AreFirsts, AreMemberMarks, Mark}
 use Rattle.std.specs.Prelude.{slice_get, bytes_eq, String, string_bytes}
 use Rattle.std.specs.declared.alloc.Global.{Global}
 use Rattle.std.specs.List.Sorted.{IsStrictlySortedBy}
@@ -7,6 +7,8 @@ use Rattle.std.specs.Map.{keys_of}
 use Rattle.std.specs.Ordering.{nat_cmp, is_eq}
 use Rattle.std.specs.BTreeMap.{BTreeMap}
 use denote.Ref.{Bor}
+use Rattle.indexmap.specs.IndexMap.{IndexMap, get_by}
+use Rattle.avro_texts.specs.declared.seeded.Seeded.{Seeded}
 use Rattle.avro_schema.specs.Node.{branches_of}
 use Rattle.avro_schema_json.specs.inside.Sets.{row_at}
 use Rattle.avro_schema_json.specs.declared.defaults.walk.Walk.{Walk}
@@ -25,12 +27,12 @@ pub known-same : (walk : Walk) (d e : Data) (o : Option Mark) → Some d ≡ Som
 known-same walk d e o is known = grind (arith, same_Some)
 
 -- the mark of one more member
-pub member-known : (walk : Walk) (ms : Members) (old new : BTreeMap (Bor (List ℕ)) (Option Mark)) (key : List ℕ) (o : Option Mark) → AreMemberMarks walk ms old
-    → ((other : List ℕ) → get_by (λ k. slice_cmp nat_cmp other k.now) new ≡ cond (bytes_eq key other) (Some o) (get_by (λ k. slice_cmp nat_cmp other k.now) old))
+pub member-known : (walk : Walk) (ms : Members) (old new : IndexMap (Bor (List ℕ)) (Option Mark) Seeded) (key : List ℕ) (o : Option Mark) → AreMemberMarks walk ms old
+    → ((other : List ℕ) → get_by (λ k. bytes_eq other k.now) new ≡ cond (bytes_eq key other) (Some o) (get_by (λ k. bytes_eq other k.now) old))
     → ((f : Data) → get_member key ms ≡ Some f → IsKnown walk f o) → AreMemberMarks walk ms new
 member-known walk ms old new key o good put this =
     put-each bytes_eq exact-texts (λ other found. (f : Data) → get_member other ms ≡ Some f → IsKnown walk f (unwrap_or found None))
-    (λ other. get_by (λ k. slice_cmp nat_cmp other k.now) old) (λ other. get_by (λ k. slice_cmp nat_cmp other k.now) new) key o put good this
+    (λ other. get_by (λ k. bytes_eq other k.now) old) (λ other. get_by (λ k. bytes_eq other k.now) new) key o put good this
 
 -- ---- branches
 

@@ -28,7 +28,7 @@ pub use Rattle.avro_schema_json.specs.inside.Kinds.{AreKinds, HasKind, HasRow, K
 pub use Rattle.avro_schema_json.specs.inside.KnownNames.{AreNumbered, AreWithin, Key, known_in, name_at, number_of}
 pub use Rattle.avro_schema_json.specs.inside.Marks.{ArePartsMarked, IsMarked, IsPartUnder, IsSetOf, Stays, marked, member_at, part_at}
 pub use Rattle.avro_schema_json.specs.inside.OwnDefaults.{all_without_defaults, default_of_fields, fields_seen, node_or_null, own_default, without_defaults}
-pub use Rattle.avro_schema_json.specs.inside.Parents.{AreFields, AreParents, HasField, HasParent, HasParts, IsField, IsParent, IsPart, IsStep, KeepsLabels, KeepsParents, KeepsUnder, Label, words_at, words_of, words_or_none, words_under, has_bit, label_of}
+pub use Rattle.avro_schema_json.specs.inside.Parents.{AreFields, AreParents, HasField, HasParent, HasParts, IsField, IsParent, IsPart, IsStep, KeepsLabels, KeepsParents, KeepsUnder, Label, Numbered, words_at, words_of, words_or_none, words_under, has_bit, label_of}
 pub use Rattle.avro_schema_json.specs.inside.Reading.{IsAdded, IsAttribute, IsBegun, IsRead, IsRefusal, Reads, Refuses, State, beginning_faults, fields_meaning, limit_faults, made_at}
 pub use Rattle.avro_schema_json.specs.inside.ReadingSeen.{Keeps, state_of}
 pub use Rattle.avro_schema_json.specs.inside.Repeats.{AreFieldsDistinct, AreNamesDistinct, HasDistinctNames, RecordRepeatsName, Repeats, RepeatsName, SomeRepeats, SomeRepeatsName, code_by, kind_code}
@@ -52,12 +52,12 @@ pub use Rattle.std.proofs.lemmas.Bool.Decides.{Decides-eqb, nat_tests}
 pub use Rattle.std.proofs.lemmas.List.{drop_more, get_or-set_other, get_or-set_same, length-map, map-append, map-set}
 pub use Rattle.std.proofs.lemmas.List.Elements.{Contains-append_left, Contains-append_right}
 pub use Rattle.std.proofs.lemmas.List.Folds.{list_all-append, list_any-append}
-pub use Rattle.std.proofs.lemmas.Map.Text.{btree_map_updates_str, btree_map_updates_text, is_eq-slice_cmp}
+pub use Rattle.std.proofs.lemmas.Map.Text.{hash_map_updates_str, hash_map_updates_text, is_eq-slice_cmp}
 pub use Rattle.std.proofs.lemmas.Nat.Bits.{bit_at-lt, bit_at-zero, bit_at_and, bit_at_or, bit_at_set_same, shr_and_one}
 pub use Rattle.std.proofs.lemmas.Option.{none-some, same_Some, slice_get-get_or, slice_get-map, slice_get_past, slice_get_read, slice_get_within}
 pub use Rattle.std.proofs.lemmas.Result.{IfOk-weaker, err_from_is_err_and, on_ok_weaker}
 pub use Rattle.std.proofs.lemmas.Slice.Eq.{bytes_eq-Decides}
-pub use Rattle.std.specs.BTreeMap.{Updates, get, get_by, get_by_text, is_at}
+pub use Rattle.std.specs.BTreeMap.{Updates, get, get_by_text, is_at}
 pub use Rattle.std.specs.Cmp.{Equal-is, IsEquivalence, both_ways, nat_cmp_is, unsigned_tied}
 pub use Rattle.std.specs.Cmp.Lexicographic.{slice_cmp}
 pub use Rattle.std.specs.Global.{Vec}

@@ -23,6 +23,7 @@ use crate::error::SchemaError;
 use crate::raw::{RawEnum, RawField, RawNode, RawRecord};
 use crate::repeats::{has_repeated_branch, has_repeated_field};
 use avro_schema::{Datum, Draft, DraftError, Field, Memory, Node, RecordNode, Schema};
+use avro_texts::Seeded;
 use serde_json::Value;
 use std::alloc::Global;
 use std::vec::IntoIter;
@@ -44,6 +45,7 @@ struct Defaults {
 /// The default of a field, where it is present and a datum.
 fn default_of_field(
     alloc: Global,
+    seed: Seeded,
     raws: &[RawNode],
     tables: &Option<Tables<'_>>,
     field: &RawField,
@@ -53,8 +55,8 @@ fn default_of_field(
 {
     match field.default {
         Some(tree) => match tables {
-            Some(tables) => default_of(alloc, raws, tables, tree, field.node),
-            None => unmarked_default(alloc, raws, tree, field.node),
+            Some(tables) => default_of(alloc, seed, raws, tables, tree, field.node),
+            None => unmarked_default(alloc, seed, raws, tree, field.node),
         },
         None => Ok(None),
     }
@@ -63,6 +65,7 @@ fn default_of_field(
 /// The defaults of fields.
 fn defaults_of_fields(
     alloc: Global,
+    seed: Seeded,
     raws: &[RawNode],
     tables: &Option<Tables<'_>>,
     fields: &[RawField],
@@ -74,7 +77,7 @@ fn defaults_of_fields(
     let mut of_fields: Vec<Option<Datum>> = Vec::new(alloc);
     let mut are_read = true;
     for field in fields {
-        let default = default_of_field(alloc, raws, tables, field)?;
+        let default = default_of_field(alloc, seed, raws, tables, field)?;
         are_read = are_read && (default.is_some() || !field.default.is_some());
         of_fields.push(default)?;
     }
@@ -87,6 +90,7 @@ fn defaults_of_fields(
 /// The defaults of a node.
 fn defaults_of_node(
     alloc: Global,
+    seed: Seeded,
     raws: &[RawNode],
     tables: &Option<Tables<'_>>,
     raw: &RawNode,
@@ -96,7 +100,7 @@ fn defaults_of_node(
     ensures read { IfOk result (λ defaults. defaults.are_read ≡ are_defaults_read (all_without_defaults raws.now) (raw_node_of raw.now)) }
 {
     match raw {
-        RawNode::Record(record) => defaults_of_fields(alloc, raws, tables, &record.fields),
+        RawNode::Record(record) => defaults_of_fields(alloc, seed, raws, tables, &record.fields),
         _ => Ok(NodeDefaults {
             of_fields: Vec::new(alloc),
             are_read: true,
@@ -115,7 +119,11 @@ fn is_helped(field: &RawField) -> bool {
 }
 
 /// The tables of nodes, if they help to read a default.
-fn tables_for<'a>(alloc: Global, raws: &'a [RawNode<'_>]) -> Result<Option<Tables<'a>>, Memory>
+fn tables_for<'a>(
+    alloc: Global,
+    seed: Seeded,
+    raws: &'a [RawNode<'_>],
+) -> Result<Option<Tables<'a>>, Memory>
     requires distinct { AreNamesDistinct (all_without_defaults raws.now) }
     ensures { IfOk result (λ tables. IfSome tables (AreTables (all_without_defaults raws.now))) }
 {
@@ -123,7 +131,7 @@ fn tables_for<'a>(alloc: Global, raws: &'a [RawNode<'_>]) -> Result<Option<Table
         match raw {
             RawNode::Record(record) => {
                 if record.fields.iter().any(|field| is_helped(field)) {
-                    return Ok(Some(tables_of(alloc, raws)?));
+                    return Ok(Some(tables_of(alloc, seed, raws)?));
                 }
             }
             _ => {}
@@ -135,6 +143,7 @@ fn tables_for<'a>(alloc: Global, raws: &'a [RawNode<'_>]) -> Result<Option<Table
 /// The defaults of all nodes, by the tables.
 fn defaults_by_tables(
     alloc: Global,
+    seed: Seeded,
     raws: &[RawNode],
     tables: &Option<Tables<'_>>,
 ) -> Result<Defaults, Memory>
@@ -148,7 +157,7 @@ fn defaults_by_tables(
         let NodeDefaults {
             of_fields,
             are_read: are_these_read,
-        } = defaults_of_node(alloc, raws, tables, raw)?;
+        } = defaults_of_node(alloc, seed, raws, tables, raw)?;
         are_read = are_read && are_these_read;
         of_nodes.push(of_fields)?;
     }
@@ -156,13 +165,17 @@ fn defaults_by_tables(
 }
 
 /// The defaults of all nodes.
-fn defaults_of_nodes(alloc: Global, raws: &[RawNode]) -> Result<Defaults, Memory>
+fn defaults_of_nodes(
+    alloc: Global,
+    seed: Seeded,
+    raws: &[RawNode],
+) -> Result<Defaults, Memory>
     requires distinct { AreNamesDistinct (all_without_defaults raws.now) }
     ensures data { IfOk result (λ defaults. lists_seen defaults.of_nodes.items ≡ map (node_defaults_by (all_without_defaults raws.now)) (raw_nodes_of raws.now)) }
     ensures read { IfOk result (λ defaults. defaults.are_read ≡ are_all_defaults_read (raw_nodes_of raws.now)) }
 {
-    let tables = tables_for(alloc, raws)?;
-    defaults_by_tables(alloc, raws, &tables)
+    let tables = tables_for(alloc, seed, raws)?;
+    defaults_by_tables(alloc, seed, raws, &tables)
 }
 
 /// The next default, or none where the list ends.
@@ -266,7 +279,11 @@ fn draft_of(
 
 /// The schema of nodes. A default that is not a datum is left out at first, so that another fault
 /// of the nodes is reported before it.
-pub(crate) fn schema_of(alloc: Global, raws: Vec<RawNode<'_>>) -> Result<Schema, SchemaError>
+pub(crate) fn schema_of(
+    alloc: Global,
+    seed: Seeded,
+    raws: Vec<RawNode<'_>>,
+) -> Result<Schema, SchemaError>
     ensures found { IfOk result (λ schema. schema_nodes schema ≡ completed_nodes (raw_nodes_of raws.entry.items)) }
     ensures formed { OnOk result (is_schema (completed_nodes (raw_nodes_of raws.entry.items)) ≡ true) }
     ensures read { OnOk result (are_all_defaults_read (raw_nodes_of raws.entry.items) ≡ true) }
@@ -276,10 +293,10 @@ pub(crate) fn schema_of(alloc: Global, raws: Vec<RawNode<'_>>) -> Result<Schema,
     if has_repeated_branch(alloc, &raws)? {
         return Err(SchemaError::InvalidUnion);
     }
-    if has_repeated_field(alloc, &raws)? {
+    if has_repeated_field(alloc, seed, &raws)? {
         return Err(SchemaError::DuplicateField);
     }
-    let Defaults { of_nodes, are_read } = defaults_of_nodes(alloc, &raws)?;
+    let Defaults { of_nodes, are_read } = defaults_of_nodes(alloc, seed, &raws)?;
     let draft = draft_of(alloc, raws, of_nodes)?;
     let schema = draft.finish()?;
     if !are_read {

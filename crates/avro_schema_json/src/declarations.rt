@@ -236,11 +236,16 @@ pub(crate) fn declarations<'a>(
     ensures refused { IfErr result (IsRefusal (made_of (view tree.now)).faults) }
 {
     let mut progress = Progress {
+        seed,
         nodes: Vec::new(alloc),
         names: NameTable::new(alloc, seed),
     };
     let root = progress.names.space(&Namespace::null(alloc))?;
     progress.read_type(alloc, &root, tree)?;
-    let Progress { nodes, names: _ } = progress;
+    let Progress {
+        seed: _,
+        nodes,
+        names: _,
+    } = progress;
     Ok(nodes)
 }

@@ -39,6 +39,7 @@ use crate::raw::{RawField, RawNode};
 use crate::raw_nodes::{branches_at, raw_at};
 use crate::texts::copy_of_text;
 use avro_schema::{Datum, Memory, NodeId};
+use avro_texts::Seeded;
 use serde_json::{Map, Value};
 use std::alloc::Global;
 use std::collections::BTreeMap;
@@ -48,6 +49,7 @@ use std::collections::BTreeMap;
 /// a default of.
 pub(crate) fn default_of(
     alloc: Global,
+    seed: Seeded,
     raws: &[RawNode],
     tables: &Tables,
     tree: &Value,
@@ -59,6 +61,7 @@ pub(crate) fn default_of(
     let mut marks = no_marks(alloc);
     let mark = mark_tree(alloc, tables, tree, &mut marks)?;
     let walk = Walk {
+        seed,
         raws,
         last: tables.last,
         marks: &marks,
@@ -70,6 +73,7 @@ pub(crate) fn default_of(
 /// The same where no tables are made.
 pub(crate) fn unmarked_default(
     alloc: Global,
+    seed: Seeded,
     raws: &[RawNode],
     tree: &Value,
     id: NodeId,
@@ -78,6 +82,7 @@ pub(crate) fn unmarked_default(
 {
     let marks = no_marks(alloc);
     let walk = Walk {
+        seed,
         raws,
         last: 0,
         marks: &marks,
@@ -326,7 +331,7 @@ fn record_default(
     let Some(values) = field_defaults(alloc, walk, members, fields, mark, firsts)? else {
         return Ok(None);
     };
-    if names_fields(alloc, members, fields)? {
+    if names_fields(alloc, walk.seed, members, fields)? {
         Ok(Some(Datum::Record(values)))
     } else {
         Ok(None)

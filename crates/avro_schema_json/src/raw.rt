@@ -3,8 +3,9 @@ ghost use Rattle.avro_schema_json.specs.inside.SymbolIndices.{FindsSymbols};
 
 use avro_name::FullName;
 use avro_schema::{EnumNode, FixedNode, NodeId};
+use avro_texts::Seeded;
+use indexmap::IndexMap;
 use serde_json::Value;
-use std::collections::BTreeMap;
 
 /// A field whose default is still JSON.
 #[derive(Drop)]
@@ -39,7 +40,7 @@ pub(crate) enum RawNode<'a> {
 #[derive(Drop)]
 pub(crate) struct RawEnum {
     pub node: EnumNode,
-    pub indices: BTreeMap<String, u32>,
+    pub indices: IndexMap<String, u32, Seeded>,
     ghost agree: { FindsSymbols (texts_of node.symbols.items) indices },
 }
 

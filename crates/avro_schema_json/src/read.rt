@@ -62,7 +62,7 @@ fn read_tree(alloc: Global, text: &[u8]) -> Result<Value, SchemaError>
     }
 }
 
-/// The schema that a tree declares. The hashes of its names begin with the seed.
+/// The schema that a tree declares, whose names are hashed by the seed.
 fn declared_schema(alloc: Global, seed: Seeded, tree: &Value) -> Result<Schema, SchemaError>
     ensures found { IfOk result (λ schema. DeclaresSchema (view tree.now) (schema_nodes schema)) }
     ensures refused { IfErr result (λ e. (e ≡ OutOfMemory) ⊎ HasFault (view tree.now) e) }
@@ -72,5 +72,5 @@ fn declared_schema(alloc: Global, seed: Seeded, tree: &Value) -> Result<Schema, 
         return Err(SchemaError::UnsupportedNumber);
     }
     let raws = declarations(alloc, seed, tree)?;
-    schema_of(alloc, raws)
+    schema_of(alloc, seed, raws)
 }

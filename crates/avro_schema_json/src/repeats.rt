@@ -12,8 +12,10 @@ ghost use Rattle.avro_schema_json.specs.inside.Repeats.{AreFieldsDistinct, AreNa
 use crate::raw::{RawField, RawNode};
 use crate::raw_nodes::{are_edges, branches, raw_at};
 use avro_schema::{Memory, NodeId};
+use avro_texts::Seeded;
+use indexmap::IndexMap;
 use std::alloc::Global;
-use std::collections::{BTreeMap, BTreeSet};
+use std::collections::BTreeSet;
 
 /// The code of a branch: an even one for each kind without a name, an odd one for each other node.
 fn code_of(raws: &[RawNode], branch: NodeId) -> u64
@@ -78,11 +80,11 @@ pub(crate) fn has_repeated_branch(alloc: Global, raws: &[RawNode]) -> Result<boo
 }
 
 /// Whether two fields have one name.
-fn repeats_name(alloc: Global, fields: &[RawField]) -> Result<bool, Memory>
+fn repeats_name(alloc: Global, seed: Seeded, fields: &[RawField]) -> Result<bool, Memory>
     ensures found { IfOk result (λ answer. answer ≡ true → RepeatsName (fields_seen fields.now)) }
     ensures distinct { IfOk result (λ answer. answer ≡ false → AreFieldsDistinct (fields_seen fields.now)) }
 {
-    let mut names: BTreeMap<&str, usize> = BTreeMap::new(alloc);
+    let mut names: IndexMap<&str, usize, Seeded> = IndexMap::with_hasher(alloc, seed);
     for i in 0..fields.len() {
         let name = fields[i].name.as_str();
         if names.contains_key(name) {
@@ -94,23 +96,27 @@ fn repeats_name(alloc: Global, fields: &[RawField]) -> Result<bool, Memory>
 }
 
 /// Whether a node is a record with two fields of one name.
-fn repeats_field(alloc: Global, raw: &RawNode) -> Result<bool, Memory>
+fn repeats_field(alloc: Global, seed: Seeded, raw: &RawNode) -> Result<bool, Memory>
     ensures found { IfOk result (λ answer. answer ≡ true → RecordRepeatsName (without_defaults raw.now)) }
     ensures distinct { IfOk result (λ answer. answer ≡ false → HasDistinctNames (without_defaults raw.now)) }
 {
     match raw {
-        RawNode::Record(record) => repeats_name(alloc, &record.fields),
+        RawNode::Record(record) => repeats_name(alloc, seed, &record.fields),
         _ => Ok(false),
     }
 }
 
 /// Whether one of the records has two fields of one name.
-pub(crate) fn has_repeated_field(alloc: Global, raws: &[RawNode]) -> Result<bool, Memory>
+pub(crate) fn has_repeated_field(
+    alloc: Global,
+    seed: Seeded,
+    raws: &[RawNode],
+) -> Result<bool, Memory>
     ensures found { IfOk result (λ answer. answer ≡ true → SomeRepeatsName (all_without_defaults raws.now)) }
     ensures distinct { IfOk result (λ answer. answer ≡ false → AreNamesDistinct (all_without_defaults raws.now)) }
 {
     for i in 0..raws.len() {
-        if repeats_field(alloc, &raws[i])? {
+        if repeats_field(alloc, seed, &raws[i])? {
             return Ok(true);
         }
     }

@@ -8,18 +8,20 @@ ghost use Rattle.avro_schema_json.specs.inside.SymbolIndices.{FindsSymbols};
 
 use crate::texts::copy_of_text;
 use avro_schema::{Datum, Memory};
+use avro_texts::Seeded;
+use indexmap::IndexMap;
 use std::alloc::Global;
-use std::collections::BTreeMap;
 
 /// The first index of each symbol, to look words up in. The symbols are gone through from the
 /// last, so that the first index of one that repeats is kept.
 pub(crate) fn symbol_indices(
     alloc: Global,
+    seed: Seeded,
     symbols: &[String],
-) -> Result<BTreeMap<String, u32>, Memory>
+) -> Result<IndexMap<String, u32, Seeded>, Memory>
     ensures { IfOk result (λ indices. FindsSymbols (texts_of symbols.now) indices) }
 {
-    let mut indices: BTreeMap<String, u32> = BTreeMap::new(alloc);
+    let mut indices: IndexMap<String, u32, Seeded> = IndexMap::with_hasher(alloc, seed);
     let mut left = symbols.len();
     while left > 0 {
         left -= 1;
@@ -33,7 +35,7 @@ pub(crate) fn symbol_indices(
 }
 
 /// The default of an enum that a word gives, by the indices of the enum's symbols.
-pub(crate) fn symbol_default(indices: &BTreeMap<String, u32>, word: &str) -> Option<Datum>
+pub(crate) fn symbol_default(indices: &IndexMap<String, u32, Seeded>, word: &str) -> Option<Datum>
     ensures { (symbols : List (List ℕ)) → FindsSymbols symbols indices.now
         → option_map value_of result ≡ option_map SeenValue.enum (symbol_index word.now symbols) }
 {

@@ -7,9 +7,10 @@ use crate::places::PlaceId;
 use crate::walk::{Members, Walk};
 use avro_name::{FullName, NameError, Namespace, is_simple_name};
 use avro_schema::FixedNode;
+use avro_texts::Seeded;
+use indexmap::IndexMap;
 use serde_json::Value;
 use std::alloc::AllocError;
-use std::collections::BTreeMap;
 
 /// What a list of texts must be.
 const TEXTS: &str = "an array of strings";
@@ -183,7 +184,7 @@ impl<'a> Walk<'a> {
         &mut self,
         members: &'a Members,
         place: PlaceId,
-        seen: &mut BTreeMap<&'a str, PlaceId>,
+        seen: &mut IndexMap<&'a str, PlaceId, Seeded>,
     ) -> Result<Option<&'a str>, AllocError> {
         let name = self.text(members, "name", place)?;
         if let Some(name) = name {
@@ -204,7 +205,7 @@ impl<'a> Walk<'a> {
         &mut self,
         name: &'a str,
         place: PlaceId,
-        seen: &mut BTreeMap<&'a str, PlaceId>,
+        seen: &mut IndexMap<&'a str, PlaceId, Seeded>,
     ) -> Result<(), AllocError> {
         if !self.is_simple_name(name, place)? {
             return Ok(());
@@ -243,12 +244,12 @@ impl<'a> Walk<'a> {
         &mut self,
         items: &'a Vec<Value>,
         around: PlaceId,
-    ) -> Result<Option<BTreeMap<&'a str, PlaceId>>, AllocError> {
+    ) -> Result<Option<IndexMap<&'a str, PlaceId, Seeded>>, AllocError> {
         if items.is_empty() {
             self.note_member(around, "symbols", Fault::NoSymbols)?;
         }
         let texts = self.texts(items, "symbols", around)?;
-        let mut seen = BTreeMap::new(self.alloc);
+        let mut seen = IndexMap::with_hasher(self.alloc, self.seed);
         for (symbol, place) in &texts {
             self.is_simple_name(symbol, *place)?;
             match seen.get(symbol).copied() {
@@ -269,7 +270,7 @@ impl<'a> Walk<'a> {
     fn check_symbol(
         &mut self,
         members: &'a Members,
-        symbols: &Option<BTreeMap<&'a str, PlaceId>>,
+        symbols: &Option<IndexMap<&'a str, PlaceId, Seeded>>,
         place: PlaceId,
     ) -> Result<(), AllocError> {
         match (members.get("default"), symbols) {

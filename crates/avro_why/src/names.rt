@@ -2,8 +2,9 @@
 
 use crate::nodes::NodeId;
 use crate::places::PlaceId;
+use avro_texts::Seeded;
+use indexmap::{IndexMap, IndexSet};
 use std::alloc::{AllocError, Global};
-use std::collections::BTreeMap;
 
 /// A namespace, and its number in a table of names.
 #[derive(Clone, Copy)]
@@ -29,29 +30,22 @@ pub(crate) struct Definition {
 /// The definitions, by the numbers of their namespaces, so that a long namespace is not looked at for each name in it.
 #[derive(Drop)]
 pub(crate) struct Names<'a> {
-    numbers: BTreeMap<&'a str, usize>,
-    definitions: BTreeMap<(usize, &'a str), Definition>,
+    numbers: IndexSet<&'a str, Seeded>,
+    definitions: IndexMap<(usize, &'a str), Definition, Seeded>,
 }
 
 impl<'a> Names<'a> {
     /// No names.
-    pub(crate) fn new(alloc: Global) -> Names<'a> {
+    pub(crate) fn new(alloc: Global, seed: Seeded) -> Names<'a> {
         Names {
-            numbers: BTreeMap::new(alloc),
-            definitions: BTreeMap::new(alloc),
+            numbers: IndexSet::with_hasher(alloc, seed),
+            definitions: IndexMap::with_hasher(alloc, seed),
         }
     }
 
     /// The namespace of a text, with its number.
     pub(crate) fn space(&mut self, text: &'a str) -> Result<Space<'a>, AllocError> {
-        if let Some(number) = self.numbers.get(text) {
-            return Ok(Space {
-                text,
-                number: *number,
-            });
-        }
-        let number = self.numbers.len();
-        self.numbers.insert(text, number)?;
+        let (number, _) = self.numbers.insert_full(text)?;
         Ok(Space { text, number })
     }
 

@@ -1,7 +1,9 @@
 //! The types that are declared.
 
 use crate::names::Name;
-use std::collections::BTreeMap;
+use crate::places::PlaceId;
+use avro_texts::Seeded;
+use indexmap::IndexMap;
 
 /// The number of a node.
 pub(crate) type NodeId = usize;
@@ -20,9 +22,9 @@ pub(crate) enum Node<'a> {
     Map(NodeId),
     Union(Vec<NodeId>),
     /// A record with its fields.
-    Record(Option<Name<'a>>, Option<BTreeMap<&'a str, NodeId>>),
-    /// An enum with its symbols.
-    Enum(Option<Name<'a>>, Option<BTreeMap<&'a str, usize>>),
+    Record(Option<Name<'a>>, Option<IndexMap<&'a str, NodeId, Seeded>>),
+    /// An enum with its symbols and their places.
+    Enum(Option<Name<'a>>, Option<IndexMap<&'a str, PlaceId, Seeded>>),
     /// A fixed with its size.
     Fixed(Option<Name<'a>>, Option<u64>),
 }

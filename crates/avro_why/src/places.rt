@@ -2,6 +2,8 @@
 
 use crate::shortened::shortened;
 use crate::words::escaped;
+use avro_texts::Seeded;
+use indexmap::IndexSet;
 use std::alloc::{AllocError, Global};
 use std::collections::BTreeMap;
 
@@ -29,18 +31,18 @@ struct Place<'a> {
 #[derive(Drop)]
 pub(crate) struct Places<'a> {
     places: Vec<Place<'a>>,
-    // each key has a number
-    keys: BTreeMap<&'a str, usize>,
+    // the number of a key is its index
+    keys: IndexSet<&'a str, Seeded>,
     members: BTreeMap<(PlaceId, usize), PlaceId>,
     items: BTreeMap<(PlaceId, usize), PlaceId>,
 }
 
 impl<'a> Places<'a> {
     /// The whole alone.
-    pub(crate) fn new(alloc: Global) -> Places<'a> {
+    pub(crate) fn new(alloc: Global, seed: Seeded) -> Places<'a> {
         Places {
             places: Vec::new(alloc),
-            keys: BTreeMap::new(alloc),
+            keys: IndexSet::with_hasher(alloc, seed),
             members: BTreeMap::new(alloc),
             items: BTreeMap::new(alloc),
         }
@@ -57,19 +59,9 @@ impl<'a> Places<'a> {
         Ok(self.places.len())
     }
 
-    /// The number of a key.
-    fn number(&mut self, key: &'a str) -> Result<usize, AllocError> {
-        if let Some(number) = self.keys.get(key) {
-            return Ok(*number);
-        }
-        let number = self.keys.len();
-        self.keys.insert(key, number)?;
-        Ok(number)
-    }
-
     /// The place of a member.
     pub(crate) fn member(&mut self, around: PlaceId, key: &'a str) -> Result<PlaceId, AllocError> {
-        let number = self.number(key)?;
+        let (number, _) = self.keys.insert_full(key)?;
         if let Some(place) = self.members.get(&(around, number)) {
             return Ok(*place);
         }
@@ -90,7 +82,7 @@ impl<'a> Places<'a> {
 
     /// The place of a member, if it was named.
     pub(crate) fn find_member(&self, around: PlaceId, key: &str) -> Option<PlaceId> {
-        let number = *self.keys.get(key)?;
+        let number = self.keys.get_index_of(key)?;
         self.members.get(&(around, number)).copied()
     }
 

@@ -10,6 +10,7 @@ use crate::position::{Position, position_at};
 use crate::walk::Walk;
 use crate::words::words_of;
 use avro_schema_json::SchemaError;
+use avro_texts::Seeded;
 use serde_json::Value;
 use std::alloc::{AllocError, Global};
 
@@ -94,7 +95,7 @@ fn reasons_in_tree(
     requires small { length text.now ≤ 1048576 }
     ensures { IfOk result (λ r. ArePlaced text.now r.first.items) }
 {
-    let mut walk = Walk::new(alloc)?;
+    let mut walk = Walk::new(alloc, Seeded::of_text(text))?;
     // Other errors are found only in trees of integers.
     if error == SchemaError::UnsupportedNumber {
         walk.read_numbers(tree, WHOLE)?;

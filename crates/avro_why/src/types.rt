@@ -6,6 +6,8 @@ use crate::names::{Name, Space};
 use crate::nodes::{Node, NodeId, primitive, unsupported};
 use crate::places::{PlaceId, WHOLE};
 use crate::walk::{FieldDefault, Members, UNKNOWN, Walk};
+use avro_texts::Seeded;
+use indexmap::IndexMap;
 use serde_json::Value;
 use std::alloc::AllocError;
 use std::collections::BTreeMap;
@@ -141,9 +143,9 @@ impl<'a> Walk<'a> {
         items: &'a Vec<Value>,
         space: Option<Space<'a>>,
         place: PlaceId,
-    ) -> Result<Option<BTreeMap<&'a str, NodeId>>, AllocError> {
-        let mut fields = BTreeMap::new(self.alloc);
-        let mut seen = BTreeMap::new(self.alloc);
+    ) -> Result<Option<IndexMap<&'a str, NodeId, Seeded>>, AllocError> {
+        let mut fields = IndexMap::with_hasher(self.alloc, self.seed);
+        let mut seen = IndexMap::with_hasher(self.alloc, self.seed);
         let mut are_known = true;
         for (index, item) in items.iter().enumerate() {
             let at = self.places.item(place, index)?;
@@ -164,7 +166,7 @@ impl<'a> Walk<'a> {
         item: &'a Value,
         space: Option<Space<'a>>,
         place: PlaceId,
-        seen: &mut BTreeMap<&'a str, PlaceId>,
+        seen: &mut IndexMap<&'a str, PlaceId, Seeded>,
     ) -> Result<Option<(&'a str, NodeId)>, AllocError> {
         let Value::Object(members) = item else {
             self.note(place, Fault::NoField)?;

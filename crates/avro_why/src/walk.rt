@@ -3,6 +3,7 @@ use crate::names::Names;
 use crate::nodes::{Node, NodeId, Title};
 use crate::places::{PlaceId, Places};
 use avro_schema::Schema;
+use avro_texts::Seeded;
 use serde_json::{Map, Value};
 use std::alloc::{AllocError, Global};
 
@@ -24,6 +25,8 @@ pub(crate) struct FieldDefault<'a> {
 #[derive(Drop)]
 pub(crate) struct Walk<'a> {
     pub(crate) alloc: Global,
+    // the seed of all tables of names
+    pub(crate) seed: Seeded,
     pub(crate) places: Places<'a>,
     pub(crate) faults: Vec<(PlaceId, Fault<'a>)>,
     pub(crate) nodes: Vec<Node<'a>>,
@@ -35,15 +38,16 @@ pub(crate) struct Walk<'a> {
 
 impl<'a> Walk<'a> {
     /// A walk before its first step.
-    pub(crate) fn new(alloc: Global) -> Result<Walk<'a>, AllocError> {
+    pub(crate) fn new(alloc: Global, seed: Seeded) -> Result<Walk<'a>, AllocError> {
         let mut nodes = Vec::new(alloc);
         nodes.push(Node::Unknown)?;
         Ok(Walk {
             alloc,
-            places: Places::new(alloc),
+            seed,
+            places: Places::new(alloc, seed),
             faults: Vec::new(alloc),
             nodes,
-            names: Names::new(alloc),
+            names: Names::new(alloc, seed),
             defaults: Vec::new(alloc),
             count: 0,
         })

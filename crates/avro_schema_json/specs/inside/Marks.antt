@@ -1,12 +1,10 @@
 -- The sets of nodes that JSON and its parts are defaults of, as they are kept for the walk down.
 use Rattle.std.specs.Prelude.{◌≡◌, ℕ, zero, suc, ◌+◌, ◌<◌, ◌≤◌, List, length, slice_get, Option, Some, None}
-use Rattle.std.specs.BTreeMap.{BTreeMap}
-use denote.Ref.{Bor}
 use Rattle.avro_schema.specs.Node.{Node}
 use Rattle.serde_json.specs.Data.{Data, Members, no_members, member}
 use Rattle.serde_json.specs.Find.{get_item, get_member}
 use Rattle.avro_schema_json.specs.inside.Covers.{Covers}
-use Rattle.avro_schema_json.specs.inside.Parents.{label_or_values}
+use Rattle.avro_schema_json.specs.inside.Parents.{Numbered, label_or_values}
 use Rattle.avro_schema_json.specs.inside.Sets.{row_at, KeepsRows}
 use Rattle.avro_schema_json.specs.declared.defaults.parts.Mark.{Mark}
 use Rattle.avro_schema_json.specs.declared.defaults.parts.Marks.{Marks}
@@ -24,7 +22,7 @@ part_at k (Data.object ms) = member_at k ms
 part_at k _ = None
 
 -- JSON is a part of an array or of an object, whose label has this number
-abbrev pub IsPartUnder : BTreeMap (Bor (List ℕ)) ℕ → ℕ → Data → Data → Type 0
+abbrev pub IsPartUnder : Numbered → ℕ → Data → Data → Type 0
 IsPartUnder labels number (Data.array ds) e = (j : ℕ) × (number ≡ 0) × (get_item j ds ≡ Some e)
 IsPartUnder labels number (Data.object ms) e = (key : List ℕ) × (number ≡ label_or_values labels key) × (get_member key ms ≡ Some e)
 IsPartUnder labels number _ e = ⊥

@@ -1,11 +1,12 @@
 -- Under which labels a node is a part of which nodes, its parents.
-use Rattle.std.specs.Prelude.{◌≡◌, ℕ, ◌/◌, ◌%◌, true, List, [], length, slice_get, get_or, Option, Some, None, unwrap_or, Contains}
+use Rattle.std.specs.Prelude.{◌≡◌, ℕ, ◌/◌, ◌%◌, true, List, [], length, slice_get, get_or, Option, Some, None, unwrap_or, bytes_eq, Contains}
 use Rattle.std.specs.Global.{Vec}
 use Rattle.std.specs.Int.{bit_at}
 use Rattle.std.specs.Ordering.{nat_cmp}
-use Rattle.std.specs.Cmp.Lexicographic.{slice_cmp}
-use Rattle.std.specs.BTreeMap.{BTreeMap, get, get_by}
+use Rattle.std.specs.BTreeMap.{BTreeMap, get}
+use Rattle.indexmap.specs.IndexMap.{IndexMap, get_by}
 use denote.Ref.{Bor}
+use Rattle.avro_texts.specs.declared.seeded.Seeded.{Seeded}
 use Rattle.avro_schema.specs.Node.{Node, FieldNode, node_at, items_node, values_node}
 use Rattle.avro_schema_json.specs.inside.Rows.{has_place}
 use Rattle.avro_schema_json.specs.inside.Covers.{place_of, own_ids}
@@ -56,21 +57,24 @@ words_at (Some parents) number = words_under parents number
 abbrev pub words_of : List (BTreeMap ℕ (Vec ℕ)) → ℕ → ℕ → List ℕ
 words_of parents place number = words_at (slice_get parents place) number
 
--- the number of the label of a name
-abbrev pub label_of : BTreeMap (Bor (List ℕ)) ℕ → List ℕ → Option ℕ
-label_of labels name = get_by (λ k. slice_cmp nat_cmp name k.now) labels
+-- words with numbers, and the number of the label of a name
+abbrev pub Numbered : Type 0
+Numbered = IndexMap (Bor (List ℕ)) ℕ Seeded
 
-abbrev pub number_of : BTreeMap (Bor (List ℕ)) ℕ → Label → Option ℕ
+abbrev pub label_of : Numbered → List ℕ → Option ℕ
+label_of labels name = get_by (λ k. bytes_eq name k.now) labels
+
+abbrev pub number_of : Numbered → Label → Option ℕ
 number_of labels Label.items = Some 0
 number_of labels Label.values = Some 1
 number_of labels (Label.named name) = label_of labels name
 
 -- that of the name of a field, or of the values of maps where there is none
-abbrev pub label_or_values : BTreeMap (Bor (List ℕ)) ℕ → List ℕ → ℕ
+abbrev pub label_or_values : Numbered → List ℕ → ℕ
 label_or_values labels name = unwrap_or (label_of labels name) 1
 
 -- a place is a parent of another under a label
-abbrev pub HasParent : BTreeMap (Bor (List ℕ)) ℕ → List (BTreeMap ℕ (Vec ℕ)) → Label → ℕ → ℕ → Type 0
+abbrev pub HasParent : Numbered → List (BTreeMap ℕ (Vec ℕ)) → Label → ℕ → ℕ → Type 0
 HasParent labels parents label part parent = (number : ℕ) × (number_of labels label ≡ Some number) × has_bit (words_of parents part number) parent
 
 -- a place is a parent of some nodes
@@ -78,19 +82,19 @@ abbrev pub HasParts : ℕ → List ℕ → List (BTreeMap ℕ (Vec ℕ)) → ℕ
 HasParts last ids parents number parent = (y : ℕ) → Contains ids y → has_bit (words_of parents (place_of last y) number) parent
 
 -- a record is a parent of the nodes of a field, and of each field
-abbrev pub IsField : List Node → ℕ → BTreeMap (Bor (List ℕ)) ℕ → List (BTreeMap ℕ (Vec ℕ)) → FieldNode → ℕ → Type 0
+abbrev pub IsField : List Node → ℕ → Numbered → List (BTreeMap ℕ (Vec ℕ)) → FieldNode → ℕ → Type 0
 IsField nodes last labels parents f parent =
     (number : ℕ) × (label_of labels f.name ≡ Some number) × HasParts last (own_ids nodes f.node) parents number parent
 
-abbrev pub AreFields : List Node → ℕ → BTreeMap (Bor (List ℕ)) ℕ → List (BTreeMap ℕ (Vec ℕ)) → List FieldNode → ℕ → Type 0
+abbrev pub AreFields : List Node → ℕ → Numbered → List (BTreeMap ℕ (Vec ℕ)) → List FieldNode → ℕ → Type 0
 AreFields nodes last labels parents fields parent = (k : ℕ) (f : FieldNode) → slice_get fields k ≡ Some f → IsField nodes last labels parents f parent
 
 -- a node is a parent of its parts, and each node of its own
-abbrev pub IsParent : List Node → ℕ → BTreeMap (Bor (List ℕ)) ℕ → List (BTreeMap ℕ (Vec ℕ)) → Node → ℕ → Type 0
+abbrev pub IsParent : List Node → ℕ → Numbered → List (BTreeMap ℕ (Vec ℕ)) → Node → ℕ → Type 0
 IsParent nodes last labels parents n parent =
     (label : Label) (t y : ℕ) → IsPart label n t → Contains (own_ids nodes t) y → HasParent labels parents label (place_of last y) parent
 
-abbrev pub AreParents : List Node → ℕ → BTreeMap (Bor (List ℕ)) ℕ → List (BTreeMap ℕ (Vec ℕ)) → Type 0
+abbrev pub AreParents : List Node → ℕ → Numbered → List (BTreeMap ℕ (Vec ℕ)) → Type 0
 AreParents nodes last labels parents = (x : ℕ) → IsParent nodes last labels parents (node_at nodes x) (place_of last x)
 
 -- what was there is there
@@ -101,5 +105,5 @@ abbrev pub KeepsParents : List (BTreeMap ℕ (Vec ℕ)) → List (BTreeMap ℕ (
 KeepsParents before after =
     (length after ≡ length before) × ((part number parent : ℕ) → has_bit (words_of before part number) parent → has_bit (words_of after part number) parent)
 
-abbrev pub KeepsLabels : BTreeMap (Bor (List ℕ)) ℕ → BTreeMap (Bor (List ℕ)) ℕ → Type 0
+abbrev pub KeepsLabels : Numbered → Numbered → Type 0
 KeepsLabels before after = (name : List ℕ) (number : ℕ) → label_of before name ≡ Some number → label_of after name ≡ Some number

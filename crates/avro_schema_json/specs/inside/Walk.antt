@@ -1,9 +1,9 @@
 -- What is known as the default of JSON is read from the root down, by sets.
-use Rattle.std.specs.Prelude.{◌≡◌, ℕ, ◌<◌, false, List, slice_get, Option, Some, None, unwrap_or}
-use Rattle.std.specs.Ordering.{nat_cmp}
-use Rattle.std.specs.Cmp.Lexicographic.{slice_cmp}
-use Rattle.std.specs.BTreeMap.{BTreeMap, get, get_by}
+use Rattle.std.specs.Prelude.{◌≡◌, ℕ, ◌<◌, false, List, slice_get, Option, Some, None, unwrap_or, bytes_eq}
+use Rattle.std.specs.BTreeMap.{BTreeMap, get}
+use Rattle.indexmap.specs.IndexMap.{IndexMap, get_by}
 use denote.Ref.{Bor}
+use Rattle.avro_texts.specs.declared.seeded.Seeded.{Seeded}
 use Rattle.avro_schema.specs.Node.{Node, node_at, branches_of}
 use Rattle.serde_json.specs.Data.{Data, Members}
 use Rattle.serde_json.specs.Find.{get_member}
@@ -26,10 +26,10 @@ IsKnown walk d None = Unit
 IsKnown walk d (Some m) = IsMarked (nodes_of walk) walk.last walk.marks.now d m
 
 -- the marks of the members of an object, by their keys
-abbrev pub mark_of : BTreeMap (Bor (List ℕ)) (Option Mark) → List ℕ → Option Mark
-mark_of marks key = unwrap_or (get_by (λ k. slice_cmp nat_cmp key k.now) marks) None
+abbrev pub mark_of : IndexMap (Bor (List ℕ)) (Option Mark) Seeded → List ℕ → Option Mark
+mark_of marks key = unwrap_or (get_by (λ k. bytes_eq key k.now) marks) None
 
-abbrev pub AreMemberMarks : Walk → Members → BTreeMap (Bor (List ℕ)) (Option Mark) → Type 0
+abbrev pub AreMemberMarks : Walk → Members → IndexMap (Bor (List ℕ)) (Option Mark) Seeded → Type 0
 AreMemberMarks walk ms marks = (key : List ℕ) (e : Data) → get_member key ms ≡ Some e → IsKnown walk e (mark_of marks key)
 
 -- the JSON is not a default of a branch before an index

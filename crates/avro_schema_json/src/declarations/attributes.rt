@@ -16,6 +16,7 @@ use crate::error::SchemaError;
 use crate::symbol_indices::symbol_indices;
 use avro_name::{FullName, Namespace};
 use avro_schema::FixedNode;
+use avro_texts::Seeded;
 use serde_json::{Map, Value};
 use std::alloc::Global;
 
@@ -180,6 +181,7 @@ pub(crate) fn field_name(alloc: Global, members: &Members) -> Result<String, Sch
 /// The symbols of an enum, and the index of its default.
 pub(crate) fn symbols(
     alloc: Global,
+    seed: Seeded,
     members: &Members,
 ) -> Result<(Vec<String>, Option<u32>), SchemaError>
     ensures found { IfOk result (λ r. IsAttribute (symbols_in (members_view members.now.entries)) (texts_of r.0.items, r.1)) }
@@ -189,13 +191,14 @@ pub(crate) fn symbols(
         return Err(SchemaError::InvalidDeclaration);
     };
     let symbols = texts(alloc, value)?;
-    let default = default_symbol(alloc, members, &symbols)?;
+    let default = default_symbol(alloc, seed, members, &symbols)?;
     Ok((symbols, default))
 }
 
 /// The index of an enum's default among its symbols.
 fn default_symbol(
     alloc: Global,
+    seed: Seeded,
     members: &Members,
     symbols: &[String],
 ) -> Result<Option<u32>, SchemaError>
@@ -207,7 +210,7 @@ fn default_symbol(
     };
     match value.as_str() {
         Some(word) => {
-            let indices = symbol_indices(alloc, symbols)?;
+            let indices = symbol_indices(alloc, seed, symbols)?;
             match indices.get(word) {
                 Some(index) => Ok(Some(*index)),
                 None => Err(SchemaError::InvalidSymbols),

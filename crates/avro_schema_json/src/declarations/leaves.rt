@@ -55,8 +55,8 @@ impl Progress<'_> {
     {
         let Definition { id, name, space } = self.begin(alloc, enclosing, members)?;
         let aliases = aliases(alloc, &space.namespace, members)?;
-        let (symbols, default) = symbols(alloc, members)?;
-        let indices = symbol_indices(alloc, &symbols)?;
+        let (symbols, default) = symbols(alloc, self.seed, members)?;
+        let indices = symbol_indices(alloc, self.seed, &symbols)?;
         let node = EnumNode {
             name,
             aliases,

@@ -15,12 +15,15 @@ use crate::error::SchemaError;
 use crate::raw::RawNode;
 use avro_name::FullName;
 use avro_schema::{NodeId, Schema};
+use avro_texts::Seeded;
 use std::alloc::{AllocError, Global};
 
 /// The nodes of a declaration that is being read, in the order in which they begin, and the
 /// definitions that are known.
 #[derive(Drop)]
 pub(crate) struct Progress<'a> {
+    /// The seed of all tables of names.
+    pub seed: Seeded,
     pub nodes: Vec<RawNode<'a>>,
     pub names: NameTable,
 }

@@ -13,11 +13,13 @@ use crate::defaults::rows::place_of;
 use crate::raw::{RawField, RawNode};
 use crate::raw_nodes::branches_at;
 use avro_schema::{Memory, NodeId};
+use avro_texts::Seeded;
+use indexmap::IndexMap;
 use std::alloc::Global;
 use std::collections::BTreeMap;
 
 /// The labels of the names of fields and of symbols.
-pub(crate) type Labels<'a> = BTreeMap<&'a str, u32>;
+pub(crate) type Labels<'a> = IndexMap<&'a str, u32, Seeded>;
 
 /// The label of a word: that of the fields of this name, or of the values of maps where there is none.
 pub(crate) fn label_of(labels: &Labels<'_>, name: &str) -> u32

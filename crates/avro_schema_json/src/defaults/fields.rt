@@ -6,15 +6,20 @@ ghost use Rattle.serde_json.specs.View.{members_view};
 
 use crate::raw::RawField;
 use avro_schema::Memory;
+use avro_texts::Seeded;
+use indexmap::IndexMap;
 use serde_json::{Map, Value};
 use std::alloc::Global;
-use std::collections::BTreeMap;
 
 /// The names of fields, to look keys up in.
-fn names_of<'a>(alloc: Global, fields: &'a [RawField<'_>]) -> Result<BTreeMap<&'a str, ()>, Memory>
+fn names_of<'a>(
+    alloc: Global,
+    seed: Seeded,
+    fields: &'a [RawField<'_>],
+) -> Result<IndexMap<&'a str, (), Seeded>, Memory>
     ensures { IfOk result (λ names. HasNames names (fields_seen fields.now)) }
 {
-    let mut names: BTreeMap<&'a str, ()> = BTreeMap::new(alloc);
+    let mut names: IndexMap<&'a str, (), Seeded> = IndexMap::with_hasher(alloc, seed);
     for field in fields {
         names.insert(field.name.as_str(), ())?;
     }
@@ -24,12 +29,13 @@ fn names_of<'a>(alloc: Global, fields: &'a [RawField<'_>]) -> Result<BTreeMap<&'
 /// Whether each key is the name of a field.
 pub(crate) fn names_fields(
     alloc: Global,
+    seed: Seeded,
     members: &Map<String, Value>,
     fields: &[RawField],
 ) -> Result<bool, Memory>
     ensures { IfOk result (λ answer. answer ≡ names_only (member_keys (members_view members.now.entries)) (fields_seen fields.now)) }
 {
-    let names = names_of(alloc, fields)?;
+    let names = names_of(alloc, seed, fields)?;
     for (key, _) in members.iter() {
         if !names.contains_key(key.as_str()) {
             return Ok(false);

@@ -11,6 +11,8 @@ use crate::defaults::parents::Parents;
 use crate::defaults::rows::Row;
 use crate::raw::RawNode;
 use avro_schema::Memory;
+use avro_texts::Seeded;
+use indexmap::IndexMap;
 use std::alloc::Global;
 use std::collections::BTreeMap;
 
@@ -29,13 +31,17 @@ pub(crate) struct Tables<'a> {
 }
 
 /// The tables of nodes whose fields have different names.
-pub(crate) fn tables_of<'a>(alloc: Global, raws: &'a [RawNode<'_>]) -> Result<Tables<'a>, Memory>
+pub(crate) fn tables_of<'a>(
+    alloc: Global,
+    seed: Seeded,
+    raws: &'a [RawNode<'_>],
+) -> Result<Tables<'a>, Memory>
     requires distinct { AreNamesDistinct (all_without_defaults raws.now) }
     ensures { IfOk result (λ tables. AreTables (all_without_defaults raws.now) tables) }
 {
     let last = raws.len().min(PLACES - 1) as u32;
     let kinds = kinds_of(alloc, raws, last)?;
-    let mut labels: Labels<'a> = BTreeMap::new(alloc);
+    let mut labels: Labels<'a> = IndexMap::with_hasher(alloc, seed);
     let parents = parents_of(alloc, raws, last, &mut labels)?;
     Ok(Tables {
         last,

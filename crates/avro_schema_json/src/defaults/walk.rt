@@ -15,13 +15,16 @@ use crate::defaults::rows::{Row, has, place_of};
 use crate::defaults::sets::row_of;
 use crate::raw::RawNode;
 use avro_schema::{Memory, NodeId};
+use avro_texts::Seeded;
+use indexmap::IndexMap;
 use serde_json::{Map, Value};
 use std::alloc::Global;
 use std::collections::BTreeMap;
 
-/// The nodes, and the marks of a default's parts.
+/// The seed of tables of names, the nodes, and the marks of a default's parts.
 #[derive(Clone, Copy, Drop)]
 pub(crate) struct Walk<'r, 'n, 'm> {
+    pub seed: Seeded,
     pub raws: &'r [RawNode<'n>],
     /// The place that all nodes past it share.
     pub last: u32,
@@ -58,11 +61,12 @@ pub(crate) fn marks_of_members<'v>(
     walk: &Walk,
     members: &'v Map<String, Value>,
     mark: Option<Mark>,
-) -> Result<BTreeMap<&'v str, Option<Mark>>, Memory>
+) -> Result<IndexMap<&'v str, Option<Mark>, Seeded>, Memory>
     requires known { IsKnown walk.now (Data.object (members_view members.now.entries)) mark }
     ensures { IfOk result (AreMemberMarks walk.now (members_view members.now.entries)) }
 {
-    let mut marks: BTreeMap<&'v str, Option<Mark>> = BTreeMap::new(alloc);
+    let mut marks: IndexMap<&'v str, Option<Mark>, Seeded> =
+        IndexMap::with_hasher(alloc, walk.seed);
     let mut index: usize = 0;
     for (key, member) in members.iter() {
         let part = part_mark(walk, member, mark, index);
@@ -80,7 +84,7 @@ pub(crate) fn member_mark(
     walk: &Walk,
     members: &Map<String, Value>,
     member: &Value,
-    marks: &BTreeMap<&str, Option<Mark>>,
+    marks: &IndexMap<&str, Option<Mark>, Seeded>,
     key: &str,
 ) -> Option<Mark>
     requires marks { AreMemberMarks walk.now (members_view members.now.entries) marks.now }

@@ -1,4 +1,4 @@
-use Rattle.avro_schema_json.proofs.Words.{arith, ◌≡◌, List, ℕ, false, Option, None, refl, sym, ap, ◌∙◌, slice_get, string_bytes, is_some, label_of, btree_map_updates_str, fields_seen, KeptField as RawField}
+use Rattle.avro_schema_json.proofs.Words.{arith, ◌≡◌, List, ℕ, false, Option, None, refl, sym, ap, ◌∙◌, slice_get, string_bytes, is_some, label_of, hash_map_updates_str, fields_seen, KeptField as RawField}
 use Rattle.avro_schema_json.proofs.DefaultSteps.{field_at-found}
 use Rattle.avro_schema_json.proofs.RawSeen.{field_item, fields_past}
 use Rattle.avro_schema_json.proofs.RepeatsSeen.{name-found, names-next, new-next, none-left}
@@ -25,7 +25,7 @@ loop-i-preserved c =
     let f = c.index-fields-i.result in
     let name = c.as_str-name.result.now in
     let found = field_at-found fields l.i name f.node.0 (slice_get fields l.i) refl (field_item fs l.i f name c.loop-i-test.true c.index-fields-i.is (c.as_str-name.ensures.value ∙ ap (λ (g : RawField). string_bytes g.name) (sym c.index-fields-i.is))) in
-    let put = λ (word : List ℕ). btree_map_updates_str name l.names c.insert.new.self _ c.in_ok-insert.ensures.updates word in (
+    let put = λ (word : List ℕ). hash_map_updates_str name l.names c.insert.new.self _ c.in_ok-insert.ensures.updates word in (
       names-next fields l.names c.insert.new.self l.i found.0 name found.1.at (sym found.1.named) put l.invariant.0,
       λ left. l.invariant.1 (new-next fields l.names c.insert.new.self l.i found.0 name found.1.at (sym found.1.named)
           (none-there (label_of l.names name) (sym c.contains_key.ensures ∙ c.if-contains_key.false)) put left),

@@ -1,4 +1,5 @@
-use Rattle.avro_schema_json.proofs.Words.{◌≡◌, ◌≤◌, ℕ, List, length, get_by_text}
+use Rattle.avro_schema_json.proofs.Words.{◌≡◌, ◌≤◌, ℕ, List, length}
+use Rattle.indexmap.specs.IndexMap.{get_by_text}
 use Rattle.avro_schema_json.proofs.SymbolsFound.{index_from}
 use Rattle.avro_schema_json.proofs.symbol_indices.symbol_indices.Given as goal
 
