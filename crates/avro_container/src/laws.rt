@@ -6,7 +6,8 @@ ghost use Rattle.avro_schema.specs.Node.{Node};
 ghost use Rattle.avro_schema.specs.Value.{Values};
 ghost use Rattle.avro_schema_json.specs.DeclaredText.{DeclaresText};
 ghost use Rattle.avro_cursor.specs.Encoding.{plain_values};
-ghost use Rattle.avro_file.specs.BlockFails.{BlockFails, BlockReading, FileLimitValues, IsNotTooMuch, max_blocks};
+ghost use Rattle.avro_file.specs.BlockFails.{BlockFails, BlockReading, DataFail, FileLimitValues, IsNotTooMuch, max_blocks};
+ghost use Rattle.avro_file.specs.BlockStands.{BlockStands};
 ghost use Rattle.avro_file.specs.Copied.{EachResolved, Job, IsCopied, into, or_else, unchanged};
 ghost use Rattle.avro_file.specs.File.{HeaderValue, IsFile, IsHeader};
 ghost use Rattle.avro_file.specs.FileFault.{BlockFault, FileFault, in_block};
@@ -93,6 +94,17 @@ pub fn block_has_no_fault<I: Input>()
         → IsHeader h front → r.nodes ≡ h.nodes → r.sync ≡ h.sync → IsBlockWithin r.limits h vs block → number < max_blocks
         → EachResolved r.resolve vs us → IsNotTooMuch r (plain_values us) → bytes ++ more ≡ block ++ later → (I.ended input → more ≡ [])
         → BlockFails r number (I.ended input) bytes f → ⊥ }
+{
+    prefix();
+    fault_or_within();
+    declared_is_schema();
+}
+
+/// The data of such a block have no fault once it was taken: neither a check nor a reading reports one.
+pub fn data_have_no_fault()
+    ensures { (r : BlockReading) (h : HeaderValue) (vs us : Values) (count : ℕ) (front bytes body : List ℕ) (f : BlockFault)
+        → IsHeader h front → r.nodes ≡ h.nodes → IsBlockWithin r.limits h vs bytes → EachResolved r.resolve vs us → IsNotTooMuch r (plain_values us)
+        → BlockStands r.limits h.sync count body bytes → DataFail r count body f → ⊥ }
 {
     prefix();
     fault_or_within();

@@ -37,7 +37,7 @@ each-made nodes reader (value v vs) compatible fit =
     let parts = and_parts (fits nodes (root_of nodes) v) (each_fits nodes (root_of nodes) vs) fit in
     let first = made-of (into reader nodes v) (λ f faulty. compatible v f (record { fitting = parts.0; faulty = faulty })) in
     let others = each-made nodes reader vs compatible parts.1 in
-    (value first.0 others.0, first.0, others.0, first.1, others.1, refl)
+    (value first.0 others.0, (first.0, others.0, first.1, others.1, refl))
 
 resolve-within : (limits : FileLimitValues) (h : HeaderValue) (reader : List Node) (blocks : List Values) (bytes : List ℕ) → AreCompatible h.nodes reader
     → AreBlocksWithin limits h blocks bytes → AreMadeWithin limits.block (into reader h.nodes) blocks → ResolveWithin limits.block (into reader h.nodes) blocks

@@ -1,5 +1,5 @@
 -- A block within the limits has no fault.
-use Rattle.std.proofs.Common.{◌≡◌, ◌≢◌, ◌⊎◌, ℕ, ◌+◌, ◌<◌, ◌≤◌, ℤ, pos, negsuc, true, List, [], ◌∷◌, ◌++◌, length, take, drop, Ok, Err, refl, sym, ap, subst, ◌∙◌, ⊎_elim, arith, append_assoc, append-nil, length-append}
+use Rattle.std.proofs.Common.{◌≡◌, ◌≢◌, ℕ, ◌+◌, ◌<◌, ◌≤◌, ℤ, pos, negsuc, true, List, [], ◌∷◌, ◌++◌, length, take, drop, Ok, Err, refl, sym, ap, subst, ◌∙◌, ⊎_elim, arith, append_assoc, append-nil, length-append}
 use Rattle.std.specs.List.{concat}
 use Rattle.std.proofs.lemmas.Bool.{and_parts}
 use Rattle.avro_zigzag.specs.NumberFault.{LongFails, ends, too_large}
@@ -14,10 +14,11 @@ use Rattle.avro_schema.specs.WellFormed.{is_schema}
 use Rattle.avro_cursor.specs.Breaks.{StartsWithLong}
 use Rattle.avro_cursor.specs.Elements.{IsLong}
 use Rattle.avro_cursor.specs.Encoding.{EachSpelled, Encodes, plain, plain_values}
-use Rattle.avro_cursor.proofs.public.Fronts.{same_behind, same_from_pos}
+use Rattle.avro_cursor.proofs.public.Fronts.{same_behind, same_from_pos, same_front}
 use Rattle.avro_compare.specs.Fault.{ResolutionFault}
 use Rattle.avro_compare.specs.Resolve.{Resolved}
 use Rattle.avro_file.specs.BlockFails.{BlockBegins, BlockFails, BlockReading, CountFails, CountIsCut, DataAreWhole, DataFail, DatumStands, IsNotTooMuch, each_within, max_blocks}
+use Rattle.avro_file.specs.BlockStands.{BlockStands}
 use Rattle.avro_file.specs.Copied.{EachResolved}
 use Rattle.avro_file.specs.File.{HeaderValue, IsBlock, IsHeader}
 use Rattle.avro_file.specs.FileFault.{BlockFault, CountFault}
@@ -317,3 +318,15 @@ block_has_no_fault_lem prefix none declared ended r h vs us number front block b
     let d = is.declares in
     let formed = subst (λ (n : List Node). is_schema n ≡ true) (sym nodes) (declared d.0 h.nodes d.2) in
     block-none prefix none ended r h vs us number block bytes more later f formed nodes sync is.marker w few made small e last fails
+
+-- the same of its data, where it was taken
+pub data_have_no_fault_lem : Prefix → FaultOrWithin → DeclaredIsSchema → (r : BlockReading) (h : HeaderValue) (vs us : Values) (count : ℕ) (front bytes body : List ℕ)
+    (f : BlockFault) → IsHeader h front → r.nodes ≡ h.nodes → IsBlockWithin r.limits h vs bytes → EachResolved r.resolve vs us → IsNotTooMuch r (plain_values us)
+    → BlockStands r.limits h.sync count body bytes → DataFail r count body f → ⊥
+data_have_no_fault_lem prefix none declared r h vs us count front bytes body f is nodes w made small stands fails =
+    let d = is.declares in
+    let formed = subst (λ (n : List Node). is_schema n ≡ true) (sym nodes) (declared d.0 h.nodes d.2) in
+    let it = begins-told h vs bytes [] bytes [] count (length body) (body ++ h.sync) w.is_block refl stands.begins in
+    let joined : body ++ (h.sync ++ []) ≡ concat w.is_block.items ++ (h.sync ++ []) = sym (append_assoc body h.sync []) ∙ it.2 in
+    let same = same_front body (concat w.is_block.items) (h.sync ++ []) (h.sync ++ []) it.1 joined in
+    data-none prefix none r count body f formed (data-stand r h vs us bytes count body nodes w made small it.0 same.0) fails
