@@ -165,11 +165,7 @@ fn defaults_by_tables(
 }
 
 /// The defaults of all nodes.
-fn defaults_of_nodes(
-    alloc: Global,
-    seed: Seeded,
-    raws: &[RawNode],
-) -> Result<Defaults, Memory>
+fn defaults_of_nodes(alloc: Global, seed: Seeded, raws: &[RawNode]) -> Result<Defaults, Memory>
     requires distinct { AreNamesDistinct (all_without_defaults raws.now) }
     ensures data { IfOk result (λ defaults. lists_seen defaults.of_nodes.items ≡ map (node_defaults_by (all_without_defaults raws.now)) (raw_nodes_of raws.now)) }
     ensures read { IfOk result (λ defaults. defaults.are_read ≡ are_all_defaults_read (raw_nodes_of raws.now)) }

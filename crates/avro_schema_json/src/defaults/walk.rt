@@ -65,8 +65,9 @@ pub(crate) fn marks_of_members<'v>(
     requires known { IsKnown walk.now (Data.object (members_view members.now.entries)) mark }
     ensures { IfOk result (AreMemberMarks walk.now (members_view members.now.entries)) }
 {
-    let mut marks: IndexMap<&'v str, Option<Mark>, Seeded> =
-        IndexMap::with_hasher(alloc, walk.seed);
+    let mut marks: IndexMap<&'v str, Option<Mark>, Seeded> = IndexMap::with_hasher(
+        alloc, walk.seed,
+    );
     let mut index: usize = 0;
     for (key, member) in members.iter() {
         let part = part_mark(walk, member, mark, index);
