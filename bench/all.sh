@@ -3,7 +3,7 @@
 #
 #     bench/all.sh [PROGRAM [MEASURE..]]
 #
-# PROGRAM is crates/avro/out/avro by default; a MEASURE is texts, forms, verdicts, pairs, inputs, answers, containers, pipes, walks
+# PROGRAM is crates/avro/out/avro by default; a MEASURE is texts, forms, verdicts, pairs, collisions, inputs, answers, containers, pipes, walks
 # or drafts. If one fails, that is reported on standard error, the others are still run, and the status is 1.
 set -uo pipefail
 
@@ -11,7 +11,7 @@ here=$(cd "$(dirname "$0")" && pwd)
 program=${1:-$here/../crates/avro/out/avro}
 shift $(($# > 0))
 measures=("$@")
-[ $# -gt 0 ] || measures=(texts forms verdicts pairs inputs answers containers pipes walks drafts)
+[ $# -gt 0 ] || measures=(texts forms verdicts pairs collisions inputs answers containers pipes walks drafts)
 if [ ! -x "$program" ]; then
     echo "all.sh: there is no program $program: run 'make program', or name one" >&2
     exit 64
@@ -46,6 +46,7 @@ measure() { # MEASURE
         forms) "$here/canonical.py" "$program" | rows "$1" ;;
         verdicts) "$here/verdicts.py" measure "$program" | rows "$1" ;;
         pairs) "$here/hostile_pairs.py" measure "$program" | rows "$1" ;;
+        collisions) "$here/collisions.py" "$program" | rows "$1" ;;
         inputs) "$here/hostile_files.py" "$program" | rows "$1" ;;
         answers) "$here/hostile_answers.py" "$program" | rows "$1" ;;
         containers) "$here/containers.py" measure "$program" | rows "$1" ;;
