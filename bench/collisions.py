@@ -4,7 +4,7 @@ fixed seed, beside as many random ones.
 
     collisions.py PROGRAM [COUNT]
 
-It prints the processor seconds and the peak of memory in MB of `PROGRAM schema`, `judge` and `explain`. COUNT names (95,000, about as many
+It prints a table of the processor seconds and the peak of memory in MB of `PROGRAM schema`, `judge` and `explain`. COUNT names (95,000, about as many
 as a text of 1 MiB has room for) are the symbols of an enum, or the fields of a record in both schemas. The names are found by
 `c/colliding.c`, which takes a minute; pairs are those of `hostile_pairs.py`'s kind: records in many namespaces with one simple name.
 """
@@ -105,7 +105,7 @@ def run(*words):
 
 def tell(name, *words):
     seconds, megabytes, status = run(*words)
-    print(f"{name:<34}{seconds:8.2f} s {megabytes:6} MB  status {status}", flush=True)
+    print(f"| {name} | {seconds:.2f} | {megabytes} | {status} |", flush=True)
 
 
 def measure(program, kind, folder, names, pairs):
@@ -129,6 +129,7 @@ def main():
     program = os.path.abspath(sys.argv[1])
     count = int(sys.argv[2]) if len(sys.argv) > 2 else COUNT
     resource.setrlimit(resource.RLIMIT_CORE, (0, 0))
+    print("| Call and names | Seconds | MB | Status |\n|---|---|---|---|")
     with tempfile.TemporaryDirectory() as folder:
         measure(program, "random", folder, random_names(count), random_pairs())
         measure(program, "colliding", folder, colliding_names(count, folder), colliding_pairs())
