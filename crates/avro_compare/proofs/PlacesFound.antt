@@ -75,7 +75,7 @@ module _ (old new : Places) (lists : Lists) (count : ℕ) (list : Vec ℕ) (ther
       before id one low is =
           ⊎_elim
           (λ e. subst (λ (i : ℕ). FindsIn new i one.items) e
-              (λ n. own n (h.after count n (omega arith)) ∙ ap (λ (v : Vec ℕ). first_of v.items n) (same_some there (ap (slice_get lists) e ∙ is))))
+          (λ n. own n (h.after count n (omega arith)) ∙ ap (λ (v : Vec ℕ). first_of v.items n) (same_some there (ap (slice_get lists) e ∙ is))))
           (λ ne. λ n. others id n ne ∙ h.before id one (omega (arith, low, ne)) is n)
           (cases_eq count id)
 

@@ -1,7 +1,9 @@
 //! What resolution is (Avro 1.11, "Schema Resolution"), and how two nodes of two schemas relate.
 //!
 //! [`compare`] finds how they relate by [`Names`], the tables of names of two schemas. The simple names and the namespaces
-//! of all types are numbered once, so that two types are compared by numbers, and an alias is looked up in a set. The
+//! of all types are numbered once, so that two types are compared by numbers, and an alias is looked up in a set. So are
+//! the names of fields and symbols: each record, each enum and each field's aliases are a list of numbers, and one table
+//! has the first place of each number in each list that is searched. The
 //! result for two records lists only the fields that both share, in the order of their indices. The symbols of two enums
 //! are not kept if the writer has more than some 16 times as many as the reader: the list would be long for many short
 //! enums, and `lacking.rt` finds the first symbol that the reader lacks.

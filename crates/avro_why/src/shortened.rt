@@ -6,16 +6,19 @@ use std::alloc::{AllocError, Global};
 /// The most bytes of a name or a pointer that is not cut.
 const MOST: usize = 200;
 
+/// A text of more bytes is cut in any case: what is more than `MOST` bytes from its ends is not printed.
+const LONG: usize = 400;
+
 /// How many bytes at most are kept at each end of one that is cut.
 const KEPT: usize = 98;
 
-/// Stands for the byte after a backslash, which tells how long the escape is.
+/// Stands for the byte after a backslash, which says how long the escape is.
 const ESCAPED: u8 = u8::MAX;
 
 /// A text in two parts, which lack what is cut in any case from the middle of a long one.
 pub(crate) fn without_middle(text: &str) -> (&str, &str) {
     let bytes = text.as_bytes();
-    if bytes.len() <= MOST * 2 {
+    if bytes.len() <= LONG {
         return (text, "");
     }
     let head = boundary(bytes, MOST);

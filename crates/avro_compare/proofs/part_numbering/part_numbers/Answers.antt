@@ -10,5 +10,5 @@ returns c =
     let made = c.in_ok-number_aliases.ensures writer (c.in_ok-number_reader.ensures writer (c.in_ok-number_writer.ensures reader (c.no_parts-numbers.ensures writer reader).lists)) in
     record {
       lists = record { distinct = made.distinct; writes = made.writes; reads = made.reads; aliases = made.aliases };
-      places = subst (λ (lists : Lists). FindsAll _ lists) c.deref.ensures.value c.in_ok-numbers.ensures;
+      places = subst (λ (lists : Lists). FindsAll c.in_ok-numbers.field-0 lists) c.deref.ensures.value c.in_ok-numbers.ensures;
     }

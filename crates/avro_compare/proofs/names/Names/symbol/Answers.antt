@@ -1,4 +1,5 @@
-use Rattle.std.proofs.Common.{◌≡◌, rules}
+use Rattle.std.proofs.Common.{subst}
+use Rattle.std.specs.Option.{IfSome}
 use Rattle.avro_schema.specs.Node.{node_at}
 use Rattle.avro_schema.specs.SeenSchema.{schema_nodes}
 use Rattle.avro_compare.specs.inside.NameTables.{symbols_at}
@@ -9,5 +10,5 @@ pub symbol_of_place-requires : goal.symbol_of_place-requires
 symbol_of_place-requires c =
     let writer = schema_nodes c.self.inside.writer.now in
     let reader = schema_nodes c.self.inside.reader.now in
-    let are : ArePartNumbers writer reader c.in-Some-parts.parts.now = search rules in
-    c.symbol_by_numbers.ensures (symbols_at (node_at reader c.args.q.0)) c.args.symbol.now (are.lists.distinct, are.places) (c.in-Some-found.ensures writer reader are.lists)
+    let are : ArePartNumbers writer reader _ = subst (λ o. IfSome o (ArePartNumbers writer reader)) c.in-Some.is c.self.invariant.2 in
+    c.symbol_by_numbers-index.ensures (symbols_at (node_at reader c.args.q.0)) c.args.symbol.now (are.lists.distinct, are.places) (c.in-Some-symbol_numbers_of.ensures writer reader are.lists)
