@@ -18,6 +18,6 @@ returns-in-Some-field_numbers_at c =
     let r = c.args.r in
     let field = field_of c.args.field.now in
     let there = subst (λ (v : Schema × Schema). slice_get (fields_at (node_at (schema_nodes v.1) r.0)) c.args.index ≡ Some field) (sym c.self.view_is) c.requires in
-    let are : ArePartNumbers writer reader _ = subst (λ o. IfSome o (ArePartNumbers writer reader)) c.in-Some.is c.self.invariant.2 in
+    let are : ArePartNumbers writer reader _ = subst (λ o. IfSome o (ArePartNumbers writer reader)) c.in-Some.is c.self.invariant.1 in
     subst (λ (v : Schema × Schema). c.source_by_numbers.result ≡ source_of (fields_at (node_at (schema_nodes v.0) w.0)) field) c.self.view_is
     (c.source_by_numbers.ensures (fields_at (node_at writer w.0)) field (are.lists.distinct, are.places) (c.in-Some-field_numbers_at.ensures writer reader field are.lists there))

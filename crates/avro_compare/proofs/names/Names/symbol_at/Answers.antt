@@ -14,7 +14,7 @@ symbol_of_place-requires c =
     let writer = schema_nodes c.self.inside.writer.now in
     let reader = schema_nodes c.self.inside.reader.now in
     let reads = symbols_at (node_at reader c.args.q.0) in
-    let are : ArePartNumbers writer reader _ = subst (λ o. IfSome o (ArePartNumbers writer reader)) c.in-Some.is c.self.invariant.2 in
+    let are : ArePartNumbers writer reader _ = subst (λ o. IfSome o (ArePartNumbers writer reader)) c.in-Some.is c.self.invariant.1 in
     c.symbol_by_numbers-index.ensures reads (symbol_at (node_at writer c.args.w.0) c.args.index) (are.lists.distinct, are.places) (c.in-Some-symbol_numbers_at.ensures writer reader are.lists)
     ∙ ap (λ (t : List ℕ). position (λ s. bytes_eq s t) reads) (sym c.text_of-symbol.ensures)
 
