@@ -1,6 +1,5 @@
 -- Tables of some nodes, as one is found and one is added.
 use Rattle.std.proofs.Common.{◌≡◌, ℕ, List, length, Option, Some, None, refl, subst, sym}
-use Rattle.std.specs.Prelude.{slice_get}
 use Rattle.std.specs.Option.{IfSome}
 use Rattle.avro_schema.specs.declared.schema.NodeId.{NodeId}
 use Rattle.avro_compare.specs.inside.ByNode.{HasTable, EachTable, with_table}
