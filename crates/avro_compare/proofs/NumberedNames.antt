@@ -1,5 +1,5 @@
 -- Names by number: lists of numbers as they grow, and a number's place in one as that of its name.
-use Rattle.std.proofs.Common.{◌≡◌, ◌∙◌, ℕ, zero, suc, ◌+◌, ◌<◌, ◌==◌, Bool, true, false, cond, List, [], ◌∷◌, ◌++◌, length, Option, Some, None, refl, sym, ap, subst, arith}
+use Rattle.std.proofs.Common.{◌≡◌, ◌∙◌, ℕ, zero, suc, ◌+◌, ◌<◌, ◌==◌, Bool, true, false, cond, List, [], ◌∷◌, ◌++◌, length, Option, Some, refl, sym, ap, subst, arith}
 use Rattle.std.specs.Prelude.{String, string_bytes, option_map, slice_get, slice_index_or, bytes_eq, position, unwrap_or}
 use Rattle.std.specs.Global.{Vec}
 use Rattle.std.specs.List.{IsDistinct, position_from}
@@ -14,7 +14,7 @@ use Rattle.avro_schema.specs.Seen.{texts_of}
 use Rattle.avro_compare.specs.Resolve.{fields_at, symbol_at}
 use Rattle.avro_compare.specs.Source.{field_index, first_index, or_else}
 use Rattle.avro_compare.specs.inside.NameTables.{symbols_at}
-use Rattle.avro_compare.specs.inside.PartNumbers.{AreAliases, AreLists, AreNumbersOf, AreParts, Grows, HasList, HasParts, IsNumberAt, KeepsLists, Lists, first_number, first_of, names_of}
+use Rattle.avro_compare.specs.inside.PartNumbers.{AreAliases, AreLists, AreNumbersOf, AreParts, Grows, HasList, IsNumberAt, KeepsLists, Lists, first_number, first_of, names_of}
 use Rattle.avro_compare.specs.declared.part_numbers.NodeParts.{NodeParts}
 use Rattle.avro_compare.proofs.Named.{symbol_text}
 use Rattle.avro_compare.proofs.public.Planning.{Holds, holds_push, same_some}

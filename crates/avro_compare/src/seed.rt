@@ -4,11 +4,14 @@ use avro_name::FullName;
 use avro_schema::{EnumNode, Field, FixedNode, Node, NodeId, RecordNode, Schema};
 use avro_texts::{Seeded, Seeding};
 
-/// A seed from all that decides which pairs of nodes two schemas have, and which names: every
-/// name, edge, size and whether there is a default.
+/// How many bytes of a namespace are taken in.
+const FRONT: usize = 256;
+
+/// A seed from all that decides which pairs of nodes two schemas have, and which names: every name,
+/// of a namespace the front, every edge, every size, and whether there is a default.
 ///
 /// Whoever writes the two schemas cannot plan which of their names or pairs have hashes alike,
-/// since any change of either gives another seed.
+/// since what decides them also decides the seed.
 pub fn seed_of(writer: &Schema, reader: &Schema) -> Seeded {
     let mut seeding = Seeding::new();
     take_schema(&mut seeding, writer);
@@ -99,8 +102,18 @@ fn take_fixed(seeding: &mut Seeding, fixed: &FixedNode) {
 
 /// Takes in a fullname.
 fn take_name(seeding: &mut Seeding, name: &FullName) {
-    seeding.take(name.namespace().as_bytes());
+    take_space(seeding, name.namespace().as_bytes());
     seeding.take(name.simple().as_bytes());
+}
+
+/// Takes in a namespace: its length, and its first bytes. A long one is in each name that is declared below it, so that all
+/// of it would be read too often; and a text has room for few that differ only behind these.
+fn take_space(seeding: &mut Seeding, space: &[u8]) {
+    take_count(seeding, space.len());
+    match space.get(..FRONT) {
+        Some(front) => seeding.take(front),
+        None => seeding.take(space),
+    }
 }
 
 /// Takes in the aliases of a type.

@@ -1,6 +1,5 @@
 use Rattle.std.proofs.Common.{◌≡◌, ◌∙◌, List, Some, ap, subst, sym}
 use Rattle.std.specs.Prelude.{slice_get}
-use Rattle.std.specs.Global.{Vec}
 use Rattle.avro_compare.specs.inside.PartNumbers.{IsNumberAt, Lists}
 use Rattle.avro_compare.specs.declared.part_numbers.NodeParts.{NodeParts}
 use Rattle.avro_compare.proofs.NumberedNames.{aliases_of_field, name_there, number_of_list}

@@ -1,7 +1,7 @@
 use Rattle.std.proofs.Common.{◌≡◌, ◌∙◌, [], Option, List, ℕ, ap, sym, subst, rules}
 use Rattle.std.specs.Prelude.{option_map, unwrap_or}
 use Rattle.avro_schema.specs.Node.{FieldNode}
-use Rattle.avro_schema.specs.Seen.{field_of, seen_fields, texts_of}
+use Rattle.avro_schema.specs.Seen.{seen_fields, texts_of}
 use Rattle.avro_compare.specs.inside.PartNumbers.{HasList, aliases_at}
 use Rattle.avro_compare.proofs.NumberedNames.{grows_more, grows_none, lists_kept, lists_more, lists_none}
 use Rattle.avro_compare.proofs.public.Lists.{seen_at}

@@ -1,4 +1,4 @@
-use Rattle.std.proofs.Common.{◌≡◌, [], List, ℕ, subst, sym}
+use Rattle.std.proofs.Common.{ℕ, subst, sym}
 use Rattle.std.specs.Global.{Vec}
 use Rattle.avro_texts.specs.Texts.{AreDistinct}
 use Rattle.avro_schema.specs.Node.{node_at}

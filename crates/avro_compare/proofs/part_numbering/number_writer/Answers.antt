@@ -1,4 +1,3 @@
-use Rattle.avro_schema.specs.SeenSchema.{schema_nodes}
 use Rattle.avro_compare.proofs.NumberedNames.{aliases_kept, parts_kept}
 use Rattle.avro_compare.proofs.part_numbering.number_writer.Goals as goal
 

@@ -1,4 +1,4 @@
-use Rattle.std.proofs.Common.{◌≡◌, ◌∙◌, List, ℕ, ap, subst, sym, position, bytes_eq}
+use Rattle.std.proofs.Common.{◌∙◌, List, ℕ, ap, subst, sym, position, bytes_eq}
 use Rattle.std.specs.Option.{IfSome}
 use Rattle.avro_schema.specs.Node.{node_at}
 use Rattle.avro_schema.specs.SeenSchema.{schema_nodes}
