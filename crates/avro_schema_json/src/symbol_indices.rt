@@ -34,13 +34,20 @@ pub(crate) fn symbol_indices(
     Ok(indices)
 }
 
+/// The index of a symbol, by the indices of all.
+pub(crate) fn index_of_symbol(indices: &IndexMap<String, u32, Seeded>, word: &str) -> Option<u32>
+    ensures { (symbols : List (List ℕ)) → FindsSymbols symbols indices.now → result ≡ symbol_index word.now symbols }
+{
+    indices.get(word).copied()
+}
+
 /// The default of an enum that a word gives, by the indices of the enum's symbols.
 pub(crate) fn symbol_default(indices: &IndexMap<String, u32, Seeded>, word: &str) -> Option<Datum>
     ensures { (symbols : List (List ℕ)) → FindsSymbols symbols indices.now
         → option_map value_of result ≡ option_map SeenValue.enum (symbol_index word.now symbols) }
 {
-    match indices.get(word) {
-        Some(index) => Some(Datum::Enum(*index)),
+    match index_of_symbol(indices, word) {
+        Some(index) => Some(Datum::Enum(index)),
         None => None,
     }
 }

@@ -13,7 +13,7 @@ ghost use Rattle.serde_json.specs.View.{view, items_view, members_view};
 
 use crate::declarations::words::{Form, form_of};
 use crate::error::SchemaError;
-use crate::symbol_indices::symbol_indices;
+use crate::symbol_indices::{index_of_symbol, symbol_indices};
 use avro_name::{FullName, Namespace};
 use avro_schema::FixedNode;
 use avro_texts::Seeded;
@@ -211,8 +211,8 @@ fn default_symbol(
     match value.as_str() {
         Some(word) => {
             let indices = symbol_indices(alloc, seed, symbols)?;
-            match indices.get(word) {
-                Some(index) => Ok(Some(*index)),
+            match index_of_symbol(&indices, word) {
+                Some(index) => Ok(Some(index)),
                 None => Err(SchemaError::InvalidSymbols),
             }
         }
