@@ -5,10 +5,11 @@ fixed seed, beside as many random ones.
     collisions.py PROGRAM [COUNT]
 
 It prints a table of the processor seconds and the peak of memory in MB of `PROGRAM schema`, `judge` and `explain`. COUNT names (95,000, about as many
-as a text of 1 MiB has room for) are the symbols of an enum, or the fields of a record in both schemas. The names are found by
+as a text of 1 MiB has room for) are the symbols of an enum, or the aliases of a field, in both schemas. The names are found by
 `c/colliding.c`, which takes a minute; pairs are those of `hostile_pairs.py`'s kind: records in many namespaces with one simple name.
 """
 
+import heapq
 import os
 import random
 import resource
@@ -58,15 +59,9 @@ def enum_text(names):
 
 
 def record_text(names):
-    """A record of as many of these fields as fit."""
-    fields, left = [], MOST - 50
-    for name in names:
-        field = '{"name":"%s","type":"int"}' % name
-        if left <= len(field):
-            break
-        fields.append(field)
-        left -= len(field) + 1
-    return '{"type":"record","name":"R","fields":[%s]}' % ",".join(fields)
+    """A record of a field with these aliases."""
+    field = '{"name":"f","type":"int","aliases":["%s"]}' % '","'.join(names)
+    return '{"type":"record","name":"R","fields":[%s]}' % field
 
 
 def pair_texts(pairs):
@@ -91,7 +86,7 @@ def random_pairs():
 
 def colliding_pairs():
     """The pairs whose hashes begin in the fewest of 4,096 groups."""
-    keys = sorted(range(NODES * NODES), key=lambda key: hash_of_number(key) & 4095)[:PAIRS]
+    keys = heapq.nsmallest(PAIRS, range(NODES * NODES), key=lambda key: hash_of_number(key) & 4095)
     random.Random(2).shuffle(keys)
     return pairs_of(keys)
 
@@ -118,10 +113,10 @@ def measure(program, kind, folder, names, pairs):
     enum, record = written("enum", enum_text(names)), written("record", record_text(names))
     writer, reader = (written(name, text) for name, text in zip(("writer", "reader"), pair_texts(pairs)))
     tell(f"schema, symbols, {kind}", program, "schema", enum)
-    tell(f"schema, fields, {kind}", program, "schema", record)
+    tell(f"schema, aliases, {kind}", program, "schema", record)
     for verb in ("judge", "explain"):
         tell(f"{verb}, symbols, {kind}", program, verb, enum, enum)
-        tell(f"{verb}, fields, {kind}", program, verb, record, record)
+        tell(f"{verb}, aliases, {kind}", program, verb, record, record)
         tell(f"{verb}, pairs, {kind}", program, verb, writer, reader)
 
 
