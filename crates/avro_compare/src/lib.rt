@@ -48,6 +48,5 @@ pub use lead::{Lead, Step};
 pub use matching::matches;
 pub use names::Names;
 pub use pairs::{aim, first_match};
-pub use seed::seed_of;
 pub use sourcing::{fields_of, missing, part_for, source, source_among};
 pub use symbols::symbol_for;

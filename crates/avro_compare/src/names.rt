@@ -1,5 +1,6 @@
+use crate::first_matches::first_index;
 use crate::guided::Aim;
-use crate::pairs::{aim_by, first_match_by};
+use crate::pairs::aim_by;
 use crate::part_finding::{
     field_numbers_at, source_by_numbers, symbol_by_numbers, symbol_numbers_at, symbol_numbers_of,
 };
@@ -11,6 +12,7 @@ use crate::symbols::{symbol_of_id, symbol_of_place, text_of};
 use crate::type_names::TypeNames;
 use crate::type_numbers::type_names;
 use avro_schema::{Field, Memory, NodeId, Schema};
+use avro_texts::Seeded;
 use std::alloc::Global;
 use std::marker::Model;
 
@@ -93,7 +95,7 @@ impl<'a> Names<'a> {
         ensures { result ≡ first_match_at (schema_nodes self.now.0) (schema_nodes self.now.1)
             (node_at (schema_nodes self.now.0) w.0) (node_at (schema_nodes self.now.1) r.0) }
     {
-        first_match_by(self.types.as_ref(), self.writer, w, self.reader, r)
+        first_index(self.types.as_ref(), self.writer, w, self.reader, r)
     }
 
     /// The index of the field of a writer's record that a reader's field takes its value from, as
@@ -157,6 +159,14 @@ impl<'a> Names<'a> {
             (node_at (schema_nodes self.now.0) w.0) (node_at (schema_nodes self.now.1) r.0) result }
     {
         aim_by(self.types.as_ref(), self.writer, w, self.reader, r)
+    }
+
+    /// The seed of the tables, from all names and edges of the two schemas.
+    pub fn seed(&self) -> Seeded {
+        match &self.parts {
+            Some(parts) => parts.seed,
+            None => seed_of(self.writer, self.reader),
+        }
     }
 
     /// The writer's schema.

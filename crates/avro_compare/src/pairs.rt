@@ -21,22 +21,7 @@ pub fn first_match(writer: &Schema, w: NodeId, reader: &Schema, r: NodeId) -> Op
     ensures { result ≡ first_match_at (schema_nodes writer.now) (schema_nodes reader.now)
         (node_at (schema_nodes writer.now) w.0) (node_at (schema_nodes reader.now) r.0) }
 {
-    first_match_by(None, writer, w, reader, r)
-}
-
-/// The same, by the names of types, if they are there.
-pub(crate) fn first_match_by(
-    names: Option<&TypeNames>,
-    writer: &Schema,
-    w: NodeId,
-    reader: &Schema,
-    r: NodeId,
-) -> Option<usize>
-    requires { IfSome names (λ n. AreTypeNames (schema_nodes writer.now) (schema_nodes reader.now) n.now) }
-    ensures { result ≡ first_match_at (schema_nodes writer.now) (schema_nodes reader.now)
-        (node_at (schema_nodes writer.now) w.0) (node_at (schema_nodes reader.now) r.0) }
-{
-    first_index(names, writer, w, reader, r)
+    first_index(None, writer, w, reader, r)
 }
 
 /// Where a pair of nodes leads.

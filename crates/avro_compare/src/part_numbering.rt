@@ -35,6 +35,7 @@ pub(crate) fn no_parts<'a>(alloc: Global, seed: Seeded) -> PartNumbers<'a>
     ensures { (writer reader : List Node) → ArePartNumbers writer reader result }
 {
     PartNumbers {
+        seed,
         texts: Texts::new(alloc, seed),
         tabled: Vec::new(alloc),
         places: IndexMap::with_hasher(alloc, seed),

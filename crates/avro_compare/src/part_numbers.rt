@@ -14,6 +14,8 @@ pub(crate) struct NodeParts {
 /// of their numbers. A name is found in a list by its number.
 #[derive(Drop)]
 pub(crate) struct PartNumbers<'a> {
+    // The seed of the tables.
+    pub seed: Seeded,
     pub texts: Texts<'a>,
     // The lists that are searched, of the writer's fields and the reader's symbols and aliases, and the first index of
     // each of their numbers.

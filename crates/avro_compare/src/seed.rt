@@ -12,7 +12,7 @@ const FRONT: usize = 256;
 ///
 /// Whoever writes the two schemas cannot plan which of their names or pairs have hashes alike,
 /// since what decides them also decides the seed.
-pub fn seed_of(writer: &Schema, reader: &Schema) -> Seeded {
+pub(crate) fn seed_of(writer: &Schema, reader: &Schema) -> Seeded {
     let mut seeding = Seeding::new();
     take_schema(&mut seeding, writer);
     take_schema(&mut seeding, reader);

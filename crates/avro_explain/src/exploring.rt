@@ -19,7 +19,7 @@ use crate::dying::{dead_nodes, is_marked};
 use crate::error::ExplainError;
 use crate::failing::details;
 use crate::found::{Detail, Explanation, Finding, Place};
-use avro_compare::{Lead, Names, compare, leads, seed_of};
+use avro_compare::{Lead, Names, compare, leads};
 use avro_schema::{Memory, NodeId, Schema};
 use avro_texts::Seeded;
 use indexmap::IndexSet;
@@ -90,8 +90,7 @@ fn explore(
     ensures faults { IfOk result (λ walk. AreFaults (schema_nodes names.now.0) (schema_nodes names.now.1) walk.places.items walk.faults.items) }
     ensures above { IfErr result (λ e. e ≡ TooManyPairs → (pairs : List Pair) × AreTooMany (schema_nodes names.now.0) (schema_nodes names.now.1) (marked dead.now) max_pairs pairs) }
 {
-    let seed = seed_of(names.writer(), names.reader());
-    let mut walk = start(alloc, seed, dead)?;
+    let mut walk = start(alloc, names.seed(), dead)?;
     if walk.places.len() > max_pairs {
         return Err(ExplainError::TooManyPairs);
     }

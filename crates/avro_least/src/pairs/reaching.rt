@@ -17,7 +17,7 @@ use crate::kept::Least;
 use crate::nodes::least::{count, entry};
 use crate::pairs::asking::{Ask, ask_of_pair};
 use crate::pairs::near::add_next;
-use avro_compare::{Comparison, Lead, Names, compare, has_fault, leads, seed_of};
+use avro_compare::{Comparison, Lead, Names, compare, has_fault, leads};
 use avro_schema::{Memory, NodeId, Schema};
 use avro_texts::Seeded;
 use indexmap::IndexSet;
@@ -263,7 +263,7 @@ fn reach_by(
     // The contract of these calls bounds the number of nodes, which the proof needs.
     let _ = count(writer);
     let _ = count(reader);
-    let mut reached = start(alloc, seed_of(writer, reader))?;
+    let mut reached = start(alloc, names.seed())?;
     let mut near = 0;
     let mut next = 0;
     while next < reached.known.len() {

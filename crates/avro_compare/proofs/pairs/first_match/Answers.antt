@@ -1,8 +1,8 @@
-use Rattle.std.proofs.Common.{◌∙◌, sym}
+use Rattle.std.proofs.Common.{◌∙◌}
 use Rattle.avro_schema.specs.Node.{node_at}
 use Rattle.avro_schema.specs.SeenSchema.{schema_nodes}
 use Rattle.avro_compare.proofs.Pairing.{match_of_branches}
-use Rattle.avro_compare.proofs.pairs.first_match_by.Goals as goal
+use Rattle.avro_compare.proofs.pairs.first_match.Goals as goal
 
 pub returns : goal.returns
 returns c =
