@@ -6,19 +6,15 @@
 //! has the first place of each number in each list that is searched. The
 //! result for two records lists only the fields that both share, in the order of their indices. The symbols of two enums
 //! are not kept if the writer has more than some 16 times as many as the reader: the list would be long for many short
-//! enums, and `lacking.rt` finds the first symbol that the reader lacks.
+//! enums, and `find_lacking` finds the first symbol that the reader lacks.
 #![tactic(auto)]
 
-mod alias_sets;
-mod alike;
 mod children;
 mod comparing;
 mod comparison;
 mod entries;
 mod error;
-mod first_matches;
 mod guided;
-mod lacking;
 pub mod laws;
 mod lead;
 mod matching;
@@ -26,16 +22,12 @@ mod named_type;
 mod names;
 mod pairs;
 mod part_finding;
-mod part_lists;
-mod part_numbering;
 mod part_numbers;
-mod places;
+mod reader_types;
 mod seed;
 mod sourcing;
 mod symbols;
 mod type_names;
-mod type_numbers;
-mod union_tables;
 
 pub use children::{has_fault, leads};
 pub use comparing::{compare, compare_all};
@@ -43,7 +35,7 @@ pub use comparison::Comparison;
 pub use entries::{first_entry, rest_entries};
 pub use error::{Fault, FaultKind};
 pub use guided::{Aim, At};
-pub use lacking::symbol_kept;
+pub use symbols::symbol_kept;
 pub use lead::{Lead, Step};
 pub use matching::matches;
 pub use names::Names;

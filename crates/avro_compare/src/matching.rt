@@ -10,7 +10,7 @@ ghost use Rattle.avro_compare.specs.inside.TypeNames.{AreTypeNames};
 ghost use Rattle.avro_compare.specs.Match.{Matches, is_match, are_alike as are_named_alike, match_within as within};
 ghost use Rattle.avro_compare.specs.Pairs.{IsStep};
 
-use crate::alike::alike;
+use crate::type_names::alike;
 use crate::guided::Step;
 use crate::type_names::TypeNames;
 use avro_name::FullName;

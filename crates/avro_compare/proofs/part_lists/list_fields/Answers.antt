@@ -1,4 +1,0 @@
-use Rattle.avro_compare.proofs.part_lists.list_fields.Goals as goal
-
-pub returns-clause-has : goal.returns-clause-has
-returns-clause-has c = record { list = c.in_ok-numbers.numbers; there = c.in_ok-id.ensures.there; are = c.in_ok-numbers.ensures.has }
