@@ -12,10 +12,9 @@ ghost use Rattle.avro_compare.specs.Planned.{AreFor, AreInside, AreComparisons, 
 use crate::comparison::Comparison;
 use crate::entries::push_lone;
 use crate::guided::{Aim, At};
-use crate::symbols::find_lacking;
 use crate::names::Names;
 use crate::sourcing::{fields_of, missing_among, node_of_field, source_kept};
-use crate::symbols::symbols_of;
+use crate::symbols::{find_lacking, symbols_of};
 use avro_schema::{Field, Memory, NodeId, Schema};
 use std::alloc::Global;
 

@@ -10,9 +10,8 @@ ghost use Rattle.avro_compare.specs.inside.TypeNames.{AreTypeNames};
 ghost use Rattle.avro_compare.specs.Match.{Matches, is_match, are_alike as are_named_alike, match_within as within};
 ghost use Rattle.avro_compare.specs.Pairs.{IsStep};
 
-use crate::type_names::alike;
 use crate::guided::Step;
-use crate::type_names::TypeNames;
+use crate::type_names::{TypeNames, alike};
 use avro_name::FullName;
 use avro_schema::{Node, NodeId, Schema};
 

@@ -1,16 +1,13 @@
-use crate::pairs::first_index;
 use crate::guided::Aim;
-use crate::pairs::aim_by;
+use crate::pairs::{aim_by, first_index};
 use crate::part_finding::{
     field_numbers_at, source_by_numbers, symbol_by_numbers, symbol_numbers_at, symbol_numbers_of,
 };
-use crate::part_numbers::part_numbers;
-use crate::part_numbers::PartNumbers;
+use crate::part_numbers::{PartNumbers, part_numbers};
 use crate::seed::seed_of;
 use crate::sourcing::{fields_of, source_among};
 use crate::symbols::{symbol_of_id, symbol_of_place, text_of};
-use crate::type_names::TypeNames;
-use crate::type_names::type_names;
+use crate::type_names::{TypeNames, type_names};
 use avro_schema::{Field, Memory, NodeId, Schema};
 use avro_texts::Seeded;
 use std::alloc::Global;

@@ -7,6 +7,11 @@ use avro_texts::{Seeded, Seeding};
 /// How many bytes of a namespace are taken in.
 const FRONT: usize = 256;
 
+/// A byte that ends a text, and one that ends a list of texts. No name has them.
+const TEXT_END: [u8; 1] = [0];
+
+const LIST_END: [u8; 1] = [1];
+
 /// A seed from all that decides which pairs of nodes two schemas have, and which names: every name,
 /// of a namespace the front, every edge, every size, and whether there is a default.
 ///
@@ -30,12 +35,12 @@ fn take_schema(seeding: &mut Seeding, schema: &Schema) {
 /// Takes in a node, behind a number of its kind.
 fn take_node(seeding: &mut Seeding, node: &Node) {
     match node {
-        Node::Null => take_number(seeding, 0),
-        Node::Boolean => take_number(seeding, 1),
-        Node::Int => take_number(seeding, 2),
-        Node::Long => take_number(seeding, 3),
-        Node::Bytes => take_number(seeding, 4),
-        Node::Str => take_number(seeding, 5),
+        Node::Null => seeding.take(&[0]),
+        Node::Boolean => seeding.take(&[1]),
+        Node::Int => seeding.take(&[2]),
+        Node::Long => seeding.take(&[3]),
+        Node::Bytes => seeding.take(&[4]),
+        Node::Str => seeding.take(&[5]),
         Node::Array(items) => take_edges(seeding, 6, &[*items]),
         Node::Map(values) => take_edges(seeding, 7, &[*values]),
         Node::Union(branches) => take_edges(seeding, 8, branches),
@@ -52,12 +57,12 @@ fn take_number(seeding: &mut Seeding, number: u32) {
 
 /// Takes in how many there are of what follows.
 fn take_count(seeding: &mut Seeding, count: usize) {
-    seeding.take(&(count as u64).to_le_bytes());
+    take_number(seeding, count as u32);
 }
 
 /// Takes in the nodes that a node of a kind has as its parts.
-fn take_edges(seeding: &mut Seeding, kind: u32, nodes: &[NodeId]) {
-    take_number(seeding, kind);
+fn take_edges(seeding: &mut Seeding, kind: u8, nodes: &[NodeId]) {
+    seeding.take(&[kind]);
     take_count(seeding, nodes.len());
     for node in nodes {
         take_number(seeding, node.0);
@@ -66,9 +71,8 @@ fn take_edges(seeding: &mut Seeding, kind: u32, nodes: &[NodeId]) {
 
 /// Takes in a record.
 fn take_record(seeding: &mut Seeding, record: &RecordNode) {
-    take_number(seeding, 9);
-    take_name(seeding, &record.name);
-    take_aliases(seeding, &record.aliases);
+    seeding.take(&[9]);
+    take_names(seeding, &record.name, &record.aliases);
     take_count(seeding, record.fields.len());
     for field in &record.fields {
         take_field(seeding, field);
@@ -77,33 +81,40 @@ fn take_record(seeding: &mut Seeding, record: &RecordNode) {
 
 /// Takes in a field.
 fn take_field(seeding: &mut Seeding, field: &Field) {
-    seeding.take(field.name.as_bytes());
+    take_text(seeding, &field.name);
     take_texts(seeding, &field.aliases);
     take_number(seeding, field.node.0);
-    take_number(seeding, u32::from(field.default.is_some()));
+    seeding.take(&[u8::from(field.default.is_some())]);
 }
 
 /// Takes in an enum.
 fn take_enum(seeding: &mut Seeding, en: &EnumNode) {
-    take_number(seeding, 10);
-    take_name(seeding, &en.name);
-    take_aliases(seeding, &en.aliases);
+    seeding.take(&[10]);
+    take_names(seeding, &en.name, &en.aliases);
     take_texts(seeding, &en.symbols);
-    take_number(seeding, u32::from(en.default.is_some()));
+    seeding.take(&[u8::from(en.default.is_some())]);
 }
 
 /// Takes in a fixed.
 fn take_fixed(seeding: &mut Seeding, fixed: &FixedNode) {
-    take_number(seeding, 11);
-    take_name(seeding, &fixed.name);
-    take_aliases(seeding, &fixed.aliases);
+    seeding.take(&[11]);
+    take_names(seeding, &fixed.name, &fixed.aliases);
     take_number(seeding, fixed.size);
+}
+
+/// Takes in the name of a type and its aliases.
+fn take_names(seeding: &mut Seeding, name: &FullName, aliases: &[FullName]) {
+    take_name(seeding, name);
+    for alias in aliases {
+        take_name(seeding, alias);
+    }
+    seeding.take(&LIST_END);
 }
 
 /// Takes in a fullname.
 fn take_name(seeding: &mut Seeding, name: &FullName) {
+    take_text(seeding, name.simple());
     take_space(seeding, name.namespace().as_bytes());
-    seeding.take(name.simple().as_bytes());
 }
 
 /// Takes in a namespace: its length, and its first bytes. A long one is in each name that is declared below it, so that all
@@ -116,18 +127,16 @@ fn take_space(seeding: &mut Seeding, space: &[u8]) {
     }
 }
 
-/// Takes in the aliases of a type.
-fn take_aliases(seeding: &mut Seeding, names: &[FullName]) {
-    take_count(seeding, names.len());
-    for name in names {
-        take_name(seeding, name);
-    }
-}
-
 /// Takes in symbols, or the aliases of a field.
 fn take_texts(seeding: &mut Seeding, texts: &[String]) {
-    take_count(seeding, texts.len());
     for text in texts {
-        seeding.take(text.as_bytes());
+        take_text(seeding, text);
     }
+    seeding.take(&LIST_END);
+}
+
+/// Takes in a text.
+fn take_text(seeding: &mut Seeding, text: &str) {
+    seeding.take(text.as_bytes());
+    seeding.take(&TEXT_END);
 }

@@ -9,9 +9,8 @@ ghost use Rattle.avro_compare.specs.inside.NamedTypes.{named_type as type_of, Te
 ghost use Rattle.avro_compare.specs.inside.TypeNames.{AreOfReader, AreOfWriter, AreTypeNames, IsFull, has_own, is_number, is_text, holds};
 ghost use Rattle.std.specs.Option.{IfSome};
 
-use crate::reader_types::alias_sets;
 use crate::named_type::{NamedType, named_type};
-use crate::reader_types::union_tables;
+use crate::reader_types::{alias_sets, union_tables};
 use avro_schema::{NodeId, Schema};
 use avro_texts::{Seeded, Texts};
 use indexmap::IndexSet;
