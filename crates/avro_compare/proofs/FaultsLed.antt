@@ -8,8 +8,8 @@ use Rattle.avro_compare.specs.Leads.{choice_leads, leads_of}
 use Rattle.avro_compare.specs.Match.{is_match, first_match}
 use Rattle.avro_compare.specs.Pairs.{aim_of, branch_aim}
 use Rattle.avro_compare.specs.declared.error.FaultKind.TheVariants.{NoMatch}
-use Rattle.avro_compare.specs.declared.guided.Aim.{Aim}
-use Rattle.avro_compare.specs.declared.guided.Aim.TheVariants.{Fault, To}
+use Rattle.avro_compare.specs.declared.comparison.Aim.{Aim}
+use Rattle.avro_compare.specs.declared.comparison.Aim.TheVariants.{Fault, To}
 use Rattle.avro_compare.specs.inside.Led.{led_by}
 use Rattle.avro_compare.proofs.public.NodeKinds.{fault_of_union, fault_of_others}
 

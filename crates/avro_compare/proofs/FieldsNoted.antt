@@ -10,8 +10,8 @@ use Rattle.avro_schema.specs.declared.schema.NodeId.{NodeId}
 use Rattle.avro_compare.specs.inside.Noting.{AreIgnored, noted}
 use Rattle.avro_compare.specs.Pairs.{part_to}
 use Rattle.avro_compare.specs.Source.{is_index, reader_field, source_of}
-use Rattle.avro_compare.specs.declared.guided.At.{At}
-use Rattle.avro_compare.specs.declared.guided.At.TheVariants.{Pair}
+use Rattle.avro_compare.specs.declared.comparison.At.{At}
+use Rattle.avro_compare.specs.declared.comparison.At.TheVariants.{Pair}
 use Rattle.avro_compare.proofs.public.Planning.{part_found, reader_past}
 
 -- ---- The part that is noted

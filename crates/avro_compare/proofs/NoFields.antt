@@ -9,7 +9,7 @@ use Rattle.avro_compare.specs.inside.Noting.{AreIgnored}
 use Rattle.avro_compare.specs.Leads.{field_lead, field_leads}
 use Rattle.avro_compare.specs.Pairs.{part_to}
 use Rattle.avro_compare.specs.Source.{first_index, is_index, reader_field}
-use Rattle.avro_compare.specs.declared.guided.At.{At}
+use Rattle.avro_compare.specs.declared.comparison.At.{At}
 
 pub none_seen : (fs : List Field) → length fs ≡ 0 → seen_fields fs ≡ []
 none_seen [] e = refl

@@ -9,8 +9,8 @@ use Rattle.avro_compare.specs.inside.Listed.{AreListedFor, AreListedSources, lis
 use Rattle.avro_compare.specs.Pairs.{part_to}
 use Rattle.avro_compare.specs.Planned.{AreFor, AreSources, part_or_none}
 use Rattle.avro_compare.specs.Source.{source_of}
-use Rattle.avro_compare.specs.declared.guided.At.{At}
-use Rattle.avro_compare.specs.declared.guided.At.TheVariants.{Ignored, Pair}
+use Rattle.avro_compare.specs.declared.comparison.At.{At}
+use Rattle.avro_compare.specs.declared.comparison.At.TheVariants.{Ignored, Pair}
 use Rattle.avro_compare.proofs.NoFields.{no_index}
 use Rattle.avro_compare.proofs.public.Lists.{got_past}
 use Rattle.avro_compare.proofs.public.Sources.{past_all}

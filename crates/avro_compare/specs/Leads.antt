@@ -4,9 +4,9 @@ use Rattle.avro_schema.specs.Node.{Node, FieldNode, node_at, field_ids}
 use Rattle.avro_compare.specs.Match.{first_match}
 use Rattle.avro_compare.specs.Children.{Pair}
 use Rattle.avro_compare.specs.Source.{source_of}
-use Rattle.avro_compare.specs.declared.lead.Lead.{Lead}
-use Rattle.avro_compare.specs.declared.lead.Step.{Step}
-use Rattle.avro_compare.specs.declared.lead.Step.TheVariants.{Branch, Choice, Items, Values, Field}
+use Rattle.avro_compare.specs.declared.comparison.Lead.{Lead}
+use Rattle.avro_compare.specs.declared.comparison.Step.{Step}
+use Rattle.avro_compare.specs.declared.comparison.Step.TheVariants.{Branch, Choice, Items, Values, Field}
 
 -- a step to a pair of nodes
 abbrev pub lead_by : Step → ℕ → ℕ → Lead

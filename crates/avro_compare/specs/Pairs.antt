@@ -8,17 +8,17 @@ use Rattle.avro_compare.specs.Match.{match_within, is_match, first_match}
 use Rattle.avro_compare.specs.Resolve.{Resolved, result_map, through}
 use Rattle.avro_compare.specs.Seen.{cause_of}
 use Rattle.avro_compare.specs.Source.{reader_field}
-use Rattle.avro_compare.specs.declared.guided.At.{At}
-use Rattle.avro_compare.specs.declared.guided.At.TheVariants.{Ignored, Pair}
-use Rattle.avro_compare.specs.declared.guided.Aim.{Aim}
-use Rattle.avro_compare.specs.declared.guided.Aim.TheVariants.{Fault, To}
+use Rattle.avro_compare.specs.declared.comparison.At.{At}
+use Rattle.avro_compare.specs.declared.comparison.At.TheVariants.{Ignored, Pair}
+use Rattle.avro_compare.specs.declared.comparison.Aim.{Aim}
+use Rattle.avro_compare.specs.declared.comparison.Aim.TheVariants.{Fault, To}
 use Rattle.avro_compare.specs.declared.error.FaultKind.TheVariants.{NoBranch, NoMatch}
-use Rattle.avro_compare.specs.declared.guided.Step.{Step}
+use Rattle.avro_compare.specs.declared.matching.Outcome.{Outcome}
 
 -- what two nodes say of their match
-abbrev pub IsStep : List Node → List Node → Node → Node → Step → Type 0
-IsStep writer reader n m (Step.Known answer) = (steps : ℕ) → match_within steps writer reader n m ≡ answer
-IsStep writer reader n m (Step.Parts a b) =
+abbrev pub IsOutcome : List Node → List Node → Node → Node → Outcome → Type 0
+IsOutcome writer reader n m (Outcome.Known answer) = (steps : ℕ) → match_within steps writer reader n m ≡ answer
+IsOutcome writer reader n m (Outcome.Parts a b) =
     ((steps : ℕ) → match_within (suc steps) writer reader n m ≡ match_within steps writer reader (node_at writer a.0) (node_at reader b.0))
     × (match_within 0 writer reader n m ≡ false)
 

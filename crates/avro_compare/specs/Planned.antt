@@ -7,9 +7,9 @@ use Rattle.avro_compare.specs.Entries.{AreAscending, entry_at}
 use Rattle.avro_compare.specs.Pairs.{IsSymbol, aim_at, field_for}
 use Rattle.avro_compare.specs.Resolve.{enum_as, symbol_at, fields_at}
 use Rattle.avro_compare.specs.Source.{source_of, missing_field}
-use Rattle.avro_compare.specs.declared.guided.Aim.TheVariants.{To}
-use Rattle.avro_compare.specs.declared.guided.At.{At}
-use Rattle.avro_compare.specs.declared.guided.At.TheVariants.{Ignored}
+use Rattle.avro_compare.specs.declared.comparison.Aim.TheVariants.{To}
+use Rattle.avro_compare.specs.declared.comparison.At.{At}
+use Rattle.avro_compare.specs.declared.comparison.At.TheVariants.{Ignored}
 use Rattle.avro_compare.specs.declared.comparison.Comparison.{Comparison}
 
 -- of the reader's fields from an index on, those with a source are there with it, in order

@@ -10,13 +10,11 @@ ghost use Rattle.avro_compare.specs.Leads.{branch_leads, field_lead, field_leads
 ghost use Rattle.avro_compare.specs.Planned.{AreInside, AreSourcesFrom, IsComparison};
 ghost use Rattle.avro_compare.specs.Resolve.{fields_at};
 ghost use Rattle.avro_compare.specs.Source.{source_of};
-ghost use Rattle.avro_compare.specs.declared.guided.Aim.TheVariants.{To};
+ghost use Rattle.avro_compare.specs.declared.comparison.Aim.TheVariants.{To};
 ghost use Rattle.avro_compare.specs.inside.Led.{led_by};
 
-use crate::comparison::Comparison;
+use crate::comparison::{Aim, Comparison, Lead, Step};
 use crate::entries::{first_entry, rest_entries};
-use crate::guided::Aim;
-use crate::lead::{Lead, Step};
 use crate::names::Names;
 use crate::sourcing::node_of_field;
 use avro_schema::{Field, Memory, Node, NodeId};

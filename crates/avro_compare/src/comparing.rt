@@ -9,9 +9,8 @@ ghost use Rattle.avro_compare.specs.inside.NameTables.{symbols_at};
 ghost use Rattle.avro_compare.specs.inside.Noting.{AreIgnored, noted};
 ghost use Rattle.avro_compare.specs.Planned.{AreFor, AreInside, AreComparisons, AreSources, AreSymbols, IsComparison};
 
-use crate::comparison::Comparison;
+use crate::comparison::{Aim, At, Comparison};
 use crate::entries::push_lone;
-use crate::guided::{Aim, At};
 use crate::names::Names;
 use crate::sourcing::{fields_of, missing_among, node_of_field, source_kept};
 use crate::symbols::{find_lacking, symbols_of};

@@ -8,12 +8,20 @@ ghost use Rattle.avro_name.specs.Name.{same_name};
 ghost use Rattle.avro_compare.specs.inside.NamedTypes.{TellsAlike};
 ghost use Rattle.avro_compare.specs.inside.TypeNames.{AreTypeNames};
 ghost use Rattle.avro_compare.specs.Match.{Matches, is_match, are_alike as are_named_alike, match_within as within};
-ghost use Rattle.avro_compare.specs.Pairs.{IsStep};
+ghost use Rattle.avro_compare.specs.Pairs.{IsOutcome};
 
-use crate::guided::Step;
 use crate::type_names::{TypeNames, alike};
 use avro_name::FullName;
 use avro_schema::{Node, NodeId, Schema};
+
+/// What two nodes say about their match.
+#[derive(Clone, Copy, Debug, PartialEq, Eq)]
+pub enum Outcome {
+    /// The answer.
+    Known(bool),
+    /// They match where these parts do.
+    Parts(NodeId, NodeId),
+}
 
 /// Whether a writer's node and a reader's match (Avro 1.11, "Schema Resolution"): whether data of the
 /// one may resolve into the other, as far as the two nodes and the items or values under them say.
@@ -59,71 +67,71 @@ fn match_within(
     let mut b = r;
     for _done in 0..steps {
         match step(names, writer, a, reader, b) {
-            Step::Known(answer) => return answer,
-            Step::Parts(x, y) => {
+            Outcome::Known(answer) => return answer,
+            Outcome::Parts(x, y) => {
                 a = x;
                 b = y;
             }
         }
     }
     match step(names, writer, a, reader, b) {
-        Step::Known(answer) => answer,
-        Step::Parts(_, _) => false,
+        Outcome::Known(answer) => answer,
+        Outcome::Parts(_, _) => false,
     }
 }
 
 /// What the nodes of two ids say about their match.
-fn step(names: Option<&TypeNames>, writer: &Schema, w: NodeId, reader: &Schema, r: NodeId) -> Step
+fn step(names: Option<&TypeNames>, writer: &Schema, w: NodeId, reader: &Schema, r: NodeId) -> Outcome
     requires { IfSome names (λ n. AreTypeNames (schema_nodes writer.now) (schema_nodes reader.now) n.now) }
-    ensures { IsStep (schema_nodes writer.now) (schema_nodes reader.now)
+    ensures { IsOutcome (schema_nodes writer.now) (schema_nodes reader.now)
         (node_at (schema_nodes writer.now) w.0) (node_at (schema_nodes reader.now) r.0) result }
 {
     step_to(alike(names, writer, w, reader, r), writer.get(w), reader, r)
 }
 
 /// What a node and that of an id say about their match. Whether they are named alike may be known.
-fn step_to(known: Option<bool>, a: &Node, reader: &Schema, r: NodeId) -> Step
+fn step_to(known: Option<bool>, a: &Node, reader: &Schema, r: NodeId) -> Outcome
     requires { TellsAlike (node_of a.now) (node_at (schema_nodes reader.now) r.0) known }
-    ensures { (writer : List SeenNode) → IsStep writer (schema_nodes reader.now)
+    ensures { (writer : List SeenNode) → IsOutcome writer (schema_nodes reader.now)
         (node_of a.now) (node_at (schema_nodes reader.now) r.0) result }
 {
     step_of(known, a, reader.get(r))
 }
 
 /// What two nodes say about their match. Whether they are named alike may be known.
-fn step_of(known: Option<bool>, a: &Node, b: &Node) -> Step
+fn step_of(known: Option<bool>, a: &Node, b: &Node) -> Outcome
     requires { TellsAlike (node_of a.now) (node_of b.now) known }
-    ensures { (writer reader : List SeenNode) → IsStep writer reader (node_of a.now) (node_of b.now) result }
+    ensures { (writer reader : List SeenNode) → IsOutcome writer reader (node_of a.now) (node_of b.now) result }
 {
     match a {
-        Node::Null => Step::Known(matches!(b, Node::Null | Node::Union(_))),
-        Node::Boolean => Step::Known(matches!(b, Node::Boolean | Node::Union(_))),
-        Node::Int => Step::Known(matches!(b, Node::Int | Node::Long | Node::Union(_))),
-        Node::Long => Step::Known(matches!(b, Node::Long | Node::Union(_))),
-        Node::Bytes => Step::Known(matches!(b, Node::Bytes | Node::Str | Node::Union(_))),
-        Node::Str => Step::Known(matches!(b, Node::Bytes | Node::Str | Node::Union(_))),
+        Node::Null => Outcome::Known(matches!(b, Node::Null | Node::Union(_))),
+        Node::Boolean => Outcome::Known(matches!(b, Node::Boolean | Node::Union(_))),
+        Node::Int => Outcome::Known(matches!(b, Node::Int | Node::Long | Node::Union(_))),
+        Node::Long => Outcome::Known(matches!(b, Node::Long | Node::Union(_))),
+        Node::Bytes => Outcome::Known(matches!(b, Node::Bytes | Node::Str | Node::Union(_))),
+        Node::Str => Outcome::Known(matches!(b, Node::Bytes | Node::Str | Node::Union(_))),
         Node::Array(x) => match b {
-            Node::Array(y) => Step::Parts(*x, *y),
-            _ => Step::Known(matches!(b, Node::Union(_))),
+            Node::Array(y) => Outcome::Parts(*x, *y),
+            _ => Outcome::Known(matches!(b, Node::Union(_))),
         },
         Node::Map(x) => match b {
-            Node::Map(y) => Step::Parts(*x, *y),
-            _ => Step::Known(matches!(b, Node::Union(_))),
+            Node::Map(y) => Outcome::Parts(*x, *y),
+            _ => Outcome::Known(matches!(b, Node::Union(_))),
         },
-        Node::Union(_) => Step::Known(true),
+        Node::Union(_) => Outcome::Known(true),
         Node::Record(x) => match b {
-            Node::Record(y) => Step::Known(are_alike(known, &x.name, &y.name, &y.aliases)),
-            _ => Step::Known(matches!(b, Node::Union(_))),
+            Node::Record(y) => Outcome::Known(are_alike(known, &x.name, &y.name, &y.aliases)),
+            _ => Outcome::Known(matches!(b, Node::Union(_))),
         },
         Node::Enum(x) => match b {
-            Node::Enum(y) => Step::Known(are_alike(known, &x.name, &y.name, &y.aliases)),
-            _ => Step::Known(matches!(b, Node::Union(_))),
+            Node::Enum(y) => Outcome::Known(are_alike(known, &x.name, &y.name, &y.aliases)),
+            _ => Outcome::Known(matches!(b, Node::Union(_))),
         },
         Node::Fixed(x) => match b {
             Node::Fixed(y) => {
-                Step::Known(are_alike(known, &x.name, &y.name, &y.aliases) && x.size == y.size)
+                Outcome::Known(are_alike(known, &x.name, &y.name, &y.aliases) && x.size == y.size)
             }
-            _ => Step::Known(matches!(b, Node::Union(_))),
+            _ => Outcome::Known(matches!(b, Node::Union(_))),
         },
     }
 }

@@ -1,4 +1,4 @@
-use crate::guided::Aim;
+use crate::comparison::Aim;
 use crate::pairs::{aim_by, first_index};
 use crate::part_finding::{
     field_numbers_at, source_by_numbers, symbol_by_numbers, symbol_numbers_at, symbol_numbers_of,

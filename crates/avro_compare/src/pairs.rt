@@ -13,8 +13,8 @@ ghost use Rattle.std.specs.BTreeMap.{get};
 ghost use Rattle.indexmap.specs.IndexSet.{keys};
 ghost use Rattle.avro_compare.specs.inside.NamedTypes.{named_type};
 
+use crate::comparison::Aim;
 use crate::error::FaultKind;
-use crate::guided::Aim;
 use crate::matching::matches_by;
 use crate::reader_types::branches_of;
 use crate::type_names::{TypeNames, UnionTable, numbers_of, type_at};

@@ -10,7 +10,7 @@ ghost use Rattle.avro_compare.specs.Resolve.{fields_at};
 ghost use Rattle.avro_compare.specs.Pairs.{field_for};
 ghost use Rattle.avro_compare.specs.inside.Listed.{AreListedSources};
 
-use crate::guided::At;
+use crate::comparison::At;
 use avro_schema::{Field, NodeId, RecordNode, Schema};
 
 /// The first index of a field of a name.

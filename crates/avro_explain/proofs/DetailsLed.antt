@@ -5,8 +5,8 @@ use Rattle.avro_schema.specs.declared.schema.NodeId.{NodeId}
 use Rattle.avro_compare.specs.Match.{is_match, first_match}
 use Rattle.avro_compare.specs.Pairs.{aim_of, branch_aim}
 use Rattle.avro_compare.specs.declared.error.FaultKind.TheVariants.{NoMatch}
-use Rattle.avro_compare.specs.declared.guided.Aim.{Aim}
-use Rattle.avro_compare.specs.declared.guided.Aim.TheVariants.{To, Fault}
+use Rattle.avro_compare.specs.declared.comparison.Aim.{Aim}
+use Rattle.avro_compare.specs.declared.comparison.Aim.TheVariants.{To, Fault}
 use Rattle.avro_compare.proofs.public.NodeKinds.{union_of_branches}
 use Rattle.avro_explain.specs.Details.{details_of_kind, details_of, unless_some}
 use Rattle.avro_explain.specs.inside.Walks.{detail_for}

@@ -27,8 +27,8 @@ use Rattle.avro_explain.specs.Blamed.{cause_for, goes_to, is_choice, IsPath, end
 use Rattle.avro_explain.specs.Details.{lacking_one, lacking_from, missing_from, unless_some, details_of_kind, details_of}
 use Rattle.avro_compare.specs.Leads.{lead_by, branch_leads, choice_leads, field_lead, field_leads, leads_of, leads_at, lead_pair}
 use Rattle.avro_explain.specs.declared.found.Detail.{Detail}
-use Rattle.avro_compare.specs.declared.lead.Lead.{Lead}
-use Rattle.avro_compare.specs.declared.lead.Step.{Step}
+use Rattle.avro_compare.specs.declared.comparison.Lead.{Lead}
+use Rattle.avro_compare.specs.declared.comparison.Step.{Step}
 use Rattle.avro_compare.proofs.public.LeadPairs.{lead_children}
 use Rattle.avro_explain.proofs.LeadPairs.{lead_among}
 use Rattle.avro_least.proofs.public.Faults.{Blames, blames_both, blames_good, blames_inside, blames_map, blames_more, blames_sourced}

@@ -4,7 +4,7 @@ use Rattle.std.proofs.lemmas.Map.Keys.{any_passes_from_place}
 use Rattle.std.proofs.lemmas.Option.{slice_get-map}
 use Rattle.avro_compare.specs.Children.{Pair}
 use Rattle.avro_compare.specs.Leads.{lead_pair}
-use Rattle.avro_compare.specs.declared.lead.Lead.{Lead}
+use Rattle.avro_compare.specs.declared.comparison.Lead.{Lead}
 use Rattle.avro_certificate.specs.Closed.{same_pair, is_among_pairs}
 use Rattle.avro_certificate.proofs.public.Rising.{both_true}
 

@@ -9,7 +9,7 @@ use Rattle.avro_explain.specs.Places.{findings_from}
 use Rattle.avro_explain.specs.Ways.{IsWay}
 use Rattle.avro_explain.specs.declared.found.Detail.TheVariants.{NoMatch, NoBranch, NotUtf8, NoSymbol, MissingField}
 use Rattle.avro_explain.specs.declared.found.PathStep.TheVariants.{Items, Values, Branch}
-use Rattle.avro_compare.specs.declared.lead.Step.{Step}
+use Rattle.avro_compare.specs.declared.comparison.Step.{Step}
 
 -- two enums of E, of which the reader's has a symbol of the writer's three, with a default or without
 abbrev three : Node

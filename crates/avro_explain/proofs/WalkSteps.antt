@@ -15,9 +15,9 @@ use Rattle.avro_explain.specs.Places.{pair_of, pairs_of, came, round_of, AreReac
 use Rattle.avro_explain.specs.Search.{roots_place, with_place, led_from, with_lead, with_leads, leads_of_place, places_after}
 use Rattle.avro_explain.specs.inside.Walks.{IsWalk}
 use Rattle.avro_explain.specs.declared.found.Finding.{Finding}
-use Rattle.avro_compare.specs.declared.lead.Lead.{Lead}
+use Rattle.avro_compare.specs.declared.comparison.Lead.{Lead}
 use Rattle.avro_explain.specs.declared.found.Place.{Place}
-use Rattle.avro_compare.specs.declared.lead.Step.{Step}
+use Rattle.avro_compare.specs.declared.comparison.Step.{Step}
 use Rattle.avro_compare.proofs.public.LeadPairs.{lead_children}
 use Rattle.avro_explain.proofs.LeadPairs.{IsLead, later_lead, lead_among, same_itself}
 use Rattle.avro_least.proofs.public.Keys.{some_same}

@@ -11,10 +11,10 @@ use Rattle.avro_certificate.proofs.public.Shapes.{first_match_within}
 use Rattle.avro_compare.specs.Leads.{lead_by, branch_leads, choice_leads, field_lead, field_leads, leads_inside, leads_of}
 use Rattle.avro_explain.specs.Places.{ArePlaced, IsLed, came}
 use Rattle.avro_explain.specs.Ways.{step_from, follow, writer_steps, reader_steps, IsWayTo}
-use Rattle.avro_compare.specs.declared.lead.Lead.{Lead}
+use Rattle.avro_compare.specs.declared.comparison.Lead.{Lead}
 use Rattle.avro_explain.specs.declared.found.PathStep.{PathStep}
 use Rattle.avro_explain.specs.declared.found.Place.{Place}
-use Rattle.avro_compare.specs.declared.lead.Step.{Step}
+use Rattle.avro_compare.specs.declared.comparison.Step.{Step}
 use Rattle.avro_least.proofs.public.Keys.{some_same}
 
 -- each lead of some

@@ -8,8 +8,8 @@ use Rattle.avro_certificate.specs.Evidence.{IsReached}
 use Rattle.avro_explain.specs.Details.{details_of}
 use Rattle.avro_compare.specs.Leads.{leads_at}
 use Rattle.avro_explain.specs.declared.found.Detail.{Detail}
-use Rattle.avro_compare.specs.declared.lead.Lead.{Lead}
-use Rattle.avro_compare.specs.declared.lead.Step.{Step}
+use Rattle.avro_compare.specs.declared.comparison.Lead.{Lead}
+use Rattle.avro_compare.specs.declared.comparison.Step.{Step}
 
 -- the cause of what fails
 abbrev pub cause_for : Detail → FaultCause

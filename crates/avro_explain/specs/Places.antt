@@ -10,7 +10,7 @@ use Rattle.avro_compare.specs.Leads.{leads_at}
 use Rattle.avro_explain.specs.declared.found.Detail.{Detail}
 use Rattle.avro_explain.specs.declared.found.Finding.{Finding}
 use Rattle.avro_explain.specs.declared.found.Place.{Place}
-use Rattle.avro_compare.specs.declared.lead.Step.{Step}
+use Rattle.avro_compare.specs.declared.comparison.Step.{Step}
 
 -- the nodes that are marked, from an id on
 abbrev pub marked_from : ℕ → List Bool → List ℕ

@@ -2,7 +2,7 @@
 use Rattle.std.specs.Prelude.{◌≡◌, ℕ, zero, suc, Bool, true, false, cond, List, [], ◌∷◌, ◌++◌, Option, Some, None, length, slice_get}
 use Rattle.avro_schema.specs.Node.{Node}
 use Rattle.avro_compare.specs.Leads.{leads_at}
-use Rattle.avro_compare.specs.declared.lead.Lead.{Lead}
+use Rattle.avro_compare.specs.declared.comparison.Lead.{Lead}
 use Rattle.avro_certificate.specs.Closed.{is_among, is_among_pairs}
 use Rattle.avro_explain.specs.Places.{pair_of, pairs_of}
 use Rattle.avro_explain.specs.declared.found.Place.{Place}

@@ -1,7 +1,7 @@
 -- The way from the root of a schema to a node, and the two ways to a pair of nodes.
 use Rattle.std.specs.Prelude.{◌≡◌, ◌<◌, ℕ, List, [], ◌∷◌, ◌++◌, Option, Some, None, slice_get, option_and_then}
 use Rattle.avro_schema.specs.Node.{Node, node_at, field_ids, items_node, values_node, branches_of, fields_of}
-use Rattle.avro_compare.specs.declared.lead.Step.{Step}
+use Rattle.avro_compare.specs.declared.comparison.Step.{Step}
 use Rattle.avro_explain.specs.declared.found.PathStep.{PathStep}
 use Rattle.avro_explain.specs.declared.found.Place.{Place}
 

@@ -6,7 +6,7 @@ ghost use Rattle.avro_schema.specs.Node.{Node};
 ghost use Rattle.avro_explain.specs.Places.{ArePlaced};
 ghost use Rattle.avro_explain.specs.Ways.{IsWay, IsWayTo, writer_steps, reader_steps};
 ghost use Rattle.avro_explain.specs.declared.found.Place.{Place};
-ghost use Rattle.avro_compare.specs.declared.lead.Step.{Step as SeenStep};
+ghost use Rattle.avro_compare.specs.declared.comparison.Step.{Step as SeenStep};
 
 use crate::found::{PathStep, Place};
 use avro_compare::Step;

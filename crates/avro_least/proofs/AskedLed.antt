@@ -8,9 +8,9 @@ use Rattle.avro_compare.specs.Entries.{first_entry, rest_entries}
 use Rattle.avro_compare.specs.Planned.{AreFor, AreForFrom, part_or_none}
 use Rattle.avro_compare.specs.Source.{reader_field}
 use Rattle.avro_compare.specs.declared.error.FaultKind.TheVariants.{NoMatch}
-use Rattle.avro_compare.specs.declared.guided.Aim.{Aim}
-use Rattle.avro_compare.specs.declared.guided.Aim.TheVariants.{Fault, To}
-use Rattle.avro_compare.specs.declared.guided.At.{At}
+use Rattle.avro_compare.specs.declared.comparison.Aim.{Aim}
+use Rattle.avro_compare.specs.declared.comparison.Aim.TheVariants.{Fault, To}
+use Rattle.avro_compare.specs.declared.comparison.At.{At}
 use Rattle.avro_least.specs.Asked.{Asked, Row, asked, asked_branch, asked_inside, rows_from}
 use Rattle.avro_least.specs.SeenAsk.{rows_by, theirs_in}
 use Rattle.avro_compare.proofs.public.Entries.{first_for, rest_for}

@@ -12,7 +12,7 @@ use Rattle.avro_compare.specs.Pairs.{field_for, part_to}
 use Rattle.avro_compare.specs.Planned.{AreFor, part_or_none}
 use Rattle.avro_compare.specs.Resolve.{fields_at}
 use Rattle.avro_compare.specs.Source.{reader_field}
-use Rattle.avro_compare.specs.declared.guided.At.{At}
+use Rattle.avro_compare.specs.declared.comparison.At.{At}
 use Rattle.avro_compare.proofs.public.Sources.{past_all}
 use Rattle.avro_least.specs.Asked.{Row, Asked, rows_from}
 use Rattle.avro_least.specs.SeenAsk.{rows_by}

@@ -13,7 +13,7 @@ use Rattle.avro_compare.specs.Match.{is_match}
 use Rattle.avro_compare.specs.Pairs.{aim_of}
 use Rattle.avro_compare.specs.Planned.{AreInside}
 use Rattle.avro_compare.specs.declared.error.FaultKind.TheVariants.{NoMatch}
-use Rattle.avro_compare.specs.declared.guided.Aim.TheVariants.{Fault, To}
+use Rattle.avro_compare.specs.declared.comparison.Aim.TheVariants.{Fault, To}
 use Rattle.avro_compare.specs.declared.comparison.Comparison.{Comparison}
 use Rattle.avro_least.specs.Asked.{Asked, asked}
 use Rattle.avro_least.specs.BuiltErrors.{IsLone, first_from, is_lacking}

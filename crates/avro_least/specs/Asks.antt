@@ -8,7 +8,7 @@ use Rattle.avro_compare.specs.Entries.{AreAscending, entry_at}
 use Rattle.avro_compare.specs.Planned.{AreFor, IsComparison}
 use Rattle.avro_compare.specs.Resolve.{fields_at}
 use Rattle.avro_compare.specs.declared.comparison.Comparison.{Comparison}
-use Rattle.avro_compare.specs.declared.guided.At.{At}
+use Rattle.avro_compare.specs.declared.comparison.At.{At}
 use Rattle.avro_least.specs.Asked.{Row, Asked}
 use Rattle.avro_least.specs.SeenAsk.{rows_by}
 use Rattle.avro_least.specs.inside.Parts.{part_at, row_part}

@@ -1,7 +1,7 @@
 -- How contracts see the fields that a pair asks for.
 use Rattle.std.specs.Prelude.{ℕ, suc, List, [], ◌∷◌, Option, Some, None, option_map, map}
 use Rattle.avro_compare.specs.Entries.{first_entry, rest_entries}
-use Rattle.avro_compare.specs.declared.guided.At.{At}
+use Rattle.avro_compare.specs.declared.comparison.At.{At}
 use Rattle.avro_least.specs.Asked.{Row}
 use Rattle.avro_least.specs.declared.pairs.asking.FieldAsk.{FieldAsk}
 

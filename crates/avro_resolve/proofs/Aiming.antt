@@ -6,7 +6,7 @@ use Rattle.avro_compare.specs.Match.{is_match, first_match}
 use Rattle.avro_compare.specs.Pairs.{IsAim, aim_at, aim_of, branch_aim}
 use Rattle.avro_compare.specs.Planned.{IsComparison}
 use Rattle.avro_compare.specs.declared.comparison.Comparison.{Comparison}
-use Rattle.avro_compare.specs.declared.guided.Aim.TheVariants.{Fault, To}
+use Rattle.avro_compare.specs.declared.comparison.Aim.TheVariants.{Fault, To}
 use Rattle.avro_compare.specs.declared.error.FaultKind.TheVariants.{NoMatch}
 use Rattle.avro_compare.proofs.public.Leading.{pair_leads}
 

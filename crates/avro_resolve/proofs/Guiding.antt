@@ -14,9 +14,9 @@ use Rattle.avro_binary.specs.IntoBranch.{in_branch}
 use Rattle.avro_compare.specs.Pairs.{IsAim, wrapped, branch_id}
 use Rattle.avro_compare.specs.Resolve.{Resolved, resolve, inside, result_map, through}
 use Rattle.avro_compare.specs.declared.error.Fault.{Fault}
-use Rattle.avro_compare.specs.declared.guided.Aim.{Aim}
-use Rattle.avro_compare.specs.declared.guided.At.{At}
-use Rattle.avro_compare.specs.declared.guided.At.TheVariants.{Ignored, Pair}
+use Rattle.avro_compare.specs.declared.comparison.Aim.{Aim}
+use Rattle.avro_compare.specs.declared.comparison.At.{At}
+use Rattle.avro_compare.specs.declared.comparison.At.TheVariants.{Ignored, Pair}
 use Rattle.avro_compare.proofs.public.Lists.{one_longer}
 use Rattle.avro_resolve.specs.declared.resolving.guided.Made.{Made}
 

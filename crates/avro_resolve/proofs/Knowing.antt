@@ -6,7 +6,7 @@ use Rattle.avro_schema.specs.Node.{Node, FieldNode, node_at}
 use Rattle.avro_compare.specs.Pairs.{field_for}
 use Rattle.avro_compare.specs.Planned.{AreForFrom}
 use Rattle.avro_compare.specs.Resolve.{fields_at}
-use Rattle.avro_compare.specs.declared.guided.At.{At}
+use Rattle.avro_compare.specs.declared.comparison.At.{At}
 use Rattle.avro_compare.proofs.public.Entries.{first_for}
 use Rattle.avro_resolve.specs.inside.Guided.{KnowsFields, KnowsNext, known_part, next_field, next_index, part_next}
 use Rattle.avro_resolve.specs.declared.resolving.guided.Slots.{Slots}

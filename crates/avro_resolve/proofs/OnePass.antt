@@ -17,8 +17,8 @@ use Rattle.avro_compare.specs.Seen.{fault_of}
 use Rattle.avro_resolve.specs.Seen.{UnlessOutOfMemory}
 use Rattle.avro_compare.specs.declared.error.Fault.{Fault}
 use Rattle.avro_resolve.specs.declared.error.ReadResolveError.{ReadResolveError}
-use Rattle.avro_compare.specs.declared.guided.At.{At}
-use Rattle.avro_compare.specs.declared.guided.At.TheVariants.{Pair}
+use Rattle.avro_compare.specs.declared.comparison.At.{At}
+use Rattle.avro_compare.specs.declared.comparison.At.TheVariants.{Pair}
 use Rattle.avro_resolve.specs.declared.resolving.guided.Made.{Made}
 use Rattle.avro_resolve.proofs.Guiding.{as_fault, good_made}
 

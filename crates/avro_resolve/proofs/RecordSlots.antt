@@ -16,8 +16,8 @@ use Rattle.avro_compare.specs.Pairs.{wrapped, part_to, field_for}
 use Rattle.avro_compare.specs.Resolve.{Resolved, Sourced, resolve, resolve_sources, with_sourced, both, inside, result_map, field_values, fields_at, record_or_missing}
 use Rattle.avro_compare.specs.Source.{missing_field, reader_field}
 use Rattle.avro_compare.specs.declared.error.Fault.{Fault}
-use Rattle.avro_compare.specs.declared.guided.At.{At}
-use Rattle.avro_compare.specs.declared.guided.At.TheVariants.{Ignored, Pair}
+use Rattle.avro_compare.specs.declared.comparison.At.{At}
+use Rattle.avro_compare.specs.declared.comparison.At.TheVariants.{Ignored, Pair}
 use Rattle.avro_resolve.specs.declared.resolving.guided.Made.{Made}
 use Rattle.avro_resolve.specs.declared.resolving.guided.Slots.{Slots}
 use Rattle.avro_compare.proofs.public.Lists.{one_longer}

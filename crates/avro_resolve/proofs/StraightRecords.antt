@@ -15,8 +15,8 @@ use Rattle.avro_compare.specs.Fields.{IsField, here, later}
 use Rattle.avro_compare.specs.Resolve.{Resolved, Sourced, sourced_at, field_values, fields_at, with_sourced, both, inside, resolve, resolve_sources, record_or_missing, result_map}
 use Rattle.avro_compare.specs.Source.{is_index, missing_field, reader_field, source_of}
 use Rattle.avro_compare.specs.Fault.{ResolutionFault}
-use Rattle.avro_compare.specs.declared.guided.At.{At}
-use Rattle.avro_compare.specs.declared.guided.At.TheVariants.{Pair}
+use Rattle.avro_compare.specs.declared.comparison.At.{At}
+use Rattle.avro_compare.specs.declared.comparison.At.TheVariants.{Pair}
 use Rattle.avro_compare.proofs.public.Sources.{is_index-same}
 use Rattle.avro_resolve.specs.declared.resolving.guided.Made.{Made}
 use Rattle.avro_resolve.specs.inside.Guided.{MadeAs, StandsAs}

@@ -11,7 +11,7 @@ use Rattle.avro_compare.specs.Pairs.{IsAim}
 use Rattle.avro_compare.specs.Planned.{AreSources}
 use Rattle.avro_compare.specs.Resolve.{Resolved, Sourced, fields_at, sourced_at, through}
 use Rattle.avro_compare.specs.Source.{missing_field, source_of}
-use Rattle.avro_compare.specs.declared.guided.Aim.TheVariants.{To}
+use Rattle.avro_compare.specs.declared.comparison.Aim.TheVariants.{To}
 use Rattle.avro_compare.specs.declared.comparison.Comparison.{Comparison}
 
 -- a node is fixed

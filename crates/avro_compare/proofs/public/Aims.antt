@@ -7,7 +7,7 @@ use Rattle.avro_schema.specs.declared.schema.Node.{Node as KeptNode}
 use Rattle.avro_schema.specs.declared.schema.NodeId.{NodeId}
 use Rattle.avro_compare.specs.Pairs.{aim_of}
 use Rattle.avro_compare.specs.Planned.{AreInside, IsComparison}
-use Rattle.avro_compare.specs.declared.guided.Aim.TheVariants.{To}
+use Rattle.avro_compare.specs.declared.comparison.Aim.TheVariants.{To}
 use Rattle.avro_compare.specs.declared.comparison.Comparison.{Comparison}
 
 module _ (writer reader : List Node) (pair : Comparison) (n q : Node) (comparison : IsComparison writer reader pair)

@@ -7,7 +7,7 @@ use Rattle.avro_compare.specs.Entries.{AreAscending, entry_at, first_entry, rest
 use Rattle.avro_compare.specs.Pairs.{field_for}
 use Rattle.avro_compare.specs.Planned.{AreForFrom, AreSourcesFrom, part_or_none}
 use Rattle.avro_compare.specs.Source.{source_of}
-use Rattle.avro_compare.specs.declared.guided.At.{At}
+use Rattle.avro_compare.specs.declared.comparison.At.{At}
 
 apart : (i k : ℕ) → (i ≡ k → ⊥) → (i == k) ≡ false
 apart i k ne = false_from_ne_true (i == k) (λ t. ne (eqb-true i k t))

@@ -12,7 +12,7 @@ use Rattle.avro_compare.specs.Pairs.{IsAim, aim_at, aim_of, aimed, branch_aim}
 use Rattle.avro_compare.specs.Planned.{AreFor, AreInside, AreSources, AreSymbols}
 use Rattle.avro_compare.specs.Resolve.{Resolved, branch_node, fields_at, into_branch, result_map}
 use Rattle.avro_compare.specs.Source.{missing_field}
-use Rattle.avro_compare.specs.declared.guided.Aim.TheVariants.{Fault, To}
+use Rattle.avro_compare.specs.declared.comparison.Aim.TheVariants.{Fault, To}
 use Rattle.avro_compare.specs.declared.error.FaultKind.TheVariants.{NoMatch}
 use Rattle.avro_compare.specs.declared.comparison.Comparison.{Comparison}
 

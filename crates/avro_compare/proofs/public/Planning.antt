@@ -9,7 +9,7 @@ use Rattle.avro_schema.specs.declared.schema.Field.{Field}
 use Rattle.avro_schema.specs.declared.schema.NodeId.{NodeId}
 use Rattle.avro_compare.specs.Pairs.{part_to}
 use Rattle.avro_compare.specs.Source.{is_index, reader_field, source_of}
-use Rattle.avro_compare.specs.declared.guided.At.TheVariants.{Pair}
+use Rattle.avro_compare.specs.declared.comparison.At.TheVariants.{Pair}
 use Rattle.avro_compare.proofs.public.Lists.{one_longer}
 use Rattle.avro_compare.proofs.public.Lists.{get_before, get_last, get_past, seen_next}
 

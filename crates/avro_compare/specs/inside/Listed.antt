@@ -3,8 +3,8 @@ use Rattle.std.specs.Prelude.{◌≡◌, ℕ, List, Option, Some, None, slice_ge
 use Rattle.avro_schema.specs.Node.{FieldNode}
 use Rattle.avro_compare.specs.Pairs.{field_for}
 use Rattle.avro_compare.specs.Source.{source_of}
-use Rattle.avro_compare.specs.declared.guided.At.{At}
-use Rattle.avro_compare.specs.declared.guided.At.TheVariants.{Ignored, Pair}
+use Rattle.avro_compare.specs.declared.comparison.At.{At}
+use Rattle.avro_compare.specs.declared.comparison.At.TheVariants.{Ignored, Pair}
 
 -- each is the source of the reader's field at its index
 abbrev pub AreListedSources : List FieldNode → List FieldNode → List (Option ℕ) → Type 0

@@ -1,7 +1,7 @@
 -- What a list of parts is once one of them is noted.
 use Rattle.std.specs.Prelude.{◌≡◌, ℕ, zero, suc, List, [], ◌∷◌, Some, slice_get}
-use Rattle.avro_compare.specs.declared.guided.At.{At}
-use Rattle.avro_compare.specs.declared.guided.At.TheVariants.{Ignored}
+use Rattle.avro_compare.specs.declared.comparison.At.{At}
+use Rattle.avro_compare.specs.declared.comparison.At.TheVariants.{Ignored}
 
 -- each is for nothing
 abbrev pub AreIgnored : List At → Type 0

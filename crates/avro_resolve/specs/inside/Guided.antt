@@ -12,9 +12,9 @@ use Rattle.avro_compare.specs.Planned.{AreFor, AreForFrom, part_or_none}
 use Rattle.avro_compare.specs.Pairs.{IsAim, wrapped, item_id, value_id, branch_id, field_for}
 use Rattle.avro_compare.specs.Resolve.{Resolved, Sourced, resolve, resolve_items, resolve_entries, resolve_sources, fields_at, result_map, through}
 use Rattle.avro_compare.specs.Source.{missing_field}
-use Rattle.avro_compare.specs.declared.guided.Aim.TheVariants.{To}
-use Rattle.avro_compare.specs.declared.guided.At.{At}
-use Rattle.avro_compare.specs.declared.guided.At.TheVariants.{Ignored, Pair}
+use Rattle.avro_compare.specs.declared.comparison.Aim.TheVariants.{To}
+use Rattle.avro_compare.specs.declared.comparison.At.{At}
+use Rattle.avro_compare.specs.declared.comparison.At.TheVariants.{Ignored, Pair}
 use Rattle.avro_resolve.specs.declared.resolving.guided.Made.{Made}
 use Rattle.avro_resolve.specs.declared.resolving.guided.Run.{Run}
 use Rattle.avro_resolve.specs.declared.resolving.guided.Slots.{Slots}

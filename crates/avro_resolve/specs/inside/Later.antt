@@ -5,8 +5,8 @@ use Rattle.avro_schema.specs.Node.{Node, FieldNode}
 use Rattle.avro_resolve.specs.Ends.{Slotted, SlotsAre, SlotsFor}
 use Rattle.avro_resolve.specs.inside.Guided.{ItemsStandAs, EntriesStandAs, FieldsStandAs, FillsAs}
 use Rattle.avro_compare.specs.Resolve.{Sourced, sourced_at}
-use Rattle.avro_compare.specs.declared.guided.At.{At}
-use Rattle.avro_compare.specs.declared.guided.At.TheVariants.{Ignored, Pair}
+use Rattle.avro_compare.specs.declared.comparison.At.{At}
+use Rattle.avro_compare.specs.declared.comparison.At.TheVariants.{Ignored, Pair}
 use Rattle.avro_resolve.specs.declared.resolving.guided.Run.{Run}
 use Rattle.avro_resolve.specs.declared.resolving.guided.Slots.{Slots}
 use Rattle.avro_resolve.specs.declared.resolving.guided.Filling.{Filling}

@@ -53,7 +53,7 @@ impl<'a> PlanRef<'a> {
     ghost use Rattle.avro_schema.specs.Seen.{value_of};
     ghost use Rattle.avro_schema.specs.SeenSchema.{schema_nodes};
     ghost use Rattle.avro_schema.specs.declared.schema.NodeId.{NodeId};
-    ghost use Rattle.avro_compare.specs.declared.guided.At.TheVariants.{Pair};
+    ghost use Rattle.avro_compare.specs.declared.comparison.At.TheVariants.{Pair};
     ghost use Rattle.avro_resolve.specs.inside.Guided.{IsWhole, branch_part, known_part};
     ghost use Rattle.avro_compare.specs.Pairs.{IsAim, IsSymbol, field_for, item_id, value_id, branch_id};
     ghost use Rattle.avro_compare.specs.Planned.{AreComparisons, AreFor, AreSources};

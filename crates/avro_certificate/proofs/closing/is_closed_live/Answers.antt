@@ -4,7 +4,7 @@ use Rattle.avro_schema.specs.Node.{node_at}
 use Rattle.avro_schema.specs.SeenSchema.{schema_nodes}
 use Rattle.avro_compare.specs.Children.{children_of, has_local_fault}
 use Rattle.avro_compare.specs.Leads.{lead_pair}
-use Rattle.avro_compare.specs.declared.lead.Lead.{Lead}
+use Rattle.avro_compare.specs.declared.comparison.Lead.{Lead}
 use Rattle.avro_compare.proofs.public.LeadPairs.{lead_children}
 use Rattle.avro_certificate.specs.SeenCertificate.{dead_of, pairs_in}
 use Rattle.avro_certificate.specs.inside.ClosedParts.{stands}

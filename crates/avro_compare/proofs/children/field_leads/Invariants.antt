@@ -6,7 +6,7 @@ use Rattle.avro_schema.specs.declared.schema.NodeId.{NodeId}
 use Rattle.avro_compare.specs.Leads.{field_leads}
 use Rattle.avro_compare.specs.Planned.{AreSourcesFrom}
 use Rattle.avro_compare.specs.Resolve.{fields_at}
-use Rattle.avro_compare.specs.declared.guided.Aim.TheVariants.{To}
+use Rattle.avro_compare.specs.declared.comparison.Aim.TheVariants.{To}
 use Rattle.avro_compare.proofs.children.field_leads.Given as goal
 
 abbrev pub invariant-loop-index : goal.invariant-loop-index

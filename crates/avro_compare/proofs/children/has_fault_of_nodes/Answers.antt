@@ -1,7 +1,7 @@
 use Rattle.std.proofs.Common.{◌≡◌, ◌∙◌, None, Some, rules}
 use Rattle.avro_schema.specs.Seen.{node_of}
 use Rattle.avro_schema.specs.SeenSchema.{schema_nodes}
-use Rattle.avro_compare.specs.declared.guided.Aim.TheVariants.{To}
+use Rattle.avro_compare.specs.declared.comparison.Aim.TheVariants.{To}
 use Rattle.avro_compare.proofs.public.Aims.{aims_of, inside_of, plain_kept}
 use Rattle.avro_compare.proofs.FaultsLed.{led_fault}
 use Rattle.avro_compare.proofs.children.has_fault_of_nodes.Goals as goal

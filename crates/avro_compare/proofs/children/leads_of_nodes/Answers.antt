@@ -1,7 +1,7 @@
 use Rattle.std.proofs.Common.{◌≡◌, List, IfOk, ap, subst}
 use Rattle.avro_schema.specs.Seen.{node_of, ids_of}
 use Rattle.avro_schema.specs.SeenSchema.{schema_nodes}
-use Rattle.avro_compare.specs.declared.lead.Lead.{Lead}
+use Rattle.avro_compare.specs.declared.comparison.Lead.{Lead}
 use Rattle.avro_compare.proofs.public.Aims.{aims_of, plain_kept}
 use Rattle.avro_compare.proofs.FaultsLed.{led_leads}
 use Rattle.avro_compare.proofs.children.leads_of_nodes.Goals as goal

@@ -1,5 +1,5 @@
 use Rattle.std.proofs.Common.{◌≡◌, ◌∙◌, [], refl, rules, arith}
-use Rattle.avro_compare.specs.declared.guided.At.TheVariants.{Ignored}
+use Rattle.avro_compare.specs.declared.comparison.At.TheVariants.{Ignored}
 use Rattle.avro_compare.proofs.public.Planning.{holds_none, holds_push}
 use Rattle.avro_compare.proofs.comparing.all_ignored.Goals as goal
 

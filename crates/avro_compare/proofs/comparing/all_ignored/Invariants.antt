@@ -1,5 +1,5 @@
 use Rattle.std.proofs.Common.{◌≡◌, length}
-use Rattle.avro_compare.specs.declared.guided.At.TheVariants.{Ignored}
+use Rattle.avro_compare.specs.declared.comparison.At.TheVariants.{Ignored}
 use Rattle.avro_compare.proofs.public.Planning.{Holds}
 use Rattle.avro_compare.proofs.comparing.all_ignored.Given as goal
 

@@ -1,6 +1,6 @@
 use Rattle.std.proofs.Common.{◌≡◌, ◌<◌, ◌+◌, ◌-◌, ◌∙◌, ap, length, refl, sym, subst, arith, ℕ}
 use Rattle.avro_schema.specs.Seen.{seen_fields}
-use Rattle.avro_compare.specs.declared.guided.At.TheVariants.{Pair}
+use Rattle.avro_compare.specs.declared.comparison.At.TheVariants.{Pair}
 use Rattle.avro_compare.proofs.FieldsNoted.{AreForFrom, counted, for_none, for_past, for_noted, noted_count}
 use Rattle.avro_compare.proofs.NoFields.{for_nothing, none_seen}
 use Rattle.avro_compare.proofs.public.Lists.{seen_at}

@@ -2,7 +2,7 @@ use Rattle.std.proofs.Common.{◌≡◌, List, length, suc, subst, sym}
 use Rattle.std.proofs.lemmas.Result.{IfOk-weaker}
 use Rattle.avro_schema.specs.Seen.{seen_fields}
 use Rattle.avro_compare.specs.inside.Listed.{AreListedFor}
-use Rattle.avro_compare.specs.declared.guided.At.{At}
+use Rattle.avro_compare.specs.declared.comparison.At.{At}
 use Rattle.avro_compare.proofs.Shared.{fields_kept}
 use Rattle.avro_compare.proofs.comparing.keep_fields.Goals as goal
 

@@ -1,8 +1,8 @@
 use Rattle.std.proofs.Common.{◌≡◌, ◌∙◌, ◌+◌, ℕ, List, Some, refl, sym, ap, subst, arith}
 use Rattle.std.specs.Prelude.{slice_get}
 use Rattle.std.proofs.lemmas.Option.{slice_get-get_or}
-use Rattle.avro_compare.specs.declared.guided.At.{At}
-use Rattle.avro_compare.specs.declared.guided.At.TheVariants.{Ignored, Pair}
+use Rattle.avro_compare.specs.declared.comparison.At.{At}
+use Rattle.avro_compare.specs.declared.comparison.At.TheVariants.{Ignored, Pair}
 use Rattle.avro_compare.specs.inside.Listed.{shared_part}
 use Rattle.avro_compare.specs.Entries.{AreAscending, entry_at}
 use Rattle.avro_compare.proofs.public.Entries.{AreKept, kept_none, kept_skip, kept_push, kept_all}

@@ -1,7 +1,7 @@
 use Rattle.std.proofs.Common.{◌≡◌, ◌∙◌, [], ◌∷◌, List, None, Some, IfOk, ap, subst, sym, rules}
 use Rattle.avro_schema.specs.Seen.{node_of}
 use Rattle.avro_schema.specs.SeenSchema.{schema_nodes}
-use Rattle.avro_compare.specs.declared.guided.Aim.TheVariants.{To, Fault}
+use Rattle.avro_compare.specs.declared.comparison.Aim.TheVariants.{To, Fault}
 use Rattle.avro_explain.specs.declared.found.Detail.{Detail}
 use Rattle.avro_explain.proofs.DetailsLed.{told}
 use Rattle.avro_compare.proofs.public.Aims.{aims_of, inside_of, plain_kept}

@@ -1,7 +1,7 @@
 use Rattle.std.proofs.Common.{◌≡◌, ◌∙◌, None, Some, sym, ap, arith, rules}
 use Rattle.avro_schema.specs.Seen.{value_of}
 use Rattle.avro_schema.specs.SeenSchema.{schema_nodes}
-use Rattle.avro_compare.specs.declared.guided.Aim.TheVariants.{To}
+use Rattle.avro_compare.specs.declared.comparison.Aim.TheVariants.{To}
 use Rattle.avro_show.specs.Showing.{reader_node, writer_node, resolved_levels, shown}
 use Rattle.avro_show.proofs.Objects.{below_more}
 use Rattle.avro_show.proofs.Made.{unmapped}

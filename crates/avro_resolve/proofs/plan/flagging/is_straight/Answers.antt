@@ -2,7 +2,7 @@ use Rattle.std.proofs.Common.{◌≡◌, ◌∙◌, None, refl, sym, subst, rule
 use Rattle.avro_schema.specs.Seen.{seen_fields}
 use Rattle.avro_schema.specs.SeenSchema.{schema_nodes}
 use Rattle.avro_compare.specs.Planned.{AreSources}
-use Rattle.avro_compare.specs.declared.guided.Aim.TheVariants.{To}
+use Rattle.avro_compare.specs.declared.comparison.Aim.TheVariants.{To}
 use Rattle.avro_resolve.proofs.Aiming.{kept_leads}
 use Rattle.avro_resolve.proofs.Flagging.{copied_by, sources_by}
 use Rattle.avro_resolve.proofs.plan.flagging.is_straight.Goals as goal

@@ -2,7 +2,7 @@ use Rattle.std.proofs.Common.{◌≡◌, ◌∙◌, None, sym, subst, rules}
 use Rattle.avro_schema.specs.Node.{node_at}
 use Rattle.avro_compare.specs.Planned.{AreFor}
 use Rattle.avro_compare.specs.Resolve.{fields_at}
-use Rattle.avro_compare.specs.declared.guided.Aim.TheVariants.{To}
+use Rattle.avro_compare.specs.declared.comparison.Aim.TheVariants.{To}
 use Rattle.avro_compare.proofs.public.Leading.{inside_by}
 use Rattle.avro_resolve.proofs.Aiming.{kept_leads}
 use Rattle.avro_resolve.proofs.plan.keeping.whole_kept.Goals as goal

@@ -1,6 +1,6 @@
 use Rattle.std.proofs.Common.{◌+◌, ℕ, List, subst, sym}
 use Rattle.avro_compare.specs.Planned.{AreForFrom}
-use Rattle.avro_compare.specs.declared.guided.At.{At}
+use Rattle.avro_compare.specs.declared.comparison.At.{At}
 use Rattle.avro_compare.proofs.public.Entries.{rest_for}
 use Rattle.avro_resolve.proofs.resolving.recording.known_after.Goals as goal
 
