@@ -57,7 +57,7 @@ fn take_number(seeding: &mut Seeding, number: u32) {
 
 /// Takes in how many there are of what follows.
 fn take_count(seeding: &mut Seeding, count: usize) {
-    take_number(seeding, count as u32);
+    seeding.take(&(count as u64).to_le_bytes());
 }
 
 /// Takes in the nodes that a node of a kind has as its parts.
