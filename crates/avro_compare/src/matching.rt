@@ -81,7 +81,13 @@ fn match_within(
 }
 
 /// What the nodes of two ids say about their match.
-fn step(names: Option<&TypeNames>, writer: &Schema, w: NodeId, reader: &Schema, r: NodeId) -> Outcome
+fn step(
+    names: Option<&TypeNames>,
+    writer: &Schema,
+    w: NodeId,
+    reader: &Schema,
+    r: NodeId,
+) -> Outcome
     requires { IfSome names (λ n. AreTypeNames (schema_nodes writer.now) (schema_nodes reader.now) n.now) }
     ensures { IsOutcome (schema_nodes writer.now) (schema_nodes reader.now)
         (node_at (schema_nodes writer.now) w.0) (node_at (schema_nodes reader.now) r.0) result }
