@@ -188,6 +188,7 @@ fn avro_container::Copier::step<I: Input, O: Output>(&mut self, &mut I, &mut O) 
 fn avro_container::Copier::ahead(&self) -> &[u8]
 enum avro_container::Step { Header, Block(u64), End }
 struct avro_container::Counts { items: u64, blocks: u64 }
+fn avro_container::check<I: Input>(Global, &mut I, &FileLimits) -> Result<Counts, CopyError>
 fn avro_container::copy<'a, I: Input, O: Output>(Global, &mut I, &mut O, Option<&'a ReaderText>, Option<[u8; 16]>, &FileLimits) -> Result<Counts, CopyError>
 enum avro_container::CopyError { NoMagic, InvalidMetadata(ReadError), NoSchema, InvalidSchema(SchemaError), UnknownCodec, InvalidCount(u64, CountError), BytesLeft(u64), WrongMarker(u64), LimitExceeded(LimitPlace), InvalidDatum(u64, u32, ReadError), UnresolvedDatum(u64, u32, Fault), InputFailed, OutputFailed, OutOfMemory, FailedBefore, CutHeader, CutBlock(u64) }
 

@@ -1,7 +1,7 @@
 //! Devices that move few bytes a call, and that fail.
 
 use avro_container::{
-    Copier, CopyError, DeviceFault, FileLimits, Input, Output, ReadInput, WriteOutput, copy,
+    Copier, CopyError, DeviceFault, FileLimits, Input, Output, ReadInput, WriteOutput, check, copy,
 };
 use avro_samples::{FIVE, FIVE_COPIED, LONG_OR_INT};
 use avro_schema_json::{ReaderText, SchemaError};
@@ -199,6 +199,28 @@ fn wrong_take(alloc: Global) -> Result<Option<usize>, SchemaError> {
 fn failed_takes_are_told(rt: HostRuntime) -> Result<(), Fail> {
     assert_eq!(rt; wrong_take(rt.alloc())?, None);
     Ok(())
+}
+
+/// The first call, if any, whose failure a check does not tell.
+fn wrong_checked_take(alloc: Global) -> Option<usize> {
+    for call in 0..60 {
+        let mut input = ReadInput::new(Source {
+            rest: FIVE,
+            size: 1,
+            calls: 0,
+            failing: call,
+        });
+        let answer = check(alloc, &mut input, &FileLimits::default());
+        if answer != Err(CopyError::InputFailed) {
+            return Some(call);
+        }
+    }
+    None
+}
+
+#[test]
+fn failed_takes_of_a_check_are_told(rt: HostRuntime) {
+    assert_eq!(rt; wrong_checked_take(rt.alloc()), None);
 }
 
 /// Whether of five calls this one alone fails, and the reader is called five times.

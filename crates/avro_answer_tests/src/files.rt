@@ -1,8 +1,9 @@
-//! What reading and copying a container file returns.
+//! What reading, checking and copying a container file returns.
 
 use avro_binary::Nothing;
 use avro_container::{
-    Block, Blocks, CopyError, Counts, FileLimits, Header, Input, ReadInput, WriteOutput, copy,
+    Block, Blocks, CopyError, Counts, FileLimits, Header, Input, ReadInput, WriteOutput, check,
+    copy,
 };
 use avro_schema_json::{ReaderText, SchemaError};
 use std::alloc::{AllocError, Global};
@@ -100,7 +101,7 @@ pub(crate) fn is_answer(
     Ok(answer_text(alloc, answer)?.as_str() == wanted)
 }
 
-/// Whether both reading and copying return this for a file.
+/// Whether reading, checking and copying return this for a file.
 pub(crate) fn are_answers(
     alloc: Global,
     file: &[u8],
@@ -108,5 +109,8 @@ pub(crate) fn are_answers(
     wanted: &str,
 ) -> Result<bool, AllocError> {
     let is_read = is_answer(alloc, read_all(alloc, file, None, limits), wanted)?;
-    Ok(is_read && is_answer(alloc, copy_all(alloc, file, None, limits), wanted)?)
+    let checked = check(alloc, &mut ReadInput::new(file), limits);
+    let is_checked = is_answer(alloc, checked, wanted)?;
+    let is_copied = is_answer(alloc, copy_all(alloc, file, None, limits), wanted)?;
+    Ok(is_read && is_checked && is_copied)
 }

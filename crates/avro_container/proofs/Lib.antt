@@ -9,5 +9,7 @@ pub mod HeadersCopied
 pub mod Stepping
 pub mod StepLaws
 pub mod CopySteps
+pub mod BlockLaws
+pub mod CheckLaws
 pub mod FileHeaders
 pub mod public

@@ -32,7 +32,7 @@ AreBlocks-within limits h (block ∷ blocks) bytes (first, rest, is, others, e) 
     (first, rest, is.is_block, AreBlocks-within limits h blocks rest others, e)
 
 -- one block more
-AreBlocksWithin-push : (limits : FileLimitValues) (h : HeaderValue) (blocks : List Values) (vs : Values) (bytes more : List ℕ)
+pub AreBlocksWithin-push : (limits : FileLimitValues) (h : HeaderValue) (blocks : List Values) (vs : Values) (bytes more : List ℕ)
     → AreBlocksWithin limits h blocks bytes → IsBlockWithin limits h vs more → AreBlocksWithin limits h (blocks ++ vs ∷ []) (bytes ++ more)
 AreBlocksWithin-push limits h [] vs bytes more e b = (more, [], b, refl, ap (λ all. all ++ more) e ∙ sym (append-nil more))
 AreBlocksWithin-push limits h (block ∷ blocks) vs bytes more (first, rest, is, others, e) b = (
@@ -165,7 +165,7 @@ Done-run job limits s counts taken put (Run.block {s = before} {counts = i} {tak
     (Done-block job limits before s i n t p more out (Done-run job limits before i t p run) step)))
 
 -- a file that is copied whole
-IsFile-whole : (limits : FileLimitValues) (h : HeaderValue) (blocks : List Values) (bytes : List ℕ) → BeginsWith limits h blocks bytes []
+pub IsFile-whole : (limits : FileLimitValues) (h : HeaderValue) (blocks : List Values) (bytes : List ℕ) → BeginsWith limits h blocks bytes []
     → IsFile h blocks bytes
 IsFile-whole limits h blocks bytes b = record {
   header = b.header_bytes;

@@ -4,4 +4,5 @@ pub mod CopiedFile
 pub mod TaskSeen
 pub mod CopierSeen
 pub mod Copying
+pub mod Checking
 pub mod inside

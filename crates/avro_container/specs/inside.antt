@@ -1,5 +1,6 @@
 -- What only proofs and private contracts need.
 pub mod BlockCopied
 pub mod BlockSeen
+pub mod BlocksChecked
 pub mod DataPacked
 pub mod HeaderCopied

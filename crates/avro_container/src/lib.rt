@@ -2,7 +2,7 @@
 //!
 //! What a file is read from and written to, and what reads its parts, is defined in the crates below: it is re-exported here,
 //! so that a caller names one crate. A [`Sink`] puts a header and blocks. [`copy`] takes a whole file and puts its copy; a [`Copier`] does the same one part
-//! per step.
+//! per step. [`check`] takes a whole file and puts nothing.
 //!
 //! # How a file is copied
 //!
@@ -18,12 +18,14 @@
 //! `copy` rests.
 #![tactic(auto)]
 
+mod checking;
 mod copying;
 pub mod laws;
 mod sink;
 
 pub use avro_device::{DeviceFault, Input, Output, ReadInput, WriteOutput};
 pub use avro_file::{Block, Blocks, CopyError, CountError, FileLimits, Header, LimitPlace};
+pub use checking::check;
 pub use copying::copier::Copier;
 pub use copying::{Counts, Step, copy};
 pub use sink::Sink;

@@ -1,10 +1,18 @@
+ghost use Rattle.std.specs.Prelude.{◌≡◌, IfOk, Err, Some};
+ghost use Rattle.avro_file.specs.FileFault.{FileFault};
+ghost use Rattle.avro_file.specs.FileSeen.{file_fault};
+ghost use Rattle.avro_file.specs.declared.error.CopyError.{CopyError};
+ghost use Rattle.avro_container.specs.Checking.{Takes, IsWhole, IsFaulty};
+ghost use Rattle.avro_tool.specs.DefaultLimits.{default_limits};
+ghost use Rattle.avro_tool.specs.declared.failure.Failure.TheVariants.{Container};
+
 use crate::failure::Failure;
 use crate::files::container::{open_container, open_watched, tell_file_counts};
 use crate::{Finding, report};
 use avro_answer::Form;
-use avro_container::Counts;
+use avro_container::{Counts, check};
 use avro_device::Input;
-use avro_file::{Blocks, Checker, CopyError, FileLimits, Header};
+use avro_file::FileLimits;
 use std::alloc::Global;
 use std::io::Write;
 use std::rt::{Clock, Files};
@@ -42,10 +50,7 @@ pub(crate) fn check_files<'a, R: Files + Clock + AllocGlobal, O: Write, E: Write
 /// How many data and blocks the container in a file has, each of which is read.
 fn check_file<'a, R: Files + AllocGlobal>(rt: &R, word: &'a str) -> Result<Counts, Failure<'a>> {
     let mut input = open_container(rt, word)?;
-    match count_data(rt.alloc(), &mut input) {
-        Ok(counts) => Ok(counts),
-        Err(error) => Err(Failure::of_container(word, error)),
-    }
+    counts_of(rt.alloc(), &mut input, word)
 }
 
 /// The same, with its progress reported.
@@ -55,12 +60,9 @@ fn watch_file<'a, R: Files + Clock + AllocGlobal, E: Write>(
     err: &mut E,
 ) -> Result<Counts, Failure<'a>> {
     let mut input = open_watched(rt, word, err)?;
-    let counts = count_data(rt.alloc(), &mut input);
+    let counts = counts_of(rt.alloc(), &mut input, word);
     input.finish();
-    match counts {
-        Ok(counts) => Ok(counts),
-        Err(error) => Err(Failure::of_container(word, error)),
-    }
+    counts
 }
 
 /// Prints how many data and blocks a container has, if it has no fault.
@@ -79,42 +81,18 @@ fn tell_file<'a, O: Write>(
 }
 
 /// How many data and blocks a container has, each of which is read.
-fn count_data<I: Input>(alloc: Global, input: &mut I) -> Result<Counts, CopyError> {
-    let header = Header::read(alloc, input, &FileLimits::default())?;
-    count_blocks(alloc, input, &header)
-}
-
-/// How many data and blocks there are after a header, each of which is read.
-fn count_blocks<I: Input>(
+fn counts_of<'a, I: Input>(
     alloc: Global,
     input: &mut I,
-    header: &Header,
-) -> Result<Counts, CopyError> {
-    let mut blocks = Blocks::new(alloc, header, &FileLimits::default());
-    let mut checker = Checker::new(alloc, header, &FileLimits::default());
-    let mut counts = Counts {
-        items: 0,
-        blocks: 0,
-    };
-    for _ in 0..u64::MAX {
-        let Some(items) = next_count(input, &mut blocks, &mut checker)? else {
-            break;
-        };
-        counts.items = counts.items.saturating_add(u64::from(items));
-        counts.blocks = counts.blocks.saturating_add(1);
+    word: &'a str,
+) -> Result<Counts, Failure<'a>>
+    ensures whole { IfOk result (λ counts. Takes I.gives input.old input.new
+        (IsWhole default_limits (I.ended input.new) counts.items counts.blocks)) }
+    ensures refused { (e : CopyError) (f : FileFault) → result ≡ Err (Container word.exit e) → file_fault e ≡ Some f
+        → Takes I.gives input.old input.new (IsFaulty default_limits (I.ended input.new) f) }
+{
+    match check(alloc, input, &FileLimits::default()) {
+        Ok(counts) => Ok(counts),
+        Err(error) => Err(Failure::of_container(word, error)),
     }
-    Ok(counts)
-}
-
-/// How many data the next block has, each of which is read, if there is one.
-fn next_count<I: Input>(
-    input: &mut I,
-    blocks: &mut Blocks<'_>,
-    checker: &mut Checker<'_>,
-) -> Result<Option<u32>, CopyError> {
-    let Some(block) = blocks.next(input)? else {
-        return Ok(None);
-    };
-    checker.check(&block)?;
-    Ok(Some(block.count()))
 }
