@@ -1,5 +1,5 @@
 -- Which rows cover a text, and an object by how many members it has.
-use Rattle.avro_schema_json.proofs.Words.{arith, ◌≡◌, ℕ, suc, true, false, ◌==◌, List, [], ◌∷◌, length, Option, Some, option_map, option_and_then, refl, sym, ap, subst, ◌∙◌, Less, AllByRecursion, Vec, string_cmp, false≢true, length-map, is_eq-slice_cmp, Node, node_at, Value, Data, Members, members_view, Entry, symbol_index, text_default, bytes_of_text, object_default, entries_default, default_under, member_keys, only_if, Numbered, place_of, Covers, kind_of, HasKind, AreKinds, AreNamesDistinct, has_place, symbols_of, HasSymbol, AreSymbols, Row}
+use Rattle.avro_schema_json.proofs.Words.{arith, ◌≡◌, ℕ, suc, true, false, ◌==◌, List, [], ◌∷◌, length, Option, Some, option_map, option_and_then, refl, sym, ap, subst, ◌∙◌, Less, AllByRecursion, string_cmp, false≢true, length-map, is_eq-slice_cmp, Node, node_at, Value, Data, Members, members_view, Entry, symbol_index, text_default, bytes_of_text, object_default, entries_default, default_under, member_keys, only_if, Numbered, place_of, Covers, kind_of, HasKind, AreKinds, AreNamesDistinct, has_place, Parents, symbols_of, HasSymbol, AreSymbols, Row}
 use Rattle.std.specs.Prelude.{is_some, String, string_bytes, bytes_eq}
 use Rattle.std.specs.declared.alloc.Global.{Global}
 use Rattle.std.specs.List.{IsDistinct}
@@ -17,14 +17,14 @@ HasAll rows kind row = (p : ℕ) → HasKind rows kind p → has_place row p ≡
 -- ---- texts
 
 -- a row of all nodes that a text is a default of
-pub record IsTextRow (rows : BTreeMap (ℕ × ℕ) Row) (labels : Numbered) (parents : List (BTreeMap ℕ (Vec ℕ)))
+pub record IsTextRow (rows : BTreeMap (ℕ × ℕ) Row) (labels : Numbered) (parents : Parents)
     (last : ℕ) (text row : List ℕ) : Type 0 where
   pub string : HasAll rows (5, 0) row
   pub enums : (p : ℕ) → HasSymbol labels parents last p text → has_place row p ≡ true
   pub bytes : (b : List ℕ) → bytes_of_text text ≡ Some b → HasAll rows (4, 0) row
   pub fixeds : (b : List ℕ) → bytes_of_text text ≡ Some b → HasAll rows (11, length b) row
 
-pub text-covered : (nodes : List Node) (last : ℕ) (rows : BTreeMap (ℕ × ℕ) Row) (labels : Numbered) (parents : List (BTreeMap ℕ (Vec ℕ)))
+pub text-covered : (nodes : List Node) (last : ℕ) (rows : BTreeMap (ℕ × ℕ) Row) (labels : Numbered) (parents : Parents)
     (text row : List ℕ) → AreKinds nodes last rows → AreSymbols nodes last labels parents → IsTextRow rows labels parents last text row → Covers nodes last (Data.string text) row
 text-covered nodes last rows labels parents text row kinds enums all m h = by (node_at nodes m) h (kinds m) (enums m text)
   where

@@ -1,7 +1,6 @@
 -- The marks of JSON as those of its parts are kept.
-use Rattle.avro_schema_json.proofs.Words.{◌≡◌, ℕ, zero, suc, ◌+◌, true, List, [], ◌∷◌, ◌++◌, length, length-append, Option, Some, None, get_or, refl, sym, ap, subst, ◌∙◌, ◌<◌, ◌⊎◌, inl, inr, arith, unwrap_or, Vec, none-some, same_Some, Node, Data, get_item, view, items_view, Tree, get_item_within, place_of, Covers, part_at, IsPartUnder, IsSetOf, IsMarked, marked, Stays, ArePartsMarked, Label, Numbered, IsStep, AreParents, has_bit, words_of, label_of, has_place, LeadsTo, AreSteps, Mark}
+use Rattle.avro_schema_json.proofs.Words.{◌≡◌, ℕ, zero, suc, ◌+◌, true, List, [], ◌∷◌, ◌++◌, length, length-append, Option, Some, None, get_or, refl, sym, ap, subst, ◌∙◌, ◌<◌, ◌⊎◌, inl, inr, arith, unwrap_or, none-some, same_Some, Node, Data, get_item, view, items_view, Tree, get_item_within, place_of, Covers, part_at, IsPartUnder, IsSetOf, IsMarked, marked, Stays, ArePartsMarked, Label, Numbered, IsStep, AreParents, IsWithin, Parents, has_bit, words_of, label_of, has_place, Follows, LeadsTo, AreSteps, KeepsEither, Mark}
 use Rattle.std.specs.Prelude.{slice_get, Result, Ok, Err, IfOk}
-use Rattle.std.specs.BTreeMap.{BTreeMap}
 use Rattle.avro_schema_json.specs.inside.Parents.{number_of}
 use Rattle.avro_schema_json.specs.inside.Sets.{row_at, KeepsRows}
 use Rattle.avro_schema_json.specs.inside.Tables.{AreTables}
@@ -63,18 +62,18 @@ whole-marked nodes last before after d row ps m stays appended found first count
 
 -- what is so of JSON while its parts are marked one after another
 pub record Gathers (tables : Tables) (d : Data) (start now : Marks) (first row : List ℕ) (ps : List Mark) : Type 0 where
-  pub steps : AreSteps tables.parents.items now.memo
+  pub steps : AreSteps tables.parents now.memo
   pub stays : Stays start now
   pub covers : (nodes : List Node) → AreTables nodes tables → Covers nodes tables.last d first → Covers nodes tables.last d row
   pub parts : (nodes : List Node) → AreTables nodes tables → ArePartsMarked nodes tables.last now d ps
 
-pub gathers-none : (tables : Tables) (d : Data) (marks : Marks) (row : List ℕ) → AreSteps tables.parents.items marks.memo
+pub gathers-none : (tables : Tables) (d : Data) (marks : Marks) (row : List ℕ) → AreSteps tables.parents marks.memo
     → Gathers tables d marks marks row row []
 gathers-none tables d marks row steps = grind (arith, none-some)
 
 pub gathers-next : (tables : Tables) (d e : Data) (start now after : Marks) (memo : Memo) (first row next : List ℕ) (ps : List Mark) (mark : Mark) (label : ℕ)
     → Gathers tables d start now first row ps → Stays now after → ((nodes : List Node) → AreTables nodes tables → IsMarked nodes tables.last after e mark)
-    → AreSteps tables.parents.items memo → KeepsRows after.memo.sets memo.sets
+    → AreSteps tables.parents memo → KeepsRows after.memo.sets memo.sets
     → ((nodes : List Node) (f g : Data) → AreTables nodes tables → IsPartUnder tables.labels label f g → IsSetOf nodes tables.last after.memo.sets g mark.set
     → Covers nodes tables.last f row → Covers nodes tables.last f next)
     → IsPartUnder tables.labels label d e → part_at (length ps) d ≡ Some e → Gathers tables d start (record { memo = memo; all = after.all }) first next (ps ++ mark ∷ [])
@@ -116,42 +115,55 @@ item-at xs ys i j x same number below at = grind (arith, get_item_within)
 
 -- ---- steps
 
-place-below : (last m : ℕ) → last < 4096 → place_of last m < 4096
-place-below last m below = grind arith
-
--- the parents of what a set has
-stepped : (nodes : List Node) (last : ℕ) (labels : Numbered) (parents : List (BTreeMap ℕ (Vec ℕ))) (label : Label) (k number : ℕ) (sets : Sets)
-    (s n : ℕ) (row : List ℕ) → AreParents nodes last labels parents → number_of labels label ≡ Some k → (k ≡ number) ⊎ (k ≡ 1) → last < 4096 → row_at sets s ≡ Some row
-    → (leads : LeadsTo parents sets number s n) → IsStep nodes last label row leads.1
-stepped nodes last labels parents label k number sets s n row are is either below at leads = λ x t y part own there.
-    let same : row ≡ leads.0 = same_Some row leads.0 (sym at ∙ leads.2) in
+-- the parents of what a row has
+stepped : (nodes : List Node) (last : ℕ) (labels : Numbered) (parents : Parents) (label : Label) (k : ℕ) (row found : List ℕ)
+    → AreParents nodes last labels parents → number_of labels label ≡ Some k → Follows parents k row found → IsStep nodes last label row found
+stepped nodes last labels parents label k row found are is follows = λ x t y part own there.
     let parent = are x label t y part own in
     let number_is : parent.0 ≡ k = same_Some parent.0 k (sym parent.1 ∙ is) in
-    leads.4 (place_of last y) k (place_of last x) (place-below last y below) either
-    (subst (λ (r : List ℕ). has_place r (place_of last y) ≡ true) same there)
+    follows (place_of last y) (place_of last x) there
     (subst (λ (q : ℕ). has_bit (words_of parents (place_of last y) q) (place_of last x)) number_is parent.2)
 
 -- they cover what holds a part
-pub part-covered : (nodes : List Node) (tables : Tables) (d e : Data) (number s n : ℕ) (before after : Sets) → AreTables nodes tables → IsPartUnder tables.labels number d e
-    → IsSetOf nodes tables.last before e s → KeepsRows before after → (leads : LeadsTo tables.parents.items after number s n) → Covers nodes tables.last d leads.1
-part-covered nodes tables (Data.array ds) e number s n before after are under set kept leads =
-    array-covered nodes tables.last ds under.0 e set.0 leads.1 under.2 set.2
-    (stepped nodes tables.last tables.labels tables.parents.items Label.items 0 number after s n set.0 are.parents refl (inl (sym under.1)) are.last_below (kept s set.0 set.1) leads)
-part-covered nodes tables (Data.object ms) e number s n before after are under set kept leads =
-    object-covered nodes tables.last ms under.0 e set.0 leads.1 under.2 set.2
-    (stepped nodes tables.last tables.labels tables.parents.items Label.values 1 number after s n set.0 are.parents refl (inr refl) are.last_below at leads)
-    (by (label_of tables.labels under.0) refl under.1)
+part-covered : (nodes : List Node) (tables : Tables) (d e : Data) (number : ℕ) (row found : List ℕ) → AreTables nodes tables → IsPartUnder tables.labels number d e
+    → Covers nodes tables.last e row → Follows tables.parents number row found → Follows tables.parents 1 row found → Covers nodes tables.last d found
+part-covered nodes tables (Data.array ds) e number row found are under covers here maps =
+    array-covered nodes tables.last ds under.0 e row found under.2 covers
+    (stepped nodes tables.last tables.labels tables.parents Label.items 0 row found are.parents refl (subst (λ (k : ℕ). Follows tables.parents k row found) under.1 here))
+part-covered nodes tables (Data.object ms) e number row found are under covers here maps =
+    object-covered nodes tables.last ms under.0 e row found under.2 covers
+    (stepped nodes tables.last tables.labels tables.parents Label.values 1 row found are.parents refl maps) (by (label_of tables.labels under.0) refl under.1)
   where
-    at : row_at after s ≡ Some set.0
-    at = kept s set.0 set.1
-
-    by : (o : Option ℕ) → label_of tables.labels under.0 ≡ o → number ≡ unwrap_or o 1 → IsStep nodes tables.last (Label.named under.0) set.0 leads.1
+    by : (o : Option ℕ) → label_of tables.labels under.0 ≡ o → number ≡ unwrap_or o 1 → IsStep nodes tables.last (Label.named under.0) row found
     by None none is = λ x t y part own there.
         let parent = are.parents x (Label.named under.0) t y part own in absurd (none-some parent.0 (sym none ∙ parent.1))
     by (Some k) label is =
-        stepped nodes tables.last tables.labels tables.parents.items (Label.named under.0) k number after s n set.0 are.parents label (inl (sym is)) are.last_below at leads
-part-covered nodes tables _ e number s n before after are under set kept leads = absurd under
+        stepped nodes tables.last tables.labels tables.parents (Label.named under.0) k row found are.parents label (subst (λ (q : ℕ). Follows tables.parents q row found) is here)
+part-covered nodes tables _ e number row found are under covers here maps = absurd under
 
-pub steps-stay : (parents : List (BTreeMap ℕ (Vec ℕ))) (memo : Memo) (after : Sets) → KeepsRows memo.sets after → AreSteps parents memo
+-- a step leads on, whatever the row of its set is called
+follows-in : (parents : Parents) (sets : Sets) (label s n : ℕ) (row either : List ℕ) → row_at sets s ≡ Some row → (leads : LeadsTo parents sets label s n)
+    → IsWithin leads.1 either → Follows parents label row either
+follows-in parents sets label s n row either at leads within = λ y p there has.
+    within p (leads.4 y p (subst (λ (r : List ℕ). has_place r y ≡ true) (same_Some row leads.0 (sym at ∙ leads.2)) there) has)
+
+-- what holds a part is among the parents of its set, or among the maps
+pub either-covered : (nodes : List Node) (tables : Tables) (d e : Data) (number s u m : ℕ) (before after : Sets) (old new : List ℕ) → AreTables nodes tables
+    → IsPartUnder tables.labels number d e → IsSetOf nodes tables.last before e s → KeepsRows before after → LeadsTo tables.parents after number s u
+    → LeadsTo tables.parents after 1 s m
+    → ((first second : List ℕ) → row_at after u ≡ Some first → row_at after m ≡ Some second → KeepsEither old first second new)
+    → Covers nodes tables.last d old → Covers nodes tables.last d new
+either-covered nodes tables d e number s u m before after old new are under set kept here maps keeps covers = λ k h.
+    let at = kept s set.0 set.1 in
+    let both = keeps here.1 maps.1 here.3 maps.3 in
+    both.3 (place_of tables.last k) (covers k h)
+    (part-covered nodes tables d e number set.0 both.0 are under set.2 (follows-in tables.parents after number s u set.0 both.0 at here both.1)
+    (follows-in tables.parents after 1 s m set.0 both.0 at maps both.2) k h)
+
+-- a step leads on as sets come
+pub leads-on : (parents : Parents) (before after : Sets) (label s n : ℕ) → KeepsRows before after → LeadsTo parents before label s n → LeadsTo parents after label s n
+leads-on parents before after label s n kept leads = (leads.0, leads.1, kept s leads.0 leads.2, kept n leads.1 leads.3, leads.4)
+
+pub steps-stay : (parents : Parents) (memo : Memo) (after : Sets) → KeepsRows memo.sets after → AreSteps parents memo
     → AreSteps parents (record { sets = after; steps = memo.steps })
 steps-stay parents memo after kept good = grind arith

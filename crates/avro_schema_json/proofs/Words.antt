@@ -28,14 +28,14 @@ pub use Rattle.avro_schema_json.specs.inside.Kinds.{AreKinds, HasKind, HasRow, K
 pub use Rattle.avro_schema_json.specs.inside.KnownNames.{AreNumbered, AreWithin, Key, known_in, name_at, number_of}
 pub use Rattle.avro_schema_json.specs.inside.Marks.{ArePartsMarked, IsMarked, IsPartUnder, IsSetOf, Stays, marked, member_at, part_at}
 pub use Rattle.avro_schema_json.specs.inside.OwnDefaults.{all_without_defaults, default_of_fields, fields_seen, node_or_null, own_default, without_defaults}
-pub use Rattle.avro_schema_json.specs.inside.Parents.{AreFields, AreParents, HasField, HasParent, HasParts, IsField, IsParent, IsPart, IsStep, KeepsLabels, KeepsParents, KeepsUnder, Label, Numbered, words_at, words_of, words_or_none, words_under, has_bit, label_of}
+pub use Rattle.avro_schema_json.specs.inside.Parents.{AreFields, AreParents, HasField, HasParent, HasParts, IsField, IsParent, IsPart, IsStep, KeepsLabels, KeepsParents, KeepsUnder, Label, Numbered, Parents, Under, words_at, words_of, words_or_none, words_under, has_bit, label_of}
 pub use Rattle.avro_schema_json.specs.inside.Reading.{IsAdded, IsAttribute, IsBegun, IsRead, IsRefusal, Reads, Refuses, State, beginning_faults, fields_meaning, limit_faults, made_at}
 pub use Rattle.avro_schema_json.specs.inside.ReadingSeen.{Keeps, state_of}
 pub use Rattle.avro_schema_json.specs.inside.Repeats.{AreFieldsDistinct, AreNamesDistinct, HasDistinctNames, RecordRepeatsName, Repeats, RepeatsName, SomeRepeats, SomeRepeatsName, code_by, kind_code}
-pub use Rattle.avro_schema_json.specs.inside.Rows.{IsWithin, has_place}
+pub use Rattle.avro_schema_json.specs.inside.Rows.{IsWithin, KeepsEither, has_place}
 pub use Rattle.avro_schema_json.specs.inside.SeenDefaults.{data_seen, defaults_of_node, fields_with_defaults, lists_seen, nodes_with_defaults}
 pub use Rattle.avro_schema_json.specs.inside.SeenRaw.{raw_field_of, raw_fields_of, raw_node_of, raw_nodes_of}
-pub use Rattle.avro_schema_json.specs.inside.Steps.{AreSteps, LeadsTo}
+pub use Rattle.avro_schema_json.specs.inside.Steps.{AreSteps, Follows, LeadsTo}
 pub use Rattle.avro_schema_json.specs.inside.Symbols.{AreSymbols, HasSymbol, HasSymbols, symbols_of}
 pub use Rattle.avro_schema_json.specs.inside.Walk.{AreFirsts, AreMemberMarks, FitsNoneBefore, HasNoneBefore, IsKnown, first_of, mark_of, nodes_of}
 pub use Rattle.serde_json.proofs.Views.{Entry, get_item_within, member_here, member_later, view-Array, view-Object, view-lookup, view_of_ref}

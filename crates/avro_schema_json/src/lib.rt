@@ -19,10 +19,10 @@
 //! outwards, the set of nodes is found that it is a default of itself (`defaults/marks.rt`). That of a leaf is found by
 //! its kind (`leaves.rt`). What an item or a member fits leads to its parents: the arrays, maps and records that may
 //! have such a part (`parents.rt`). A step from a set along a label, as the name of a field, to the set of the parents
-//! is remembered (`steps.rt`), and a set is kept once, by a number (`sets.rt`). The set of an array has the arrays that
-//! are among the parents of each item; that of an object likewise the maps, and the records that have as many fields as
-//! it has members. Then the default is made from the root down: each union passes over the branches that are not in the
-//! set of its JSON (`walk.rt`).
+//! looks only at the places that have a parent under the label, and is remembered (`steps.rt`). A set is kept once, by a
+//! number (`sets.rt`). The set of an array has the arrays that are among the parents of each item; that of an object
+//! likewise the maps, and the records that have as many fields as it has members. Then the default is made from the root
+//! down: each union passes over the branches that are not in the set of its JSON (`walk.rt`).
 #![tactic(auto)]
 
 mod completed;

@@ -1,5 +1,5 @@
 -- Under which labels a node is a part of which nodes, its parents.
-use Rattle.std.specs.Prelude.{◌≡◌, ℕ, ◌/◌, ◌%◌, true, List, [], length, slice_get, get_or, Option, Some, None, unwrap_or, bytes_eq, Contains}
+use Rattle.std.specs.Prelude.{◌≡◌, ℕ, ◌/◌, ◌%◌, true, List, [], slice_get, get_or, Option, Some, None, unwrap_or, bytes_eq, Contains}
 use Rattle.std.specs.Global.{Vec}
 use Rattle.std.specs.Int.{bit_at}
 use Rattle.std.specs.Ordering.{nat_cmp}
@@ -46,16 +46,23 @@ abbrev pub words_or_none : Option (Vec ℕ) → List ℕ
 words_or_none None = []
 words_or_none (Some words) = words.items
 
--- the parents under the number of a label, of one place and of each
-abbrev pub words_under : BTreeMap ℕ (Vec ℕ) → ℕ → List ℕ
-words_under parents number = words_or_none (get nat_cmp parents number)
+-- the parents of each place under one label, and those under each, by the number of the label
+abbrev pub Under : Type 0
+Under = BTreeMap ℕ (Vec ℕ)
 
-abbrev pub words_at : Option (BTreeMap ℕ (Vec ℕ)) → ℕ → List ℕ
-words_at None number = []
-words_at (Some parents) number = words_under parents number
+abbrev pub Parents : Type 0
+Parents = BTreeMap ℕ Under
 
-abbrev pub words_of : List (BTreeMap ℕ (Vec ℕ)) → ℕ → ℕ → List ℕ
-words_of parents place number = words_at (slice_get parents place) number
+-- the words of the parents of a place
+abbrev pub words_under : Under → ℕ → List ℕ
+words_under under place = words_or_none (get nat_cmp under place)
+
+abbrev pub words_at : Option Under → ℕ → List ℕ
+words_at None place = []
+words_at (Some under) place = words_under under place
+
+abbrev pub words_of : Parents → ℕ → ℕ → List ℕ
+words_of parents place number = words_at (get nat_cmp parents number) place
 
 -- words with numbers, and the number of the label of a name
 abbrev pub Numbered : Type 0
@@ -74,36 +81,35 @@ abbrev pub label_or_values : Numbered → List ℕ → ℕ
 label_or_values labels name = unwrap_or (label_of labels name) 1
 
 -- a place is a parent of another under a label
-abbrev pub HasParent : Numbered → List (BTreeMap ℕ (Vec ℕ)) → Label → ℕ → ℕ → Type 0
+abbrev pub HasParent : Numbered → Parents → Label → ℕ → ℕ → Type 0
 HasParent labels parents label part parent = (number : ℕ) × (number_of labels label ≡ Some number) × has_bit (words_of parents part number) parent
 
 -- a place is a parent of some nodes
-abbrev pub HasParts : ℕ → List ℕ → List (BTreeMap ℕ (Vec ℕ)) → ℕ → ℕ → Type 0
+abbrev pub HasParts : ℕ → List ℕ → Parents → ℕ → ℕ → Type 0
 HasParts last ids parents number parent = (y : ℕ) → Contains ids y → has_bit (words_of parents (place_of last y) number) parent
 
 -- a record is a parent of the nodes of a field, and of each field
-abbrev pub IsField : List Node → ℕ → Numbered → List (BTreeMap ℕ (Vec ℕ)) → FieldNode → ℕ → Type 0
+abbrev pub IsField : List Node → ℕ → Numbered → Parents → FieldNode → ℕ → Type 0
 IsField nodes last labels parents f parent =
     (number : ℕ) × (label_of labels f.name ≡ Some number) × HasParts last (own_ids nodes f.node) parents number parent
 
-abbrev pub AreFields : List Node → ℕ → Numbered → List (BTreeMap ℕ (Vec ℕ)) → List FieldNode → ℕ → Type 0
+abbrev pub AreFields : List Node → ℕ → Numbered → Parents → List FieldNode → ℕ → Type 0
 AreFields nodes last labels parents fields parent = (k : ℕ) (f : FieldNode) → slice_get fields k ≡ Some f → IsField nodes last labels parents f parent
 
 -- a node is a parent of its parts, and each node of its own
-abbrev pub IsParent : List Node → ℕ → Numbered → List (BTreeMap ℕ (Vec ℕ)) → Node → ℕ → Type 0
+abbrev pub IsParent : List Node → ℕ → Numbered → Parents → Node → ℕ → Type 0
 IsParent nodes last labels parents n parent =
     (label : Label) (t y : ℕ) → IsPart label n t → Contains (own_ids nodes t) y → HasParent labels parents label (place_of last y) parent
 
-abbrev pub AreParents : List Node → ℕ → Numbered → List (BTreeMap ℕ (Vec ℕ)) → Type 0
+abbrev pub AreParents : List Node → ℕ → Numbered → Parents → Type 0
 AreParents nodes last labels parents = (x : ℕ) → IsParent nodes last labels parents (node_at nodes x) (place_of last x)
 
 -- what was there is there
-abbrev pub KeepsUnder : BTreeMap ℕ (Vec ℕ) → BTreeMap ℕ (Vec ℕ) → Type 0
-KeepsUnder before after = (number parent : ℕ) → has_bit (words_under before number) parent → has_bit (words_under after number) parent
+abbrev pub KeepsUnder : Under → Under → Type 0
+KeepsUnder before after = (part parent : ℕ) → has_bit (words_under before part) parent → has_bit (words_under after part) parent
 
-abbrev pub KeepsParents : List (BTreeMap ℕ (Vec ℕ)) → List (BTreeMap ℕ (Vec ℕ)) → Type 0
-KeepsParents before after =
-    (length after ≡ length before) × ((part number parent : ℕ) → has_bit (words_of before part number) parent → has_bit (words_of after part number) parent)
+abbrev pub KeepsParents : Parents → Parents → Type 0
+KeepsParents before after = (part number parent : ℕ) → has_bit (words_of before part number) parent → has_bit (words_of after part number) parent
 
 abbrev pub KeepsLabels : Numbered → Numbered → Type 0
 KeepsLabels before after = (name : List ℕ) (number : ℕ) → label_of before name ≡ Some number → label_of after name ≡ Some number

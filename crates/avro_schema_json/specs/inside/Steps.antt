@@ -1,21 +1,19 @@
 -- Which sets follow which, as they are found.
-use Rattle.std.specs.Prelude.{◌≡◌, ◌⊎◌, ℕ, ◌<◌, true, List, Option, Some}
-use Rattle.std.specs.Global.{Vec}
+use Rattle.std.specs.Prelude.{◌≡◌, ℕ, true, List, Option, Some}
 use Rattle.std.specs.BTreeMap.{BTreeMap, get}
 use Rattle.avro_schema_json.specs.inside.Kinds.{pair_cmp}
-use Rattle.avro_schema_json.specs.inside.Parents.{has_bit, words_of}
+use Rattle.avro_schema_json.specs.inside.Parents.{Parents, has_bit, words_of}
 use Rattle.avro_schema_json.specs.inside.Rows.{has_place}
 use Rattle.avro_schema_json.specs.inside.Sets.{row_at}
 use Rattle.avro_schema_json.specs.declared.defaults.sets.Sets.{Sets}
 use Rattle.avro_schema_json.specs.declared.defaults.steps.Memo.{Memo}
 
--- the parents under the number of a label of what a row has, and with them the maps that hold it
-abbrev pub Follows : List (BTreeMap ℕ (Vec ℕ)) → ℕ → List ℕ → List ℕ → Type 0
-Follows parents label row found =
-    (y k p : ℕ) → y < 4096 → (k ≡ label) ⊎ (k ≡ 1) → has_place row y ≡ true → has_bit (words_of parents y k) p → has_place found p ≡ true
+-- the parents under the number of a label of what a row has
+abbrev pub Follows : Parents → ℕ → List ℕ → List ℕ → Type 0
+Follows parents label row found = (y p : ℕ) → has_place row y ≡ true → has_bit (words_of parents y label) p → has_place found p ≡ true
 
 -- the set of a number has the parents of what is in another
-abbrev pub LeadsTo : List (BTreeMap ℕ (Vec ℕ)) → Sets → ℕ → ℕ → ℕ → Type 0
+abbrev pub LeadsTo : Parents → Sets → ℕ → ℕ → ℕ → Type 0
 LeadsTo parents sets label s n =
     (row : List ℕ) × (found : List ℕ) × (row_at sets s ≡ Some row) × (row_at sets n ≡ Some found) × Follows parents label row found
 
@@ -23,9 +21,9 @@ abbrev pub step_of : BTreeMap (ℕ × ℕ) ℕ → ℕ → ℕ → Option ℕ
 step_of steps label s = get pair_cmp steps (label, s)
 
 -- each step that was found leads to the parents
-abbrev pub AreSteps : List (BTreeMap ℕ (Vec ℕ)) → Memo → Type 0
+abbrev pub AreSteps : Parents → Memo → Type 0
 AreSteps parents memo = (label s n : ℕ) → step_of memo.steps label s ≡ Some n → LeadsTo parents memo.sets label s n
 
 -- by whatever parents, since none was found
 abbrev pub AreNoSteps : Memo → Type 0
-AreNoSteps memo = (parents : List (BTreeMap ℕ (Vec ℕ))) → AreSteps parents memo
+AreNoSteps memo = (parents : Parents) → AreSteps parents memo

@@ -1,5 +1,5 @@
 -- Tables of all nodes: what they say.
-use Rattle.std.specs.Prelude.{◌<◌, List}
+use Rattle.std.specs.Prelude.{List}
 use Rattle.avro_schema.specs.Node.{Node}
 use Rattle.avro_schema_json.specs.inside.Kinds.{AreKinds}
 use Rattle.avro_schema_json.specs.inside.Repeats.{AreNamesDistinct}
@@ -8,8 +8,7 @@ use Rattle.avro_schema_json.specs.inside.Symbols.{AreSymbols}
 use Rattle.avro_schema_json.specs.declared.defaults.tables.Tables.{Tables}
 
 pub record AreTables (nodes : List Node) (tables : Tables) : Type 0 where
-  pub last_below : tables.last < 4096
   pub kinds : AreKinds nodes tables.last tables.kinds
-  pub symbols : AreSymbols nodes tables.last tables.labels tables.parents.items
-  pub parents : AreParents nodes tables.last tables.labels tables.parents.items
+  pub symbols : AreSymbols nodes tables.last tables.labels tables.parents
+  pub parents : AreParents nodes tables.last tables.labels tables.parents
   pub distinct : AreNamesDistinct nodes

@@ -1,14 +1,14 @@
 //! Each node as a parent of its parts, and each enum as one of its symbols.
 
-ghost use Rattle.std.specs.Prelude.{◌≡◌, ◌<◌, ◌+◌, ℕ, List, length, is_some, true, Some, IfOk, OnOk};
+ghost use Rattle.std.specs.Prelude.{◌≡◌, ℕ, List, is_some, true, Some, IfOk, OnOk};
 ghost use Rattle.avro_schema.specs.Seen.{ids_of, texts_of};
 ghost use Rattle.avro_schema_json.specs.DeclaredAttributes.{symbol_index};
 ghost use Rattle.avro_schema_json.specs.inside.Covers.{own_ids};
 ghost use Rattle.avro_schema_json.specs.inside.OwnDefaults.{all_without_defaults, fields_seen, without_defaults};
-ghost use Rattle.avro_schema_json.specs.inside.Parents.{AreFields, AreParents, HasParts, IsParent, KeepsLabels, KeepsParents, has_bit, label_of as label_by, label_or_values, words_of};
+ghost use Rattle.avro_schema_json.specs.inside.Parents.{AreFields, AreParents, HasParts, IsParent, KeepsLabels, KeepsParents, label_of as label_by, label_or_values};
 ghost use Rattle.avro_schema_json.specs.inside.Symbols.{AreSymbols, HasSymbol, HasSymbols};
 
-use crate::defaults::parents::{ITEMS, Parents, VALUES, put_under};
+use crate::defaults::parents::{ITEMS, Parents, VALUES, put_parent};
 use crate::defaults::rows::place_of;
 use crate::raw::{RawField, RawNode};
 use crate::raw_nodes::branches_at;
@@ -47,45 +47,17 @@ fn put_label<'a>(labels: &mut Labels<'a>, word: &'a str) -> Result<u32, Memory>
     Ok(label)
 }
 
-/// No parents of so many places.
-fn no_parents(alloc: Global, count: usize) -> Result<Vec<Parents>, Memory>
-    ensures { IfOk result (λ parents. length parents.items ≡ count) }
-{
-    let mut parents: Vec<Parents> = Vec::new(alloc);
-    for _ in 0..count {
-        parents.push(BTreeMap::new(alloc))?;
-    }
-    Ok(parents)
-}
-
-/// Adds a parent of a place.
-fn put_parent(
-    alloc: Global,
-    parents: &mut Vec<Parents>,
-    place: usize,
-    label: u32,
-    parent: u32,
-) -> Result<(), Memory>
-    requires { place < length parents.old.items }
-    ensures kept { OnOk result (KeepsParents parents.old.items parents.new.items) }
-    ensures added { OnOk result (has_bit (words_of parents.new.items place label) parent) }
-{
-    put_under(alloc, &mut parents[place], label, parent)?;
-    Ok(())
-}
-
 /// Adds a parent of nodes.
 fn put_parts(
     alloc: Global,
     last: u32,
-    parents: &mut Vec<Parents>,
+    parents: &mut Parents,
     ids: &[NodeId],
     label: u32,
     parent: u32,
 ) -> Result<(), Memory>
-    requires { last < length parents.old.items }
-    ensures kept { OnOk result (KeepsParents parents.old.items parents.new.items) }
-    ensures added { OnOk result (HasParts last (ids_of ids.now) parents.new.items label parent) }
+    ensures kept { OnOk result (KeepsParents parents.old parents.new) }
+    ensures added { OnOk result (HasParts last (ids_of ids.now) parents.new label parent) }
 {
     for id in ids {
         let place = place_of(last, id.0 as usize) as usize;
@@ -99,14 +71,13 @@ fn put_part(
     alloc: Global,
     raws: &[RawNode],
     last: u32,
-    parents: &mut Vec<Parents>,
+    parents: &mut Parents,
     part: NodeId,
     label: u32,
     parent: u32,
 ) -> Result<(), Memory>
-    requires { last < length parents.old.items }
-    ensures kept { OnOk result (KeepsParents parents.old.items parents.new.items) }
-    ensures added { OnOk result (HasParts last (own_ids (all_without_defaults raws.now) part.0) parents.new.items label parent) }
+    ensures kept { OnOk result (KeepsParents parents.old parents.new) }
+    ensures added { OnOk result (HasParts last (own_ids (all_without_defaults raws.now) part.0) parents.new label parent) }
 {
     match branches_at(&*raws, part) {
         Some(ids) => put_parts(alloc, last, parents, ids, label, parent),
@@ -119,15 +90,14 @@ fn put_fields<'a>(
     alloc: Global,
     raws: &[RawNode],
     last: u32,
-    parents: &mut Vec<Parents>,
+    parents: &mut Parents,
     labels: &mut Labels<'a>,
     fields: &'a [RawField<'_>],
     parent: u32,
 ) -> Result<(), Memory>
-    requires { last < length parents.old.items }
-    ensures kept { OnOk result (KeepsParents parents.old.items parents.new.items) }
+    ensures kept { OnOk result (KeepsParents parents.old parents.new) }
     ensures labels { OnOk result (KeepsLabels labels.old labels.new) }
-    ensures added { OnOk result (AreFields (all_without_defaults raws.now) last labels.new parents.new.items (fields_seen fields.now) parent) }
+    ensures added { OnOk result (AreFields (all_without_defaults raws.now) last labels.new parents.new (fields_seen fields.now) parent) }
 {
     for field in fields {
         let label = put_label(labels, field.name.as_str())?;
@@ -140,15 +110,14 @@ fn put_fields<'a>(
 fn put_symbols<'a>(
     alloc: Global,
     last: u32,
-    parents: &mut Vec<Parents>,
+    parents: &mut Parents,
     labels: &mut Labels<'a>,
     words: &'a [String],
     parent: u32,
 ) -> Result<(), Memory>
-    requires { last + 1 < length parents.old.items }
-    ensures kept { OnOk result (KeepsParents parents.old.items parents.new.items) }
+    ensures kept { OnOk result (KeepsParents parents.old parents.new) }
     ensures labels { OnOk result (KeepsLabels labels.old labels.new) }
-    ensures added { OnOk result ((word : List ℕ) → is_some (symbol_index word (texts_of words.now)) ≡ true → HasSymbol labels.new parents.new.items last parent word) }
+    ensures added { OnOk result ((word : List ℕ) → is_some (symbol_index word (texts_of words.now)) ≡ true → HasSymbol labels.new parents.new last parent word) }
 {
     for word in words {
         let label = put_label(labels, word.as_str())?;
@@ -162,16 +131,15 @@ fn put_node<'a>(
     alloc: Global,
     raws: &[RawNode],
     last: u32,
-    parents: &mut Vec<Parents>,
+    parents: &mut Parents,
     labels: &mut Labels<'a>,
     raw: &'a RawNode<'_>,
     parent: u32,
 ) -> Result<(), Memory>
-    requires { last + 1 < length parents.old.items }
-    ensures kept { OnOk result (KeepsParents parents.old.items parents.new.items) }
+    ensures kept { OnOk result (KeepsParents parents.old parents.new) }
     ensures labels { OnOk result (KeepsLabels labels.old labels.new) }
-    ensures added { OnOk result (IsParent (all_without_defaults raws.now) last labels.new parents.new.items (without_defaults raw.now) parent) }
-    ensures symbols { OnOk result (HasSymbols labels.new parents.new.items last parent (without_defaults raw.now)) }
+    ensures added { OnOk result (IsParent (all_without_defaults raws.now) last labels.new parents.new (without_defaults raw.now) parent) }
+    ensures symbols { OnOk result (HasSymbols labels.new parents.new last parent (without_defaults raw.now)) }
 {
     match raw {
         RawNode::Array(items) => put_part(alloc, raws, last, parents, *items, ITEMS, parent),
@@ -192,11 +160,11 @@ pub(crate) fn parents_of<'a>(
     raws: &'a [RawNode<'_>],
     last: u32,
     labels: &mut Labels<'a>,
-) -> Result<Vec<Parents>, Memory>
-    ensures parents { IfOk result (λ parents. AreParents (all_without_defaults raws.now) last labels.new parents.items) }
-    ensures symbols { IfOk result (λ parents. AreSymbols (all_without_defaults raws.now) last labels.new parents.items) }
+) -> Result<Parents, Memory>
+    ensures parents { IfOk result (λ parents. AreParents (all_without_defaults raws.now) last labels.new parents) }
+    ensures symbols { IfOk result (λ parents. AreSymbols (all_without_defaults raws.now) last labels.new parents) }
 {
-    let mut parents = no_parents(alloc, last as usize + 2)?;
+    let mut parents: Parents = BTreeMap::new(alloc);
     for i in 0..raws.len() {
         put_node(
             alloc,

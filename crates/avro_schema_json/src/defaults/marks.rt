@@ -1,10 +1,11 @@
 //! Which nodes JSON and each of its parts are defaults of, from the innermost outwards.
 
-ghost use Rattle.std.specs.Prelude.{◌≡◌, ℕ, List, IfOk, OnOk};
+ghost use Rattle.std.specs.Prelude.{◌≡◌, ℕ, List, Some, IfOk, OnOk};
 ghost use Rattle.avro_schema.specs.Node.{Node};
 ghost use Rattle.avro_schema_json.specs.inside.Covers.{Covers};
 ghost use Rattle.avro_schema_json.specs.inside.Marks.{ArePartsMarked, IsMarked, IsPartUnder, IsSetOf, Stays};
-ghost use Rattle.avro_schema_json.specs.inside.Sets.{KeepsRows};
+ghost use Rattle.avro_schema_json.specs.inside.Rows.{KeepsEither};
+ghost use Rattle.avro_schema_json.specs.inside.Sets.{KeepsRows, row_at};
 ghost use Rattle.avro_schema_json.specs.inside.Steps.{AreSteps};
 ghost use Rattle.avro_schema_json.specs.inside.Tables.{AreTables};
 ghost use Rattle.serde_json.specs.Data.{Data};
@@ -12,10 +13,10 @@ ghost use Rattle.serde_json.specs.View.{view, items_view, members_view};
 
 use crate::defaults::edges::label_of;
 use crate::defaults::leaves::row_of_leaf;
-use crate::defaults::parents::ITEMS;
+use crate::defaults::parents::{ITEMS, VALUES};
 use crate::defaults::parts::{Mark, Marks};
-use crate::defaults::rows::{Row, keep_row};
-use crate::defaults::sets::{number_of, row_of};
+use crate::defaults::rows::{Row, add_row, keep_row};
+use crate::defaults::sets::{Sets, number_of, row_of};
 use crate::defaults::steps::{Memo, step};
 use crate::defaults::tables::Tables;
 use avro_schema::Memory;
@@ -30,8 +31,8 @@ pub(crate) fn mark_tree(
     tree: &Value,
     marks: &mut Marks,
 ) -> Result<Mark, Memory>
-    requires steps { AreSteps tables.now.parents.items marks.old.memo }
-    ensures steps { OnOk result (AreSteps tables.now.parents.items marks.new.memo) }
+    requires steps { AreSteps tables.now.parents marks.old.memo }
+    ensures steps { OnOk result (AreSteps tables.now.parents marks.new.memo) }
     ensures stays { OnOk result (Stays marks.old marks.new) }
     ensures marked { IfOk result (λ mark. (nodes : List Node) → AreTables nodes tables.now → IsMarked nodes tables.now.last marks.new (view tree.now) mark) }
 {
@@ -56,8 +57,8 @@ fn mark_leaf(
     tree: &Value,
     marks: &mut Marks,
 ) -> Result<Mark, Memory>
-    requires steps { AreSteps tables.now.parents.items marks.old.memo }
-    ensures steps { OnOk result (AreSteps tables.now.parents.items marks.new.memo) }
+    requires steps { AreSteps tables.now.parents marks.old.memo }
+    ensures steps { OnOk result (AreSteps tables.now.parents marks.new.memo) }
     ensures stays { OnOk result (Stays marks.old marks.new) }
     ensures marked { IfOk result (λ mark. (nodes : List Node) → AreTables nodes tables.now → IsMarked nodes tables.now.last marks.new (view tree.now) mark) }
 {
@@ -82,8 +83,8 @@ fn mark_array(
     mut row: Box<Row>,
     marks: &mut Marks,
 ) -> Result<Mark, Memory>
-    requires steps { AreSteps tables.now.parents.items marks.old.memo }
-    ensures steps { OnOk result (AreSteps tables.now.parents.items marks.new.memo) }
+    requires steps { AreSteps tables.now.parents marks.old.memo }
+    ensures steps { OnOk result (AreSteps tables.now.parents marks.new.memo) }
     ensures stays { OnOk result (Stays marks.old marks.new) }
     ensures marked { IfOk result (λ mark. (nodes : List Node) → AreTables nodes tables.now → Covers nodes tables.now.last (Data.array (items_view items.now.items)) row.value.words
         → IsMarked nodes tables.now.last marks.new (Data.array (items_view items.now.items)) mark) }
@@ -106,8 +107,8 @@ fn mark_object(
     mut row: Box<Row>,
     marks: &mut Marks,
 ) -> Result<Mark, Memory>
-    requires steps { AreSteps tables.now.parents.items marks.old.memo }
-    ensures steps { OnOk result (AreSteps tables.now.parents.items marks.new.memo) }
+    requires steps { AreSteps tables.now.parents marks.old.memo }
+    ensures steps { OnOk result (AreSteps tables.now.parents marks.new.memo) }
     ensures stays { OnOk result (Stays marks.old marks.new) }
     ensures marked { IfOk result (λ mark. (nodes : List Node) → AreTables nodes tables.now → Covers nodes tables.now.last (Data.object (members_view members.now.entries)) row.value.words
         → IsMarked nodes tables.now.last marks.new (Data.object (members_view members.now.entries)) mark) }
@@ -122,7 +123,9 @@ fn mark_object(
     mark_whole(alloc, tables, &row, &parts, marks)
 }
 
-/// Keeps what may have a part in a set under a label.
+/// Keeps what may have a part in a set under a label, and the maps that hold it: a member may be the value of a map as
+/// well. No row is in a frame of the recursion.
+#[inline(never)]
 fn keep_parents(
     alloc: Global,
     tables: &Tables,
@@ -131,21 +134,37 @@ fn keep_parents(
     memo: &mut Memo,
     row: &mut Box<Row>,
 ) -> Result<(), Memory>
-    requires steps { AreSteps tables.now.parents.items memo.old }
-    ensures steps { OnOk result (AreSteps tables.now.parents.items memo.new) }
+    requires steps { AreSteps tables.now.parents memo.old }
+    ensures steps { OnOk result (AreSteps tables.now.parents memo.new) }
     ensures kept { OnOk result (KeepsRows memo.old.sets memo.new.sets) }
     ensures row { OnOk result ((nodes : List Node) (d e : Data) → AreTables nodes tables.now → IsPartUnder tables.now.labels label d e
         → IsSetOf nodes tables.now.last memo.old.sets e set → Covers nodes tables.now.last d row.old.value.words
         → Covers nodes tables.now.last d row.new.value.words) }
 {
-    let Some(number) = step(alloc, &tables.parents, memo, label, set)? else {
+    let Some(under) = step(alloc, &tables.parents, memo, label, set)? else {
         return Ok(());
     };
-    let Some(parents) = row_of(&memo.sets, number) else {
+    let Some(maps) = step(alloc, &tables.parents, memo, VALUES, set)? else {
         return Ok(());
     };
-    keep_row(row, parents);
+    keep_either(row, &memo.sets, under, maps);
     Ok(())
+}
+
+/// Keeps what one of two sets has too.
+fn keep_either(row: &mut Row, sets: &Sets, one: u32, other: u32)
+    ensures { (first second : List ℕ) → row_at sets.now one ≡ Some first → row_at sets.now other ≡ Some second
+        → KeepsEither row.old.words first second row.new.words }
+{
+    let Some(first) = row_of(sets, one) else {
+        return;
+    };
+    let Some(second) = row_of(sets, other) else {
+        return;
+    };
+    let mut either = *first;
+    add_row(&mut either, second);
+    keep_row(row, &either);
 }
 
 /// Marks JSON by its row and the marks of its parts, which are put behind all others.
@@ -156,8 +175,8 @@ fn mark_whole(
     parts: &[Mark],
     marks: &mut Marks,
 ) -> Result<Mark, Memory>
-    requires steps { AreSteps tables.now.parents.items marks.old.memo }
-    ensures steps { OnOk result (AreSteps tables.now.parents.items marks.new.memo) }
+    requires steps { AreSteps tables.now.parents marks.old.memo }
+    ensures steps { OnOk result (AreSteps tables.now.parents marks.new.memo) }
     ensures stays { OnOk result (Stays marks.old marks.new) }
     ensures marked { IfOk result (λ mark. (nodes : List Node) (last : ℕ) (d : Data) → Covers nodes last d row.now.words
         → ArePartsMarked nodes last marks.old d parts.now → IsMarked nodes last marks.new d mark) }

@@ -1,13 +1,12 @@
 //! Under which labels a node is a part of which nodes, its parents: as items of arrays, as values of maps, or as
 //! fields of a name, also as a branch of a union there. A text that is a symbol has its enums as parents.
 
-ghost use Rattle.std.specs.Prelude.{◌≡◌, ◌<◌, ◌≤◌, ◌*◌, ◌+◌, ℕ, true, length, OnOk};
-ghost use Rattle.std.specs.Int.{bit_at};
-ghost use Rattle.avro_schema_json.specs.inside.Parents.{KeepsUnder, has_bit, words_of, words_under};
+ghost use Rattle.std.specs.Prelude.{◌≡◌, ◌≤◌, ℕ, true, length, OnOk};
+ghost use Rattle.avro_schema_json.specs.inside.Parents.{KeepsParents, KeepsUnder, has_bit, words_of, words_under};
 ghost use Rattle.avro_schema_json.specs.inside.Rows.{has_place, IsWithin};
 ghost use Rattle.avro_schema_json.specs.inside.Steps.{Follows};
 
-use crate::defaults::rows::{Row, empty_row};
+use crate::defaults::rows::{Row, empty_row, has};
 use avro_schema::Memory;
 use std::alloc::Global;
 use std::collections::BTreeMap;
@@ -18,22 +17,37 @@ pub(crate) const ITEMS: u32 = 0;
 /// The label of values of maps.
 pub(crate) const VALUES: u32 = 1;
 
-/// The parents of a place, by labels: the words of rows up to the last that has a bit.
-pub(crate) type Parents = BTreeMap<u32, Vec<u64>>;
+/// The parents of each place under one label: the words of rows up to the last that has a bit.
+pub(crate) type Under = BTreeMap<usize, Vec<u64>>;
 
-/// Adds a parent under a label.
-pub(crate) fn put_under(
+/// The parents under each label.
+pub(crate) type Parents = BTreeMap<u32, Under>;
+
+/// Adds a parent of a place under a label.
+pub(crate) fn put_parent(
     alloc: Global,
     parents: &mut Parents,
+    place: usize,
     label: u32,
     parent: u32,
 ) -> Result<(), Memory>
-    ensures kept { OnOk result (KeepsUnder parents.old parents.new) }
-    ensures added { OnOk result (has_bit (words_under parents.new label) parent) }
+    ensures kept { OnOk result (KeepsParents parents.old parents.new) }
+    ensures added { OnOk result (has_bit (words_of parents.new place label) parent) }
 {
-    let mut words = parents.remove(&label).unwrap_or(Vec::new(alloc));
+    let mut under = parents.remove(&label).unwrap_or(BTreeMap::new(alloc));
+    put_under(alloc, &mut under, place, parent)?;
+    parents.insert(label, under)?;
+    Ok(())
+}
+
+/// Adds a parent of a place.
+fn put_under(alloc: Global, under: &mut Under, place: usize, parent: u32) -> Result<(), Memory>
+    ensures kept { OnOk result (KeepsUnder under.old under.new) }
+    ensures added { OnOk result (has_bit (words_under under.new place) parent) }
+{
+    let mut words = under.remove(&place).unwrap_or(Vec::new(alloc));
     add_parent(&mut words, parent)?;
-    parents.insert(label, words)?;
+    under.insert(place, words)?;
     Ok(())
 }
 
@@ -60,11 +74,11 @@ fn extend_to(words: &mut Vec<u64>, count: usize) -> Result<(), Memory>
 }
 
 /// The parents of a place under a label.
-pub(crate) fn parents_at(parents: &[Parents], place: usize, label: u32) -> &[u64]
+pub(crate) fn parents_at(parents: &Parents, place: usize, label: u32) -> &[u64]
     ensures { result.now ≡ words_of parents.now place label }
 {
-    match parents.get(place) {
-        Some(of_place) => match of_place.get(&label) {
+    match parents.get(&label) {
+        Some(under) => match under.get(&place) {
             Some(words) => words.as_slice(),
             None => &[],
         },
@@ -82,29 +96,17 @@ pub(crate) fn put_parents(row: &mut Row, words: &[u64])
     }
 }
 
-/// Adds the parents under a label of the places in a word.
-fn put_word(found: &mut Row, parents: &[Parents], label: u32, word: usize, bits: u64)
-    requires { word < 64 }
-    ensures kept { IsWithin found.old.words found.new.words }
-    ensures added { (i p : ℕ) → i < 64 → bit_at bits i ≡ 1 → has_bit (words_of parents.now (word * 64 + i) label) p → has_place found.new.words p ≡ true }
-{
-    for i in 0..64usize {
-        if (bits >> i) & 1 == 1 {
-            put_parents(found, parents_at(parents, word * 64 + i, label));
-        }
-    }
-}
-
-/// The parents under a label of what is in a row, and the maps that hold it: a member may be the value of a map as well.
-pub(crate) fn parents_of_row(parents: &[Parents], label: u32, row: &Row) -> Row
+/// The parents under a label of what is in a row. Only the places that have some are looked at.
+pub(crate) fn parents_of_row(parents: &Parents, label: u32, row: &Row) -> Row
     ensures { Follows parents.now label row.now.words result.words }
 {
     let mut found = empty_row();
-    for word in 0..64 {
-        let bits = row.words[word];
-        if bits != 0 {
-            put_word(&mut found, parents, label, word, bits);
-            put_word(&mut found, parents, VALUES, word, bits);
+    let Some(under) = parents.get(&label) else {
+        return found;
+    };
+    for (place, words) in under.iter() {
+        if has(row, *place) {
+            put_parents(&mut found, words);
         }
     }
     found

@@ -24,10 +24,10 @@ pub(crate) fn empty_row() -> Row {
 }
 
 /// Whether the bit of a place is set. A place past the row counts as set.
-pub(crate) fn has(row: &Row, place: u32) -> bool
+pub(crate) fn has(row: &Row, place: usize) -> bool
     ensures { result ≡ has_place row.now.words place }
 {
-    let word = place as usize / 64;
+    let word = place / 64;
     if word < 64 {
         (row.words[word] >> (place % 64)) & 1 == 1
     } else {

@@ -20,7 +20,7 @@ pub(crate) struct Memo {
 /// The set of the parents under a label of what is in a set, found once.
 pub(crate) fn step(
     alloc: Global,
-    parents: &[Parents],
+    parents: &Parents,
     memo: &mut Memo,
     label: u32,
     set: u32,

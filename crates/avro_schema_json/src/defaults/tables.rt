@@ -19,15 +19,15 @@ use std::collections::BTreeMap;
 /// The number of places in a row.
 const PLACES: usize = 4096;
 
-/// The nodes by their kinds, and the parents of each place.
+/// The nodes by their kinds, and the parents under each label.
 #[derive(Drop)]
 pub(crate) struct Tables<'a> {
     /// The place that all nodes past it share, one past the nodes if there are not too many.
     pub last: u32,
     pub kinds: BTreeMap<Kind, Row>,
     pub labels: Labels<'a>,
-    /// Those of texts are behind those of the last place.
-    pub parents: Vec<Parents>,
+    /// A text, as one of an enum, has the place past the last.
+    pub parents: Parents,
 }
 
 /// The tables of nodes whose fields have different names.

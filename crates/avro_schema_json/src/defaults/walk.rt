@@ -103,7 +103,7 @@ pub(crate) fn is_ruled_out(walk: &Walk, mark: Option<Mark>, id: NodeId) -> bool
         return false;
     };
     match row_of(&walk.marks.memo.sets, mark.set) {
-        Some(row) => !has(row, place_of(walk.last, id.0 as usize)),
+        Some(row) => !has(row, place_of(walk.last, id.0 as usize) as usize),
         None => false,
     }
 }
@@ -113,7 +113,7 @@ fn first_in(last: u32, row: &Row, ids: &[NodeId]) -> usize
     ensures { HasNoneBefore last row.now.words (ids_of ids.now) result }
 {
     for i in 0..ids.len() {
-        if has(row, place_of(last, ids[i].0 as usize)) {
+        if has(row, place_of(last, ids[i].0 as usize) as usize) {
             return i;
         }
     }

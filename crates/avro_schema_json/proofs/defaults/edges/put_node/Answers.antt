@@ -8,7 +8,7 @@ returns-in-Array-clause-added c = grind (arith, array-parent, on_ok_weaker)
 pub returns-in-Map-clause-added : goal.returns-in-Map-clause-added
 returns-in-Map-clause-added c =
     let nodes = all_without_defaults c.args.raws.now in
-    let new = c.put_part-in-Map.new.parents.items in
+    let new = c.put_part-in-Map.new.parents in
     on_ok_weaker c.put_part-in-Map.result
     (λ parts. subst (λ (raw : RawNode). IsParent nodes c.args.last c.args.labels.now new (without_defaults raw) c.args.parent) (sym c.in-Map.is)
     (map-parent nodes c.args.last c.args.labels.now new c.args.parent c.in-Map.values.0 parts)) c.put_part-in-Map.ensures.added
@@ -17,7 +17,7 @@ pub returns-in-Record-clause-added : goal.returns-in-Record-clause-added
 returns-in-Record-clause-added c =
     let nodes = all_without_defaults c.args.raws.now in
     let labels = c.put_fields.new.labels in
-    let new = c.put_fields.new.parents.items in
+    let new = c.put_fields.new.parents in
     on_ok_weaker c.put_fields.result
     (λ fields. subst (λ (raw : RawNode). IsParent nodes c.args.last labels new (without_defaults raw) c.args.parent) (sym c.in-Record.is)
     (record-parent nodes c.args.last labels new c.args.parent _ _ _

@@ -4,5 +4,5 @@ use Rattle.avro_schema_json.proofs.defaults.edges.put_parts.Given as goal
 
 abbrev pub invariant-loop-id : goal.invariant-loop-id
 invariant-loop-id l =
-    KeepsParents l.initial.parents.items l.parents.items
-    × ((k y : ℕ) → k < l.id-index → slice_get (ids_of l.ids) k ≡ Some y → has_bit (words_of l.parents.items (place_of l.last y) l.label) l.parent)
+    KeepsParents l.initial.parents l.parents
+    × ((k y : ℕ) → k < l.id-index → slice_get (ids_of l.ids) k ≡ Some y → has_bit (words_of l.parents (place_of l.last y) l.label) l.parent)

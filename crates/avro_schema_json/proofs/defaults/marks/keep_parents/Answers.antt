@@ -1,26 +1,18 @@
-use Rattle.avro_schema_json.proofs.Words.{◌≡◌, true, List, ℕ, sym, subst, ◌∙◌, Vec, same_Some, place_of, has_place, AreSteps, LeadsTo, Row}
-use Rattle.std.specs.BTreeMap.{BTreeMap}
-use Rattle.avro_schema_json.proofs.MarksSeen.{part-covered}
+use Rattle.avro_schema_json.proofs.Words.{◌≡◌, List, ℕ, subst, Some, LeadsTo, KeepsEither, Row}
+use Rattle.avro_schema_json.specs.inside.Sets.{row_at}
+use Rattle.avro_schema_json.proofs.MarksSeen.{either-covered, leads-on}
 use Rattle.avro_schema_json.proofs.defaults.marks.keep_parents.Goals as goal
 
--- steps by the parents as they are passed, and by those of the tables
-pub step-requires : goal.step-requires
-step-requires c = record { steps = subst (λ (ps : List (BTreeMap ℕ (Vec ℕ))). AreSteps ps c.args.memo.now) (sym c.deref.ensures.value) c.requires.steps }
-
-pub returns-in_default-clause-steps : goal.returns-in_default-clause-steps
-returns-in_default-clause-steps c = subst (λ (ps : List (BTreeMap ℕ (Vec ℕ))). AreSteps ps c.step.new.memo) c.deref.ensures.value c.in_ok-number.ensures.steps
-
-pub returns-clause-steps : goal.returns-clause-steps
-returns-clause-steps c = subst (λ (ps : List (BTreeMap ℕ (Vec ℕ))). AreSteps ps c.step.new.memo) c.deref.ensures.value c.in_ok-number.ensures.steps
-
 pub returns-clause-row : goal.returns-clause-row
-returns-clause-row c = λ nodes d e are under set covers m h.
+returns-clause-row c = λ nodes d e are part set covers.
     let tables = c.args.tables.now in
-    let after = c.step.new.memo.sets in
-    let place = place_of tables.last m in
-    let found : LeadsTo c.deref.result.now after c.args.label c.args.set c.in-Some.number = rw c.in-Some.is at c.in_ok-number.ensures.found in
-    let leads = subst (λ (ps : List (BTreeMap ℕ (Vec ℕ))). LeadsTo ps after c.args.label c.args.set c.in-Some.number) c.deref.ensures.value found in
-    let words = same_Some c.in-Some-row_of.parents.now.words leads.1 (c.in-Some-row_of.ensures ∙ leads.3) in
-    c.keep_row.ensures place (subst (λ (r : Row). has_place r.words place ≡ true) (sym c.deref_mut.ensures.value) (covers m h))
-    (subst (λ (r : List ℕ). has_place r place ≡ true) (sym words)
-    (part-covered nodes tables d e c.args.label c.args.set c.in-Some.number c.args.memo.now.sets after are under set c.in_ok-number.ensures.kept leads m h))
+    let mid = c.step.new.memo.sets in
+    let after = c.step-2.new.memo.sets in
+    let new = c.keep_either.new.row.words in
+    let here : LeadsTo tables.parents mid c.args.label c.args.set c.in-Some.under = rw c.in-Some.is at c.in_ok-under.ensures.found in
+    let maps : LeadsTo tables.parents after 1 c.args.set c.in-Some-2.maps = rw c.in-Some-2.is at c.in_ok-maps.ensures.found in
+    either-covered nodes tables d e c.args.label c.args.set c.in-Some.under c.in-Some-2.maps c.args.memo.now.sets after c.args.row.now.value.words new are part set
+    (λ n row at. c.in_ok-maps.ensures.kept n row (c.in_ok-under.ensures.kept n row at))
+    (leads-on tables.parents mid after c.args.label c.args.set c.in-Some.under c.in_ok-maps.ensures.kept here) maps
+    (subst (λ (r : Row). (first second : List ℕ) → row_at after c.in-Some.under ≡ Some first → row_at after c.in-Some-2.maps ≡ Some second → KeepsEither r.words first second new)
+    c.deref_mut.ensures.value c.keep_either.ensures) covers

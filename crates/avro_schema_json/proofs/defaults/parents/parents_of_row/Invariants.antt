@@ -1,6 +1,5 @@
-use Rattle.avro_schema_json.proofs.Words.{◌≡◌, ◌⊎◌, ℕ, ◌/◌, ◌<◌, true, has_place, has_bit, words_of}
+use Rattle.avro_schema_json.proofs.ParentsSeen.{IsGathered}
 use Rattle.avro_schema_json.proofs.defaults.parents.parents_of_row.Given as goal
 
-abbrev pub invariant-loop-word : goal.invariant-loop-word
-invariant-loop-word l =
-    (y k p : ℕ) → y / 64 < l.word → (k ≡ l.label) ⊎ (k ≡ 1) → has_place l.row.words y ≡ true → has_bit (words_of l.parents y k) p → has_place l.found.words p ≡ true
+abbrev pub invariant-loop-place : goal.invariant-loop-place
+invariant-loop-place l = IsGathered l.parents l.fn.label l.place-iterator l.row.words l.found.words
