@@ -123,15 +123,30 @@ def one_set(records, maps, holders, labels):
         fields += [{"name": f"r{k}", "type": record(f"R{k}")} for k in range(records)]
         fields += [{"name": f"m{k}", "type": {"type": "map", "values": f"R{k}"}} for k in range(maps)]
         fields += [{"name": f"h{k}", "type": record(f"H{k}", A=f"R{k}")} for k in range(holders)]
-        fields.append({"name": "of", "type": record("Of", m={"type": "map", "values": "R0"})})
-        left = size - len(written({"type": "record", "name": "Root", "fields": fields}))
-        while True:
-            last = {"name": f"d{len(fields)}", "type": "Of", "default": {"m": {label: {} for label in LETTERS[:labels]}}}
-            left -= len(written(last)) + 1
-            if left < 0:
-                return written({"type": "record", "name": "Root", "fields": fields})
-            fields.append(last)
+        return asked("R0", fields, labels, size)
     return text
+
+
+def one_set_held(records, labels):
+    """The same of records that a last one may all have under each label."""
+    def text(size):
+        names = WORDS[:records]
+        fields = [{"name": f"r{k}", "type": record(name)} for k, name in enumerate(names)]
+        fields.append({"name": "all", "type": record("All", **{label: names for label in LETTERS[:labels]})})
+        return asked(names[0], fields, labels, size)
+    return text
+
+
+def asked(name, fields, labels, size):
+    """The text of a record with these fields and as many defaults as fit: maps of a member of the record of this name for each label."""
+    fields.append({"name": "of", "type": record("_Of", m={"type": "map", "values": name})})
+    left = size - len(written({"type": "record", "name": "Root", "fields": fields}))
+    while True:
+        last = {"name": f"d{len(fields)}", "type": "_Of", "default": {"m": {label: {} for label in LETTERS[:labels]}}}
+        left -= len(written(last)) + 1
+        if left < 0:
+            return written({"type": "record", "name": "Root", "fields": fields})
+        fields.append(last)
 
 
 KINDS = {
@@ -144,4 +159,5 @@ KINDS = {
     "members 2000 x 2": members(2000, 2), "members 1000 x 6": members(1000, 6), "members 300 x 20": members(300, 20),
     "symbols twice": symbols_twice, "many defaults": many_defaults,
     "one set, 53 labels": one_set(3900, 0, 0, 53), "one set, a label": one_set(1300, 0, 1300, 1), "one set in maps": one_set(1900, 1900, 0, 1),
+    "one set held under 20 labels": one_set_held(2000, 20),
 }
