@@ -1,7 +1,7 @@
 use avro_binary::{Build, ReadError};
 use avro_certificate::Certificate;
-use avro_resolve::{Comparison, Plan, PlanTable, ReadResolveError};
-use avro_schema::{Limits, Memory, Schema};
+use avro_resolve::{Plan, PlanTable, ReadResolveError};
+use avro_schema::{Limits, Schema};
 use std::alloc::Global;
 use std::marker::Model;
 
@@ -48,37 +48,31 @@ impl<'a> Approved<'a> {
     ghost use Rattle.avro_cursor.specs.Encoding.{Encodes};
     ghost use Rattle.avro_cursor.specs.Fault.{ReadFault};
     ghost use Rattle.avro_cursor.specs.Seen.{read_fault, UnlessOutOfMemory, Reports};
-    ghost use Rattle.avro_compare.specs.Planned.{AreComparisons};
     ghost use Rattle.avro_resolve.specs.Reading.{ReadsAs};
+    ghost use Rattle.avro_resolve.specs.Tables.{IsTableOf};
     ghost use Rattle.avro_compare.specs.Resolve.{resolve_root};
     ghost use Rattle.avro_certificate.specs.Compatible.{AreCompatible};
     ghost use Rattle.avro_judge.specs.inside.Judged.{IsCertificateOf};
 
-    /// The approval of two compatible schemas, from comparisons of pairs of their nodes, and their certificate
+    /// The approval of two compatible schemas, from what a plan keeps of pairs of their nodes, and their certificate
     /// if it was made.
-    ///
-    /// # Errors
-    ///
-    /// Memory ran out.
     pub(crate) fn by(
-        alloc: Global,
         writer: &'a Schema,
         reader: &'a Schema,
-        found: Vec<Comparison>,
+        table: PlanTable,
         certificate: Option<Certificate>,
-    ) -> Result<Approved<'a>, Memory>
+    ) -> Approved<'a>
         requires compatible { AreCompatible (schema_nodes writer.now) (schema_nodes reader.now) }
-        requires found { AreComparisons (schema_nodes writer.now) (schema_nodes reader.now) found.items }
+        requires table { IsTableOf (schema_nodes writer.now) (schema_nodes reader.now) table }
         requires certified { IfSome certificate (IsCertificateOf (schema_nodes writer.now) (schema_nodes reader.now)) }
-        ensures { IfOk result (λ a. a ≡ (writer.now, reader.now)) }
+        ensures { result ≡ (writer.now, reader.now) }
     {
-        let table = PlanTable::of(alloc, writer, reader, found)?;
-        Ok(Approved {
+        Approved {
             writer,
             reader,
             plan: Plan::of(writer, reader, table),
             certificate,
-        })
+        }
     }
 
     /// Reads a writer's datum from the start of some bytes and resolves it; returns what the builder makes of

@@ -6,6 +6,7 @@ ghost use Rattle.avro_certificate.specs.SeenCertificate.{dead_of, pairs_in};
 
 use crate::approval::Approved;
 use avro_certificate::{Certificate, find_closed};
+use avro_resolve::PlanTable;
 use avro_schema::{Memory, Schema};
 use std::alloc::Global;
 
@@ -34,8 +35,8 @@ pub fn confirm<'a>(
     let _ = reader.len();
     match find_closed(alloc, writer, reader, certificate)? {
         Some(found) => {
-            let approved = Approved::by(alloc, writer, reader, found, None)?;
-            Ok(Some(approved))
+            let table = PlanTable::of(alloc, writer, reader, found)?;
+            Ok(Some(Approved::by(writer, reader, table, None)))
         }
         None => Ok(None),
     }

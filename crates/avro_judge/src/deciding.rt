@@ -17,7 +17,6 @@ use avro_certificate::Certificate;
 use avro_least::{
     Least, Reached, Tables, build_error, count, least_data, least_errors, pair_entry, reach,
 };
-use avro_resolve::Comparison;
 use avro_schema::{Datum, Memory, NodeId, Schema};
 use std::alloc::Global;
 
@@ -89,17 +88,17 @@ fn judge_roots(alloc: Global, tables: &Tables, deepest: u32) -> Result<Judged, M
 }
 
 /// Decides whether some datum of the writer's errs, and finds a smallest one that does. Also returns the
-/// comparisons of the pairs of nodes that the roots lead to.
+/// pairs of nodes that the roots lead to.
 pub(crate) fn decide(
     alloc: Global,
     writer: &Schema,
     reader: &Schema,
     limit: u32,
     deepest: u32,
-) -> Result<(Judged, Vec<Comparison>), Memory>
+) -> Result<(Judged, Reached), Memory>
     requires range { limit ≤ 16777216 }
     ensures judged { IfOk result (λ r. IsJudged (schema_nodes writer.now) (schema_nodes reader.now) limit deepest r.0) }
-    ensures found { IfOk result (λ r. AreComparisons (schema_nodes writer.now) (schema_nodes reader.now) r.1.items) }
+    ensures found { IfOk result (λ r. AreComparisons (schema_nodes writer.now) (schema_nodes reader.now) r.1.found.items) }
 {
     let table = least_data(alloc, writer, limit)?;
     let reached = reach(alloc, writer, reader, &table)?;
@@ -114,7 +113,7 @@ pub(crate) fn decide(
         entries: &entries,
     };
     let judged = judge_roots(alloc, &tables, deepest)?;
-    Ok((judged, reached.found))
+    Ok((judged, reached))
 }
 
 /// The certificate of two compatible schemas. The smallest limits suffice, as it only matters whether a

@@ -12,6 +12,7 @@ use crate::deciding::{Judged, decide};
 use crate::faults::fault_of_datum;
 use crate::limits::JudgeLimits;
 use crate::verdict::{Cause, Refutation, Verdict};
+use avro_resolve::PlanTable;
 use avro_schema::{Memory, Schema};
 use std::alloc::Global;
 
@@ -62,16 +63,17 @@ pub fn judge<'a>(
         return Ok(Verdict::Undecided(Cause::Pairs));
     }
     let depth = limits.limits().depth();
-    let (judged, found) = decide(alloc, writer, reader, limits.size(), depth)?;
+    let (judged, reached) = decide(alloc, writer, reader, limits.size(), depth)?;
     match judged {
         Judged::Compatible(certificate) => {
-            let approved = Approved::by(alloc, writer, reader, found, Some(certificate))?;
+            let table = PlanTable::of_known(alloc, writer, reader, reached.found, reached.known)?;
+            let approved = Approved::by(writer, reader, table, Some(certificate));
             Ok(Verdict::Approved(approved))
         }
         Judged::Size => Ok(Verdict::Undecided(Cause::Size)),
         Judged::Depth => Ok(Verdict::Undecided(Cause::Depth)),
         Judged::Erring(datum) => {
-            let fault = fault_of_datum(alloc, writer, reader, found, &datum)?;
+            let fault = fault_of_datum(alloc, writer, reader, reached, &datum)?;
             Ok(Verdict::Refuted(Refutation { datum, fault }))
         }
     }

@@ -19,7 +19,8 @@
 //! parts, and compares no names, except for a symbol of an enum whose symbols are not kept. An entry says which pair it is
 //! of, and any other pair is compared by names: so an index needs no proof, and a wrong one only costs time. The invariant
 //! is that what is kept of a pair is what the definitions say of it. `read_resolved` reads by a plan that keeps no pair, so
-//! both have one proof. `PlanTable::of_one_read` looks pairs up as they are met, for a table that reads one datum.
+//! both have one proof. `PlanTable::of_one_read` looks pairs up as they are met, for a table that reads one datum. Wherever an index
+//! is looked for, it is in a set of the numbers of the pairs; what judging has found by such a set, it hands on with it.
 //!
 //! A table also marks records that can be copied as raw bytes: the pair leads to the reader's record, no field is missing,
 //! and each field that has a source is a leaf whose encoding is the same for the reader, as an int's is for a long. Such a

@@ -1,8 +1,7 @@
 pub(crate) mod flagging;
-pub(crate) mod found;
 pub(crate) mod keeping;
+pub(crate) mod known;
 pub(crate) mod ordering;
-pub(crate) mod pair_order;
 pub(crate) mod parts;
 pub(crate) mod plan_pair;
 pub(crate) mod plan_ref;

@@ -3,8 +3,8 @@ ghost use Rattle.avro_schema.specs.SeenSchema.{schema_nodes};
 ghost use Rattle.avro_resolve.specs.Reading.{BuildsResolved, ReadsResolved};
 
 use crate::error::ReadResolveError;
-use crate::plan::pair_order::PairOrder;
 use crate::plan::plan_ref::PlanRef;
+use crate::plan::plan_table::PlanTable;
 use crate::resolving::Resolving;
 use crate::resolving::failing::turn_apart;
 use crate::resolving::guided::Made;
@@ -50,8 +50,8 @@ pub fn read_resolved<B: Build>(
 ) -> Result<(B::Out, usize), ReadResolveError>
     ensures { BuildsResolved B.stands_for (schema_nodes writer.now) (schema_nodes reader.now) limits.now bytes.now result }
 {
-    let order = PairOrder::none(alloc);
-    let plan = PlanRef::new(writer, reader, &[], &[], &[], 0, &order);
+    let table = PlanTable::none(alloc);
+    let plan = table.plan(writer, reader);
     read_planned(alloc, &plan, bytes, limits, builder)
 }
 

@@ -154,7 +154,11 @@ fn is_copied(
     requires { AreComparisons (schema_nodes writer.now) (schema_nodes reader.now) pairs.now }
     ensures { result ≡ true → IsCopied (schema_nodes writer.now) (schema_nodes reader.now) (node_at (schema_nodes writer.now) w.0) (node_at (schema_nodes reader.now) r.0) }
 {
-    let kept = Kept { pairs, order: None };
+    let kept = Kept {
+        pairs,
+        known: None,
+        count: 0,
+    };
     match aim_kept(kept, index, writer, w, reader, r) {
         Aim::To(None, q) => {
             if q != r {

@@ -8,17 +8,21 @@ ghost use Rattle.avro_compare.specs.Resolve.{enum_as, fields_at, symbol_at};
 ghost use Rattle.avro_compare.specs.Source.{missing_field};
 ghost use Rattle.avro_resolve.specs.inside.Guided.{IsWhole, known_part};
 
-use crate::plan::pair_order::PairOrder;
+use crate::plan::known::index_in;
 use avro_compare::{
     Aim, At, Comparison, aim, fields_of, first_entry, missing, part_for, symbol_for,
 };
 use avro_schema::{NodeId, Schema};
+use avro_texts::Seeded;
+use indexmap::IndexSet;
 
-/// What is kept of pairs of nodes, and the order by which the index of a pair is found, if there is one.
+/// What is kept of pairs of nodes, and the numbers by which the index of a pair is found, if they are kept.
 #[derive(Clone, Copy)]
 pub(crate) struct Kept<'p> {
     pub(crate) pairs: &'p [Comparison],
-    pub(crate) order: Option<&'p PairOrder>,
+    pub(crate) known: Option<&'p IndexSet<u64, Seeded>>,
+    // How many nodes the reader has.
+    pub(crate) count: u32,
 }
 
 /// What is kept at an index, if it is of these two nodes.
@@ -38,19 +42,19 @@ fn pair_of(pairs: &[Comparison], index: u32, w: NodeId, r: NodeId) -> Option<&Co
     }
 }
 
-/// What is kept of two nodes, where the order of the pairs has them.
+/// What is kept of two nodes, where their number is kept.
 fn pair_by<'p>(kept: Kept<'p>, w: NodeId, r: NodeId) -> Option<&'p Comparison>
     ensures { (writer reader : List Node) → AreComparisons writer reader kept.entry.pairs.now
         → IfSome result (λ p. IsComparison writer reader p.now × (p.now.w ≡ w) × (p.now.r ≡ r)) }
 {
-    match kept.order {
-        Some(order) => pair_of(kept.pairs, order.index_of(w, r), w, r),
+    match kept.known {
+        Some(known) => pair_of(kept.pairs, index_in(known, kept.count, w, r), w, r),
         None => None,
     }
 }
 
-/// What is kept of two nodes and inside them, where the order of the pairs has them. It stands apart from what reading runs
-/// through where it is passed the indices.
+/// What is kept of two nodes and inside them, where their number is kept. It stands apart from what reading runs through
+/// where it is passed the indices.
 #[cold]
 #[inline(never)]
 fn inside_by<'p>(kept: Kept<'p>, w: NodeId, q: NodeId) -> Option<&'p Comparison>
@@ -67,7 +71,7 @@ fn inside_by<'p>(kept: Kept<'p>, w: NodeId, q: NodeId) -> Option<&'p Comparison>
     }
 }
 
-/// What is kept of two nodes and inside them, at an index or else where the order of the pairs has them.
+/// What is kept of two nodes and inside them, at an index or else where their number is kept.
 #[inline(always)]
 fn inside_of<'p>(kept: Kept<'p>, index: u32, w: NodeId, q: NodeId) -> Option<&'p Comparison>
     ensures { (writer reader : List Node) → AreComparisons writer reader kept.entry.pairs.now
@@ -83,8 +87,7 @@ fn inside_of<'p>(kept: Kept<'p>, index: u32, w: NodeId, q: NodeId) -> Option<&'p
     }
 }
 
-/// Where a pair of nodes leads, as it is kept where the order of the pairs has them, or else by name. It stands apart as
-/// well.
+/// Where a pair of nodes leads, as it is kept where their number is kept, or else by name. It stands apart as well.
 #[cold]
 #[inline(never)]
 fn aim_by(kept: Kept<'_>, writer: &Schema, w: NodeId, reader: &Schema, r: NodeId) -> Aim

@@ -1,9 +1,11 @@
 ghost use Rattle.avro_schema.specs.SeenSchema.{schema_nodes};
 ghost use Rattle.avro_compare.specs.Planned.{AreComparisons, IsComparison};
 
-use crate::plan::pair_order::PairOrder;
+use crate::plan::known::{count, index_in};
 use avro_compare::{At, Comparison, Names, has_fault, leads};
 use avro_schema::{Memory, NodeId, Schema};
+use avro_texts::Seeded;
+use indexmap::IndexSet;
 use std::alloc::Global;
 
 /// The pairs of the parts of a pair, in the order by which reading counts them; none where nothing is made of them.
@@ -39,24 +41,23 @@ fn field_parts(alloc: Global, fields: &[(usize, At)]) -> Result<Vec<(NodeId, Nod
     Ok(parts)
 }
 
-/// The indices of the pairs of the parts of each pair, and the index of the roots' pair.
+/// The indices of the pairs of the parts of each pair, by the numbers of these pairs.
 pub(crate) fn indices_of(
     alloc: Global,
     writer: &Schema,
     reader: &Schema,
     pairs: &[Comparison],
-) -> Result<(Vec<Vec<u32>>, u32), Memory>
+    known: &IndexSet<u64, Seeded>,
+) -> Result<Vec<Vec<u32>>, Memory>
     requires { AreComparisons (schema_nodes writer.now) (schema_nodes reader.now) pairs.now }
 {
     let names = Names::none(alloc, writer, reader);
-    let order = PairOrder::of(alloc, writer.len(), pairs)?;
-    let root = order.index_of(writer.root(), reader.root());
     let mut indices = Vec::new(alloc);
     for index in 0..pairs.len() {
-        let parts = indices_of_parts(alloc, &names, &pairs[index], &order)?;
+        let parts = indices_of_parts(alloc, &names, &pairs[index], known)?;
         indices.push(parts)?;
     }
-    Ok((indices, root))
+    Ok(indices)
 }
 
 /// The indices of the pairs of the parts of a pair.
@@ -64,13 +65,13 @@ fn indices_of_parts(
     alloc: Global,
     names: &Names,
     pair: &Comparison,
-    order: &PairOrder,
+    known: &IndexSet<u64, Seeded>,
 ) -> Result<Vec<u32>, Memory>
     requires { IsComparison (schema_nodes names.now.0) (schema_nodes names.now.1) pair.now }
 {
     let mut indices = Vec::new(alloc);
     for part in &parts_of(alloc, names, pair)? {
-        indices.push(order.index_of(part.0, part.1))?;
+        indices.push(index_in(known, count(names.reader()), part.0, part.1))?;
     }
     Ok(indices)
 }

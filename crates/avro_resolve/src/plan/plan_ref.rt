@@ -6,7 +6,7 @@ use crate::plan::flagging::{is_set, straight_kept};
 use crate::plan::keeping::{
     Kept, aim_kept, field_kept, fields_kept, missing_kept, sources_kept, symbol_kept, whole_kept,
 };
-use crate::plan::pair_order::PairOrder;
+use crate::plan::known::count;
 use crate::plan::parts::{branch_of, items_of, values_of};
 use crate::read::{put_planned, read_planned};
 use crate::resolution::put_datum;
@@ -14,6 +14,8 @@ use crate::resolving::guided::Part;
 use avro_binary::{Build, Put};
 use avro_compare::{Aim, At, Comparison};
 use avro_schema::{Datum, Limits, NodeId, Schema};
+use avro_texts::Seeded;
+use indexmap::IndexSet;
 use std::alloc::Global;
 use std::marker::Model;
 
@@ -65,7 +67,7 @@ impl<'a> PlanRef<'a> {
 
     /// The plan of two schemas that keeps these pairs. `parts` holds for each pair the indices of the pairs of its
     /// parts, `flags` which pairs are straight, and `root` is the index of the roots' pair. A pair that is not at its
-    /// index is looked for in `order`, and if it is not there it is resolved by its names.
+    /// index is looked for by its number, where `known` has those of all, and else it is resolved by its names.
     pub(crate) fn new(
         writer: &'a Schema,
         reader: &'a Schema,
@@ -73,7 +75,7 @@ impl<'a> PlanRef<'a> {
         parts: &'a [Vec<u32>],
         flags: &'a [bool],
         root: u32,
-        order: &'a PairOrder,
+        known: Option<&'a IndexSet<u64, Seeded>>,
     ) -> PlanRef<'a>
         requires pairs { AreComparisons (schema_nodes writer.now) (schema_nodes reader.now) pairs.now }
         requires flags { AreFlags (schema_nodes writer.now) (schema_nodes reader.now) pairs.now flags.now }
@@ -84,7 +86,8 @@ impl<'a> PlanRef<'a> {
             reader,
             kept: Kept {
                 pairs,
-                order: Some(order),
+                known,
+                count: count(reader),
             },
             parts,
             flags,

@@ -1,27 +1,44 @@
 use crate::plan::flagging::flags_of;
+use crate::plan::known::{count, index_in, numbers_of};
 use crate::plan::ordering::indices_of;
-use crate::plan::pair_order::PairOrder;
 use crate::plan::plan_ref::PlanRef;
 use crate::plan::walking::compare_reached;
 use avro_compare::Comparison;
 use avro_schema::{Memory, Schema};
+use avro_texts::Seeded;
+use indexmap::IndexSet;
 use std::alloc::Global;
 
 /// What a plan keeps of pairs of nodes of two schemas, without the schemas.
-#[derive(Debug, Drop)]
+#[derive(Drop)]
 pub struct PlanTable {
     pub(crate) pairs: Vec<Comparison>,
     parts: Vec<Vec<u32>>,
     pub(crate) flags: Vec<bool>,
     root: u32,
-    order: PairOrder,
+    // The number of each pair, for a table that has no parts.
+    known: Option<IndexSet<u64, Seeded>>,
 }
 
 impl PlanTable {
-    ghost use Rattle.std.specs.Prelude.{◌≡◌, IfOk};
+    ghost use Rattle.std.specs.Prelude.{◌≡◌, List, IfOk};
+    ghost use Rattle.avro_schema.specs.Node.{Node};
     ghost use Rattle.avro_schema.specs.SeenSchema.{schema_nodes};
     ghost use Rattle.avro_compare.specs.Planned.{AreComparisons};
     ghost use Rattle.avro_resolve.specs.Tables.{IsTableOf};
+
+    /// What a plan keeps of no pairs.
+    pub(crate) fn none(alloc: Global) -> PlanTable
+        ensures { (writer reader : List Node) → IsTableOf writer reader result }
+    {
+        PlanTable {
+            pairs: Vec::new(alloc),
+            parts: Vec::new(alloc),
+            flags: Vec::new(alloc),
+            root: 0,
+            known: None,
+        }
+    }
 
     /// What a plan keeps of these pairs of nodes, each as [`compare`](crate::compare) found it.
     ///
@@ -37,40 +54,54 @@ impl PlanTable {
         requires { AreComparisons (schema_nodes writer.now) (schema_nodes reader.now) pairs.items }
         ensures { IfOk result (λ table. IsTableOf (schema_nodes writer.now) (schema_nodes reader.now) table) }
     {
-        let (parts, root) = indices_of(alloc, writer, reader, &pairs)?;
+        let known = numbers_of(alloc, writer, reader, &pairs)?;
+        PlanTable::of_known(alloc, writer, reader, pairs, known)
+    }
+
+    /// The same by the numbers of the pairs, in their order. The number of a pair is that of the writer's node times the
+    /// count of the reader's nodes, plus that of the reader's node. Other numbers cost time, and change no result.
+    ///
+    /// # Errors
+    ///
+    /// Memory ran out.
+    pub fn of_known(
+        alloc: Global,
+        writer: &Schema,
+        reader: &Schema,
+        pairs: Vec<Comparison>,
+        known: IndexSet<u64, Seeded>,
+    ) -> Result<PlanTable, Memory>
+        requires { AreComparisons (schema_nodes writer.now) (schema_nodes reader.now) pairs.items }
+        ensures { IfOk result (λ table. IsTableOf (schema_nodes writer.now) (schema_nodes reader.now) table) }
+    {
+        let parts = indices_of(alloc, writer, reader, &pairs, &known)?;
         let flags = flags_of(alloc, writer, reader, &pairs, &parts)?;
         Ok(PlanTable {
             pairs,
             parts,
             flags,
-            root,
-            order: PairOrder::none(alloc),
+            root: index_in(&known, count(reader), writer.root(), reader.root()),
+            known: None,
         })
     }
 
-    /// The same for the reading of one datum: the pairs in order of their nodes, in place of those of the parts of each.
-    /// It is made in less time and memory. Reading looks for each pair by its nodes, and copies no record as it stands.
-    ///
-    /// # Errors
-    ///
-    /// Memory ran out.
+    /// The same as [`of_known`](PlanTable::of_known) for the reading of one datum: it keeps the numbers of the pairs, in
+    /// place of the parts of each, and is made in no time. Reading looks for each pair by its nodes, and copies no record
+    /// as it stands.
     pub fn of_one_read(
         alloc: Global,
-        writer: &Schema,
-        reader: &Schema,
         pairs: Vec<Comparison>,
-    ) -> Result<PlanTable, Memory>
-        requires { AreComparisons (schema_nodes writer.now) (schema_nodes reader.now) pairs.items }
-        ensures { IfOk result (λ table. IsTableOf (schema_nodes writer.now) (schema_nodes reader.now) table) }
+        known: IndexSet<u64, Seeded>,
+    ) -> PlanTable
+        ensures { (writer reader : List Node) → AreComparisons writer reader pairs.items → IsTableOf writer reader result }
     {
-        let order = PairOrder::of(alloc, writer.len(), &pairs)?;
-        Ok(PlanTable {
+        PlanTable {
             pairs,
             parts: Vec::new(alloc),
             flags: Vec::new(alloc),
             root: 0,
-            order,
-        })
+            known: Some(known),
+        }
     }
 
     /// What a plan keeps of the pairs that the roots lead to.
@@ -88,7 +119,7 @@ impl PlanTable {
             parts,
             flags,
             root: 0,
-            order: PairOrder::none(alloc),
+            known: None,
         })
     }
 
@@ -104,7 +135,7 @@ impl PlanTable {
             &self.parts,
             &self.flags,
             self.root,
-            &self.order,
+            self.known.as_ref(),
         )
     }
 }
