@@ -1,7 +1,7 @@
 //! Pairs of nodes by number, each once, and the index of each among them. It is a hint: what is kept at an index says
 //! which pair it is of.
 
-use avro_compare::{Comparison, seed_of};
+use avro_compare::{Comparison, Names};
 use avro_schema::{Memory, NodeId, Schema};
 use avro_texts::Seeded;
 use indexmap::IndexSet;
@@ -66,7 +66,8 @@ pub(crate) fn numbers_of(
     reader: &Schema,
     pairs: &[Comparison],
 ) -> Result<IndexSet<u64, Seeded>, Memory> {
-    let mut known = IndexSet::with_hasher(alloc, seed_of(writer, reader));
+    let names = Names::none(alloc, writer, reader);
+    let mut known = IndexSet::with_hasher(alloc, names.seed());
     for index in 0..pairs.len() {
         let pair = &pairs[index];
         if !known.insert(number(count(reader), pair.w, pair.r))? {

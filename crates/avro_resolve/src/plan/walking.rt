@@ -4,7 +4,7 @@ ghost use Rattle.avro_compare.specs.Planned.{AreComparisons, IsComparison};
 
 use crate::plan::known::{count, index_added, pair_at};
 use crate::plan::ordering::parts_of;
-use avro_compare::{Comparison, Names, compare, seed_of};
+use avro_compare::{Comparison, Names, compare};
 use avro_schema::{Memory, Schema};
 use avro_texts::Seeded;
 use indexmap::IndexSet;
@@ -23,7 +23,7 @@ pub(crate) fn compare_reached(
     ensures { IfOk result (λ r. AreComparisons (schema_nodes writer.now) (schema_nodes reader.now) r.0.items) }
 {
     let names = Names::new(alloc, writer, reader)?;
-    let mut known = IndexSet::with_hasher(alloc, seed_of(names.writer(), names.reader()));
+    let mut known = IndexSet::with_hasher(alloc, names.seed());
     index_added(&mut known, count(reader), writer.root(), reader.root())?;
     let mut kept = Vec::new(alloc);
     let mut parts = Vec::new(alloc);
