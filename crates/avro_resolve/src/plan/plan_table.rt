@@ -86,8 +86,8 @@ impl PlanTable {
     }
 
     /// The same as [`of_known`](PlanTable::of_known) for the reading of one datum: it keeps the numbers of the pairs, in
-    /// place of the parts of each, and is made in no time. Reading looks for each pair by its nodes, and copies no record
-    /// as it stands.
+    /// place of the indices of the parts of each. Reading looks for each pair by its nodes, and copies no record as it
+    /// stands.
     pub fn of_one_read(
         alloc: Global,
         pairs: Vec<Comparison>,
