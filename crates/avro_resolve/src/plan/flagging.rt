@@ -8,63 +8,47 @@ ghost use Rattle.avro_compare.specs.Planned.{AreComparisons, AreSources, IsCompa
 ghost use Rattle.avro_compare.specs.Resolve.{fields_at};
 ghost use Rattle.avro_resolve.specs.Copied.{AreCopied, AreFlags, CopiedFrom, IsCopied, IsStraight, is_as_written};
 
-use crate::plan::keeping::{Kept, aim_kept};
-use crate::plan::plan_ref::index_at;
+use crate::plan::known::narrow;
+use crate::plan::plan_ref::{PlanRef, index_at};
 use avro_compare::{Aim, Comparison, fields_of, first_entry, rest_entries};
 use avro_schema::{Field, Memory, Node, NodeId, Schema};
 use std::alloc::Global;
 
 /// Of each pair that is kept whether it is straight, by the indices of the pairs of its parts.
-pub(crate) fn flags_of(
+pub(crate) fn flags_of<'a>(
     alloc: Global,
-    writer: &Schema,
-    reader: &Schema,
-    pairs: &[Comparison],
-    parts: &[Vec<u32>],
+    writer: &'a Schema,
+    reader: &'a Schema,
+    pairs: &'a [Comparison],
+    parts: &'a [Vec<u32>],
 ) -> Result<Vec<bool>, Memory>
     requires { AreComparisons (schema_nodes writer.now) (schema_nodes reader.now) pairs.now }
     ensures { IfOk result (λ flags. AreFlags (schema_nodes writer.now) (schema_nodes reader.now) pairs.now flags.items) }
 {
+    let plan = PlanRef::new(writer, reader, pairs, parts, &[], 0, None);
     let mut flags = Vec::new(alloc);
     for index in 0..pairs.len() {
         let pair = &pairs[index];
-        let below = below_at(parts, index);
-        let flag = is_straight(writer, reader, pairs, below, pair);
-        flags.push(flag)?;
+        flags.push(is_straight(&plan, plan.parts(narrow(index)), pair))?;
     }
     Ok(flags)
 }
 
-/// The indices of the pairs of the parts of the pair at an index.
-fn below_at(parts: &[Vec<u32>], index: usize) -> &[u32] {
-    match parts.get(index) {
-        Some(below) => below,
-        None => &[],
-    }
-}
-
 /// Whether a pair leads to the reader's record itself, no field is missing, and each field is copied or has its default.
-fn is_straight(
-    writer: &Schema,
-    reader: &Schema,
-    pairs: &[Comparison],
-    below: &[u32],
-    pair: &Comparison,
-) -> bool
-    requires kept { AreComparisons (schema_nodes writer.now) (schema_nodes reader.now) pairs.now }
-    requires pair { IsComparison (schema_nodes writer.now) (schema_nodes reader.now) pair.now }
-    ensures { result ≡ true → IsStraight (schema_nodes writer.now) (schema_nodes reader.now) pair.now.w pair.now.r
-        × AreSources (fields_at (node_at (schema_nodes writer.now) pair.now.w.0)) (fields_at (node_at (schema_nodes reader.now) pair.now.r.0)) pair.now.sources.items }
+fn is_straight(plan: &PlanRef<'_>, below: &[u32], pair: &Comparison) -> bool
+    requires { IsComparison (schema_nodes plan.now.0) (schema_nodes plan.now.1) pair.now }
+    ensures { result ≡ true → IsStraight (schema_nodes plan.now.0) (schema_nodes plan.now.1) pair.now.w pair.now.r
+        × AreSources (fields_at (node_at (schema_nodes plan.now.0) pair.now.w.0)) (fields_at (node_at (schema_nodes plan.now.1) pair.now.r.0)) pair.now.sources.items }
 {
     match pair.aim {
         Aim::To(None, _) => match pair.missing {
             None => {
-                let writes = fields_of(writer, pair.w);
-                let reads = fields_of(reader, pair.r);
-                if !have_leaves(writer, writes) {
+                let writes = fields_of(plan.writer(), pair.w);
+                let reads = fields_of(plan.reader(), pair.r);
+                if !have_leaves(plan.writer(), writes) {
                     return false;
                 }
-                are_copied(writer, reader, pairs, below, writes, reads, &pair.sources)
+                are_copied(plan, below, writes, reads, &pair.sources)
             }
             Some(_) => false,
         },
@@ -86,24 +70,21 @@ fn have_leaves(writer: &Schema, writes: &[Field]) -> bool {
 
 /// Whether each reader's field that has a source is copied from it.
 fn are_copied(
-    writer: &Schema,
-    reader: &Schema,
-    pairs: &[Comparison],
+    plan: &PlanRef<'_>,
     below: &[u32],
     writes: &[Field],
     reads: &[Field],
     sources: &[(usize, usize)],
 ) -> bool
-    requires kept { AreComparisons (schema_nodes writer.now) (schema_nodes reader.now) pairs.now }
-    requires sources { AreSources (seen_fields writes.now) (seen_fields reads.now) sources.now }
-    ensures { result ≡ true → AreCopied (schema_nodes writer.now) (schema_nodes reader.now) (seen_fields writes.now) (seen_fields reads.now) }
+    requires { AreSources (seen_fields writes.now) (seen_fields reads.now) sources.now }
+    ensures { result ≡ true → AreCopied (schema_nodes plan.now.0) (schema_nodes plan.now.1) (seen_fields writes.now) (seen_fields reads.now) }
 {
     let mut left = sources;
     for index in 0..reads.len() {
         let f = &reads[index];
         let source = first_entry(left, index);
         left = rest_entries(left, index);
-        if !is_field_copied(writer, reader, pairs, below, writes, source, f) {
+        if !is_field_copied(plan, below, writes, source, f) {
             return false;
         }
     }
@@ -112,16 +93,13 @@ fn are_copied(
 
 /// Whether a reader's field is copied from its source, where it has one.
 fn is_field_copied(
-    writer: &Schema,
-    reader: &Schema,
-    pairs: &[Comparison],
+    plan: &PlanRef<'_>,
     below: &[u32],
     writes: &[Field],
     source: Option<usize>,
     f: &Field,
 ) -> bool
-    requires { AreComparisons (schema_nodes writer.now) (schema_nodes reader.now) pairs.now }
-    ensures { (k : ℕ) → source ≡ Some k → result ≡ true → CopiedFrom (schema_nodes writer.now) (schema_nodes reader.now) (seen_fields writes.now) (field_of f.now) k }
+    ensures { (k : ℕ) → source ≡ Some k → result ≡ true → CopiedFrom (schema_nodes plan.now.0) (schema_nodes plan.now.1) (seen_fields writes.now) (field_of f.now) k }
 {
     match source {
         Some(field) => {
@@ -129,42 +107,22 @@ fn is_field_copied(
                 return false;
             }
             let from = &writes[field];
-            is_copied(
-                pairs,
-                index_at(below, field),
-                writer,
-                from.node,
-                reader,
-                f.node,
-            )
+            is_copied(plan, index_at(below, field), from.node, f.node)
         }
         None => true,
     }
 }
 
 /// Whether the encoding of a datum of a writer's leaf is also that of what it is for the reader's.
-fn is_copied(
-    pairs: &[Comparison],
-    index: u32,
-    writer: &Schema,
-    w: NodeId,
-    reader: &Schema,
-    r: NodeId,
-) -> bool
-    requires { AreComparisons (schema_nodes writer.now) (schema_nodes reader.now) pairs.now }
-    ensures { result ≡ true → IsCopied (schema_nodes writer.now) (schema_nodes reader.now) (node_at (schema_nodes writer.now) w.0) (node_at (schema_nodes reader.now) r.0) }
+fn is_copied(plan: &PlanRef<'_>, index: u32, w: NodeId, r: NodeId) -> bool
+    ensures { result ≡ true → IsCopied (schema_nodes plan.now.0) (schema_nodes plan.now.1) (node_at (schema_nodes plan.now.0) w.0) (node_at (schema_nodes plan.now.1) r.0) }
 {
-    let kept = Kept {
-        pairs,
-        known: None,
-        count: 0,
-    };
-    match aim_kept(kept, index, writer, w, reader, r) {
+    match plan.aim(index, w, r) {
         Aim::To(None, q) => {
             if q != r {
                 return false;
             }
-            are_as_written(writer.get(w), reader.get(r))
+            are_as_written(plan.writer().get(w), plan.reader().get(r))
         }
         Aim::To(Some(_), _) => false,
         Aim::Fault(_) => false,

@@ -18,7 +18,7 @@ pub(crate) fn count(schema: &Schema) -> u32 {
 }
 
 /// An index in the width in which plans keep it, and 0 where it is wider.
-fn narrow(index: usize) -> u32 {
+pub(crate) fn narrow(index: usize) -> u32 {
     match u32::try_from(index) {
         Ok(index) => index,
         Err(_) => 0,

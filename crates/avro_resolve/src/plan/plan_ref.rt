@@ -3,16 +3,14 @@ ghost use Rattle.avro_resolve.specs.inside.Guided.{kept_or};
 
 use crate::error::{ReadResolveError, ResolveError};
 use crate::plan::flagging::{is_set, straight_kept};
-use crate::plan::keeping::{
-    Kept, aim_kept, field_kept, fields_kept, missing_kept, sources_kept, symbol_kept, whole_kept,
-};
-use crate::plan::known::count;
+use crate::plan::keeping::{inside_of, pair_of, part_known, whole_kept};
+use crate::plan::known::{count, index_in};
 use crate::plan::parts::{branch_of, items_of, values_of};
 use crate::read::{put_planned, read_planned};
 use crate::resolution::put_datum;
 use crate::resolving::guided::Part;
 use avro_binary::{Build, Put};
-use avro_compare::{Aim, At, Comparison};
+use avro_compare::{Aim, At, Comparison, aim, fields_of, missing, part_for, symbol_for};
 use avro_schema::{Datum, Limits, NodeId, Schema};
 use avro_texts::Seeded;
 use indexmap::IndexSet;
@@ -24,10 +22,11 @@ use std::marker::Model;
 pub struct PlanRef<'a> {
     writer: &'a Schema,
     reader: &'a Schema,
-    kept: Kept<'a>,
+    pairs: &'a [Comparison],
     parts: &'a [Vec<u32>],
     flags: &'a [bool],
     root: u32,
+    known: Option<&'a IndexSet<u64, Seeded>>,
 }
 
 impl<'a> Model for PlanRef<'a> {
@@ -44,8 +43,8 @@ impl<'a> Model for PlanRef<'a> {
 
     ghost view = { λ p. (p.writer.now, p.reader.now) };
 
-    ghost invariant = { λ p. AreComparisons (schema_nodes p.writer.now) (schema_nodes p.reader.now) p.kept.pairs.now
-        × AreFlags (schema_nodes p.writer.now) (schema_nodes p.reader.now) p.kept.pairs.now p.flags.now };
+    ghost invariant = { λ p. AreComparisons (schema_nodes p.writer.now) (schema_nodes p.reader.now) p.pairs.now
+        × AreFlags (schema_nodes p.writer.now) (schema_nodes p.reader.now) p.pairs.now p.flags.now };
 }
 
 impl<'a> PlanRef<'a> {
@@ -58,7 +57,7 @@ impl<'a> PlanRef<'a> {
     ghost use Rattle.avro_compare.specs.declared.comparison.At.TheVariants.{Pair};
     ghost use Rattle.avro_resolve.specs.inside.Guided.{IsWhole, branch_part, known_part};
     ghost use Rattle.avro_compare.specs.Pairs.{IsAim, IsSymbol, field_for, item_id, value_id, branch_id};
-    ghost use Rattle.avro_compare.specs.Planned.{AreComparisons, AreFor, AreSources};
+    ghost use Rattle.avro_compare.specs.Planned.{AreComparisons, AreFor, AreInside, AreSources, IsComparison};
     ghost use Rattle.avro_resolve.specs.Copied.{AreFlags, IsStraight};
     ghost use Rattle.avro_resolve.specs.Reading.{BuildsResolved};
     ghost use Rattle.avro_resolve.specs.Seen.{StandsForResult};
@@ -84,14 +83,11 @@ impl<'a> PlanRef<'a> {
         PlanRef {
             writer,
             reader,
-            kept: Kept {
-                pairs,
-                known,
-                count: count(reader),
-            },
+            pairs,
             parts,
             flags,
             root,
+            known,
         }
     }
 
@@ -202,13 +198,63 @@ impl<'a> PlanRef<'a> {
         }
     }
 
+    /// What is kept of two nodes, where their number is kept.
+    fn pair_by(&self, w: NodeId, r: NodeId) -> Option<&'a Comparison>
+        ensures { IfSome result (λ p. IsComparison (schema_nodes self.now.0) (schema_nodes self.now.1) p.now × (p.now.w ≡ w) × (p.now.r ≡ r)) }
+    {
+        match self.known {
+            Some(known) => pair_of(self.pairs, index_in(known, count(self.reader), w, r), w, r),
+            None => None,
+        }
+    }
+
+    /// What is kept of two nodes and inside them, where their number is kept. It stands apart from what reading runs
+    /// through where it is passed the indices.
+    #[cold]
+    #[inline(never)]
+    fn inside_by(&self, w: NodeId, q: NodeId) -> Option<&'a Comparison>
+        ensures { IfSome result (λ p. AreInside (node_at (schema_nodes self.now.0) w.0) (node_at (schema_nodes self.now.1) q.0) p.now) }
+    {
+        match self.pair_by(w, q) {
+            Some(pair) => inside_of(pair),
+            None => None,
+        }
+    }
+
+    /// What is kept of two nodes and inside them, at an index or else where their number is kept.
+    #[inline(always)]
+    fn inside(&self, index: u32, w: NodeId, q: NodeId) -> Option<&'a Comparison>
+        ensures { IfSome result (λ p. AreInside (node_at (schema_nodes self.now.0) w.0) (node_at (schema_nodes self.now.1) q.0) p.now) }
+    {
+        match pair_of(self.pairs, index, w, q) {
+            Some(pair) => inside_of(pair),
+            None => self.inside_by(w, q),
+        }
+    }
+
     /// Where a pair of nodes leads.
     #[inline(always)]
     pub(crate) fn aim(&self, index: u32, w: NodeId, r: NodeId) -> Aim
         ensures { IsAim (schema_nodes self.now.0) (schema_nodes self.now.1)
             (node_at (schema_nodes self.now.0) w.0) (node_at (schema_nodes self.now.1) r.0) result }
     {
-        aim_kept(self.kept, index, self.writer, w, self.reader, r)
+        match pair_of(self.pairs, index, w, r) {
+            Some(pair) => pair.aim,
+            None => self.aim_by(w, r),
+        }
+    }
+
+    /// Where a pair of nodes leads, as it is kept where their number is kept, or else by name. It stands apart as well.
+    #[cold]
+    #[inline(never)]
+    fn aim_by(&self, w: NodeId, r: NodeId) -> Aim
+        ensures { IsAim (schema_nodes self.now.0) (schema_nodes self.now.1)
+            (node_at (schema_nodes self.now.0) w.0) (node_at (schema_nodes self.now.1) r.0) result }
+    {
+        match self.pair_by(w, r) {
+            Some(pair) => pair.aim,
+            None => aim(self.writer, w, self.reader, r),
+        }
     }
 
     /// The nodes of the items of two nodes.
@@ -266,7 +312,10 @@ impl<'a> PlanRef<'a> {
     pub(crate) fn missing(&self, index: u32, w: NodeId, q: NodeId) -> Option<usize>
         ensures { result ≡ missing_field (fields_at (node_at (schema_nodes self.now.0) w.0)) (fields_at (node_at (schema_nodes self.now.1) q.0)) }
     {
-        missing_kept(self.kept, index, self.writer, w, self.reader, q)
+        match self.inside(index, w, q) {
+            Some(pair) => pair.missing,
+            None => missing(fields_of(self.writer, w), fields_of(self.reader, q)),
+        }
     }
 
     /// What the writer's fields are for, where two nodes lead to each other, no field is missing, and this is kept.
@@ -274,7 +323,7 @@ impl<'a> PlanRef<'a> {
     pub(crate) fn whole(&self, index: u32, w: NodeId, r: NodeId) -> Option<&'a [(usize, At)]>
         ensures { IfSome result (λ known. IsWhole (schema_nodes self.now.0) (schema_nodes self.now.1) w r known.now) }
     {
-        whole_kept(self.kept.pairs, index, w, r)
+        whole_kept(self.pairs, index, w, r)
     }
 
     /// What the writer's fields are for, if it is kept.
@@ -282,7 +331,10 @@ impl<'a> PlanRef<'a> {
     pub(crate) fn fields(&self, index: u32, w: NodeId, q: NodeId) -> Option<&'a [(usize, At)]>
         ensures { IfSome result (λ known. AreFor (fields_at (node_at (schema_nodes self.now.0) w.0)) (fields_at (node_at (schema_nodes self.now.1) q.0)) known.now) }
     {
-        fields_kept(self.kept, index, self.writer, w, self.reader, q)
+        match self.inside(index, w, q) {
+            Some(pair) => Some(&pair.fields),
+            None => None,
+        }
     }
 
     /// What the writer's field at an index is for, by what is known from there on.
@@ -296,7 +348,10 @@ impl<'a> PlanRef<'a> {
     ) -> At
         ensures { result ≡ known_part known.entry field (field_for (fields_at (node_at (schema_nodes self.now.0) w.0)) (fields_at (node_at (schema_nodes self.now.1) q.0)) field) }
     {
-        field_kept(known, self.writer, w, self.reader, q, field)
+        match known {
+            Some(known) => part_known(known, field),
+            None => part_for(fields_of(self.writer, w), fields_of(self.reader, q), field),
+        }
     }
 
     /// The sources of the reader's fields, if they are kept.
@@ -304,7 +359,10 @@ impl<'a> PlanRef<'a> {
     pub(crate) fn sources(&self, index: u32, w: NodeId, q: NodeId) -> Option<&[(usize, usize)]>
         ensures { IfSome result (λ sources. AreSources (fields_at (node_at (schema_nodes self.now.0) w.0)) (fields_at (node_at (schema_nodes self.now.1) q.0)) sources.now) }
     {
-        sources_kept(self.kept, index, self.writer, w, self.reader, q)
+        match self.inside(index, w, q) {
+            Some(pair) => Some(&pair.sources),
+            None => None,
+        }
     }
 
     /// Whether the pair at an index is flagged as straight.
@@ -319,15 +377,22 @@ impl<'a> PlanRef<'a> {
         ensures { IfSome result (λ sources. IsStraight (schema_nodes self.now.0) (schema_nodes self.now.1) w r
             × AreSources (fields_at (node_at (schema_nodes self.now.0) w.0)) (fields_at (node_at (schema_nodes self.now.1) r.0)) sources.now) }
     {
-        straight_kept(self.kept.pairs, self.flags, index, w, r)
+        straight_kept(self.pairs, self.flags, index, w, r)
     }
 
     /// The reader's symbol for a writer's.
-    #[inline(always)]
     pub(crate) fn symbol(&self, index: u32, w: NodeId, symbol: u32, q: NodeId) -> Option<u32>
         ensures { IsSymbol (enum_as (symbol_at (node_at (schema_nodes self.now.0) w.0) symbol) (node_at (schema_nodes self.now.1) q.0)) result }
     {
-        symbol_kept(self.kept, index, self.writer, w, symbol, self.reader, q)
+        match self.inside(index, w, q) {
+            Some(pair) => {
+                if (symbol as usize) < pair.symbols.len() {
+                    return pair.symbols[symbol as usize];
+                }
+            }
+            None => {}
+        }
+        symbol_for(self.writer, w, symbol, self.reader, q)
     }
 }
 

@@ -8,12 +8,12 @@ use Rattle.avro_resolve.proofs.Flagging.{copied_all, copied_more, field_next}
 use Rattle.avro_resolve.proofs.plan.flagging.are_copied.Goals as goal
 
 pub loop-index-init : goal.loop-index-init
-loop-index-init c = (c.requires.sources, λ rest. rest)
+loop-index-init c = (c.requires, λ rest. rest)
 
 pub loop-index-preserved : goal.loop-index-preserved
 loop-index-preserved c =
-    let writer = schema_nodes c.args.writer.now in
-    let reader = schema_nodes c.args.reader.now in
+    let writer = schema_nodes c.args.plan.now.0 in
+    let reader = schema_nodes c.args.plan.now.1 in
     let ws = seen_fields c.args.writes.now in
     let reads = c.args.reads.now in
     let i = c.loop-index.index in
@@ -30,4 +30,4 @@ loop-index-preserved c =
 
 pub returns : goal.returns
 returns c = λ yes.
-    c.loop-index.invariant.1 (copied_all (schema_nodes c.args.writer.now) (schema_nodes c.args.reader.now) (seen_fields c.args.writes.now) c.args.reads.now c.loop-index.index c.loop-index-test.false)
+    c.loop-index.invariant.1 (copied_all (schema_nodes c.args.plan.now.0) (schema_nodes c.args.plan.now.1) (seen_fields c.args.writes.now) c.args.reads.now c.loop-index.index c.loop-index-test.false)

@@ -8,4 +8,4 @@ use Rattle.avro_resolve.proofs.plan.flagging.are_copied.Given as goal
 abbrev pub invariant-loop-index : goal.invariant-loop-index
 invariant-loop-index l =
     AreSourcesFrom l.index (seen_fields l.writes) (seen_fields l.reads) l.left
-    × (AreCopied (schema_nodes l.writer) (schema_nodes l.reader) (seen_fields l.writes) (seen_fields (drop l.index l.reads)) → AreCopied (schema_nodes l.writer) (schema_nodes l.reader) (seen_fields l.writes) (seen_fields l.reads))
+    × (AreCopied (schema_nodes l.plan.0) (schema_nodes l.plan.1) (seen_fields l.writes) (seen_fields (drop l.index l.reads)) → AreCopied (schema_nodes l.plan.0) (schema_nodes l.plan.1) (seen_fields l.writes) (seen_fields l.reads))

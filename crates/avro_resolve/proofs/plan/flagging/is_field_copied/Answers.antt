@@ -10,5 +10,5 @@ pub returns-else-field-writes : goal.returns-else-field-writes
 returns-else-field-writes c = λ k is yes.
     let from = c.index-writes-field.result in
     let low : c.in-Some.field < length c.args.writes.now = search rules in
-    subst (λ j. CopiedFrom (schema_nodes c.args.writer.now) (schema_nodes c.args.reader.now) (seen_fields c.args.writes.now) (field_of c.args.f.now) j) (same_some c.in-Some.is is)
+    subst (λ j. CopiedFrom (schema_nodes c.args.plan.now.0) (schema_nodes c.args.plan.now.1) (seen_fields c.args.writes.now) (field_of c.args.f.now) j) (same_some c.in-Some.is is)
     (from.node.0, id_there c.args.writes.now c.in-Some.field from low c.index-writes-field.is, c.is_copied.ensures yes)

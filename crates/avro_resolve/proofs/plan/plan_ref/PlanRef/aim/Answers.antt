@@ -1,4 +1,16 @@
+use Rattle.std.proofs.Common.{◌≡◌, ◌∙◌, ap, sym, subst, rules}
+use Rattle.avro_schema.specs.Node.{node_at}
+use Rattle.avro_schema.specs.SeenSchema.{schema_nodes}
+use Rattle.avro_compare.specs.Pairs.{IsAim, aim_at}
+use Rattle.avro_compare.proofs.public.Leading.{pair_leads}
 use Rattle.avro_resolve.proofs.plan.plan_ref.PlanRef.aim.Goals as goal
 
-pub aim_kept-requires : goal.aim_kept-requires
-aim_kept-requires c = c.self.invariant.0
+pub returns-in-Some : goal.returns-in-Some
+returns-in-Some c =
+    let writer = schema_nodes c.self.inside.writer.now in
+    let reader = schema_nodes c.self.inside.reader.now in
+    let here : c.args.self.now ≡ (c.self.inside.writer.now, c.self.inside.reader.now) = search rules in
+    let kept = c.in-Some.ensures writer reader c.self.invariant.0 in
+    let same = kept.0.aims ∙ ap (λ n. aim_at writer reader n c.in-Some.pair.now.r) kept.1 ∙ ap (λ n. aim_at writer reader c.args.w n) kept.2 in
+    subst (λ s. IsAim (schema_nodes s.0) (schema_nodes s.1) (node_at (schema_nodes s.0) c.args.w.0) (node_at (schema_nodes s.1) c.args.r.0) c.in-Some.pair.now.aim) (sym here)
+    (subst (λ a. IsAim writer reader (node_at writer c.args.w.0) (node_at reader c.args.r.0) a) (sym same) (pair_leads writer reader c.args.w c.args.r))

@@ -1,4 +1,11 @@
+use Rattle.std.proofs.Common.{sym, subst}
+use Rattle.avro_schema.specs.Node.{node_at}
+use Rattle.avro_schema.specs.SeenSchema.{schema_nodes}
+use Rattle.avro_compare.specs.Planned.{AreFor}
+use Rattle.avro_compare.specs.Resolve.{fields_at}
 use Rattle.avro_resolve.proofs.plan.plan_ref.PlanRef.fields.Goals as goal
 
-pub fields_kept-requires : goal.fields_kept-requires
-fields_kept-requires c = c.self.invariant.0
+pub returns-in-Some : goal.returns-in-Some
+returns-in-Some c =
+    subst (λ kept. AreFor (fields_at (node_at (schema_nodes c.args.self.now.0) c.args.w.0)) (fields_at (node_at (schema_nodes c.args.self.now.1) c.args.q.0)) kept) (sym c.deref.ensures.value)
+    c.in-Some.ensures.fields
