@@ -1,5 +1,5 @@
 -- What is answered of two texts that are judged for a certificate: its text, and a status.
-use Rattle.std.specs.Prelude.{◌≡◌, ℕ, true, List}
+use Rattle.std.specs.Prelude.{◌≡◌, ◌≢◌, ℕ, true, List, []}
 use Rattle.avro_schema.specs.Node.{Node}
 use Rattle.avro_compare.specs.Children.{Pair}
 use Rattle.avro_certificate.specs.Closed.{is_closed}
@@ -16,7 +16,7 @@ pub record IsCertifiedBy (writer reader : List Node) (text : List ℕ) : Type 0 
   pub closed : is_closed writer reader dead pairs ≡ true
 
 -- What is answered of two texts: both declare schemas and are not too long, the status is that of their verdict, and
--- after a yes the text is that of a certificate whose sets are closed.
+-- after a yes the text is that of a certificate whose sets are closed, and after another verdict there is none.
 pub record CertifyAnswer (writer reader : List ℕ) (limits : JudgeLimitValues) (text : List ℕ) (status : ℕ) : Type 0 where
   pub written : List Node
   pub read : List Node
@@ -24,3 +24,4 @@ pub record CertifyAnswer (writer reader : List ℕ) (limits : JudgeLimitValues) 
   pub declares_read : IsReadAs reader read
   pub answered : StatusAnswer written read limits status
   pub certified : status ≡ 0 → IsCertifiedBy written read text
+  pub bare : status ≢ 0 → text ≡ []

@@ -1,6 +1,6 @@
 //! The certificate of a yes, by texts.
 
-ghost use Rattle.std.specs.Prelude.{◌≡◌, ◌<◌, length, IfOk, IsErrOf};
+ghost use Rattle.std.specs.Prelude.{◌≡◌, ◌≢◌, ◌<◌, [], length, IfOk, IsErrOf};
 ghost use Rattle.std.specs.Result.{IfErr};
 ghost use Rattle.avro_schema.specs.SeenSchema.{schema_nodes};
 ghost use Rattle.avro_schema_json.specs.Declaration.{max_text};
@@ -8,6 +8,7 @@ ghost use Rattle.avro_schema_json.specs.declared.error.SchemaError.{SchemaError}
 ghost use Rattle.avro_judge.specs.Answered.{IfApproved};
 ghost use Rattle.avro_answer.specs.CertifyAnswer.{CertifyAnswer, IsCertifiedBy};
 ghost use Rattle.avro_answer.specs.JudgeAnswer.{StatusAnswer};
+ghost use Rattle.avro_answer.specs.inside.VerdictTexts.{verdict_status};
 ghost use Rattle.avro_answer.specs.RefusalText.{RefusesPair, HaveSchemas};
 ghost use Rattle.avro_answer.specs.declared.refusal.Refusal.TheVariants.{Writer, OutOfMemory};
 
@@ -21,7 +22,7 @@ use avro_schema::{Memory, Schema};
 use std::alloc::Global;
 
 /// Judges the schemas of two texts, and answers the status of the verdict, with the text of a certificate whose sets are closed after a
-/// yes. That there is none after another verdict is in no clause.
+/// yes, and no text after another verdict.
 ///
 /// # Errors
 ///
@@ -51,6 +52,7 @@ fn certify_schemas(
 ) -> Result<Answer, Memory>
     ensures answered { IfOk result (λ a. StatusAnswer (schema_nodes writer.now) (schema_nodes reader.now) limits.now a.status) }
     ensures certified { IfOk result (λ a. a.status ≡ 0 → IsCertifiedBy (schema_nodes writer.now) (schema_nodes reader.now) a.text.items) }
+    ensures bare { IfOk result (λ a. a.status ≢ 0 → a.text.items ≡ []) }
 {
     let verdict = judge_is_right(alloc, writer, reader, limits)?;
     let text = certificate_of(alloc, &verdict)?;
@@ -60,7 +62,8 @@ fn certify_schemas(
 
 /// The text of the certificate of a yes, or nothing.
 fn certificate_of(alloc: Global, verdict: &Verdict<'_>) -> Result<Vec<u8>, Memory>
-    ensures { IfOk result (λ text. IfApproved verdict.now (λ a. IsCertifiedBy (schema_nodes a.0) (schema_nodes a.1) text.items)) }
+    ensures certified { IfOk result (λ text. IfApproved verdict.now (λ a. IsCertifiedBy (schema_nodes a.0) (schema_nodes a.1) text.items)) }
+    ensures bare { IfOk result (λ text. verdict_status verdict.now ≢ 0 → text.items ≡ []) }
 {
     match verdict {
         Verdict::Approved(approved) => certificate_text(alloc, approved),

@@ -117,6 +117,7 @@ pub(crate) fn keep_within(out: &mut Vec<u8>, end: usize, most: usize) -> bool
 /// Whether an output would be longer than `most` with so many bytes more behind its end.
 pub(crate) fn is_past(end: usize, count: usize, most: usize) -> bool
     ensures past { result ≡ true → most < end + count }
+    ensures within { result ≡ false → end + count ≤ most }
 {
     end > most || count > most - end
 }
