@@ -7,7 +7,7 @@ use Rattle.avro_judge.specs.Headline.{IsRight}
 use Rattle.avro_judge.specs.JudgeRanges.{JudgeLimitValues}
 use Rattle.avro_judge.specs.declared.verdict.Verdict.{Verdict}
 use Rattle.avro_answer.specs.CertifyAnswer.{IsCertifiedBy}
-use Rattle.avro_answer.specs.inside.VerdictTexts.{verdict_status}
+use Rattle.avro_answer.specs.JsonAnswer.{verdict_status}
 
 -- that of an approval is one of these schemas
 pub certified : (writer reader : Schema) (limits : JudgeLimitValues) (v : Verdict) (text : List ℕ) (status : ℕ) → status ≡ verdict_status v → IsRight writer reader limits v

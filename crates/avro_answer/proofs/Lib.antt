@@ -7,6 +7,7 @@ pub mod FaultsAnswers
 pub mod Fronts
 pub mod HistoryLines
 pub mod HistoryTexts
+pub mod JsonMembers
 pub mod PairLimits
 pub mod ReadLaws
 pub mod Refused

@@ -18,7 +18,8 @@ use Rattle.avro_judge.specs.declared.verdict.Verdict.{Verdict}
 use Rattle.avro_answer.specs.Texts.{cause_text}
 use Rattle.avro_answer.specs.JudgeAnswer.{SchemasAnswer, StatusAnswer}
 use Rattle.avro_answer.specs.HistoryAnswer.{LineAnswer}
-use Rattle.avro_answer.specs.inside.VerdictTexts.{Words, in_words, judge_words, line_words, verdict_status, verdict_text, verdict_words}
+use Rattle.avro_answer.specs.JsonAnswer.{verdict_status}
+use Rattle.avro_answer.specs.inside.VerdictTexts.{Words, in_words, judge_words, line_words, verdict_text, verdict_words}
 
 abbrev first : List ℕ → ℕ
 first text = unwrap_or (slice_get text 0) 0

@@ -6,6 +6,7 @@ use Rattle.avro_certificate.specs.Closed.{is_closed}
 use Rattle.avro_certificate.specs.CertificateText.{CertText, are_small}
 use Rattle.avro_certificate.specs.CertificateRead.{Refuses}
 use Rattle.avro_certificate.specs.declared.error.CertError.{CertError}
+use Rattle.avro_answer.specs.JsonAnswer.{json_line, confirmed_tree}
 use Rattle.avro_answer.specs.ReadText.{IsReadAs}
 use Rattle.avro_answer.specs.RefusalText.{HasCode, HasSchema}
 use Rattle.avro_answer.specs.declared.refusal.Refusal.{Refusal}
@@ -22,6 +23,10 @@ IsNotConfirmed text status = (text ≡ codes "not confirmed\n") × (status ≡ 1
 pub record SetsAnswer (writer reader : List Node) (dead : List ℕ) (pairs : List Pair) (text : List ℕ) (status : ℕ) : Type 0 where
   pub confirmed : IsConfirmed text status ↔ (is_closed writer reader dead pairs ≡ true)
   pub refused : IsNotConfirmed text status ↔ (is_closed writer reader dead pairs ≡ false)
+
+-- the line of JSON of two schemas and the two sets: whether the sets are closed
+abbrev pub SetsJson : List Node → List Node → List ℕ → List Pair → List ℕ → Type 0
+SetsJson writer reader dead pairs text = text ≡ json_line (confirmed_tree (is_closed writer reader dead pairs))
 
 -- The same of the status alone, in either form of the answer: 0 if and only if the sets are closed, 1 if and only if
 -- not.

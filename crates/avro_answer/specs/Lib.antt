@@ -1,6 +1,7 @@
 pub mod Texts
 pub mod ReadText
 pub mod CutAnswer
+pub mod JsonAnswer
 pub mod JudgeAnswer
 pub mod HistoryAnswer
 pub mod CertifyAnswer

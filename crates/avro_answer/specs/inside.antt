@@ -2,6 +2,7 @@
 pub mod AtFront
 pub mod FaultsAdded
 pub mod FrontKept
+pub mod JsonText
 pub mod NamedLine
 pub mod Read
 pub mod VerdictTexts

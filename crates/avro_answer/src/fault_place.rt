@@ -3,7 +3,7 @@
 use crate::named_place::{field_name, push_all, push_branch};
 use crate::type_names::node_at;
 use avro_compare::{Aim, At, FaultKind, Names, compare};
-use avro_judge::Refutation;
+use avro_judge::{Refutation, Verdict};
 use avro_schema::{Datum, Memory, Node, NodeId, Schema};
 use std::alloc::{AllocError, Global};
 
@@ -25,8 +25,24 @@ struct Part<'a> {
     r: NodeId,
 }
 
+/// Where the fault of a verdict is. A verdict without a fault has an empty path.
+pub(crate) fn place_of_verdict<'a>(
+    alloc: Global,
+    writer: &'a Schema,
+    reader: &'a Schema,
+    verdict: &Verdict<'_>,
+) -> Result<FaultPlace<'a>, Memory> {
+    match verdict {
+        Verdict::Refuted(found) => place_of(alloc, writer, reader, found),
+        Verdict::Approved(_) | Verdict::Undecided(_) => Ok(FaultPlace {
+            at: String::new(alloc),
+            missing: None,
+        }),
+    }
+}
+
 /// Where the fault of a refutation is.
-pub(crate) fn place_of<'a>(
+fn place_of<'a>(
     alloc: Global,
     writer: &'a Schema,
     reader: &'a Schema,

@@ -188,7 +188,7 @@ impl<'a> NamedFault<'a> {
 
     /// The object of the fault.
     pub(crate) fn json(&self, alloc: Global) -> Result<String, AllocError> {
-        let mut fault = JsonObject::new(alloc);
+        let mut fault = JsonObject::new(alloc)?;
         fault.put_text("fault", kind_word(self.detail))?;
         if let Some(name) = self.missing {
             let key = match self.detail {

@@ -9,7 +9,6 @@ use crate::json_object::JsonObject;
 use crate::type_names::{node_at, push_branch_word, push_type};
 use avro_explain::PathStep;
 use avro_schema::{Node, NodeId, Schema};
-use serde_json::Value;
 use std::alloc::{AllocError, Global};
 
 /// A node of a schema, by names.
@@ -26,8 +25,8 @@ pub(crate) struct NamedPlace {
 impl NamedPlace {
     /// The object of the place.
     pub(crate) fn json(&self, alloc: Global) -> Result<String, AllocError> {
-        let mut place = JsonObject::new(alloc);
-        place.put("node", &Value::from(self.node))?;
+        let mut place = JsonObject::new(alloc)?;
+        place.put_number("node", u64::from(self.node))?;
         place.put_text("at", &self.at)?;
         place.put_text("type", &self.type_text)?;
         place.json()

@@ -1,6 +1,7 @@
 //! The texts of verdicts.
 
-ghost use Rattle.std.specs.Prelude.{◌≡◌, ◌≢◌, ◌≤◌, ◌-◌, ◌^◌, ◌⊎◌, ◌++◌, codes, IfOk, OnOk, IsErrOf};
+ghost use Rattle.std.specs.Prelude.{◌≡◌, ◌≢◌, ◌≤◌, ◌-◌, ◌^◌, ◌⊎◌, ◌++◌, List, codes, IfOk, OnOk, IsErrOf};
+ghost use Rattle.avro_schema.specs.Node.{Node};
 ghost use Rattle.avro_schema.specs.Seen.{value_of};
 ghost use Rattle.avro_schema.specs.SeenSchema.{schema_nodes};
 ghost use Rattle.avro_schema.specs.Value.{size as value_size};
@@ -9,7 +10,8 @@ ghost use Rattle.avro_judge.specs.Answered.{IfRefuted};
 ghost use Rattle.avro_answer.specs.Texts.{cause_text};
 ghost use Rattle.avro_display.specs.Pieces.{PutsText};
 ghost use Rattle.avro_display.specs.declared.put_error.PutError.{PutError};
-ghost use Rattle.avro_answer.specs.inside.VerdictTexts.{no_front, verdict_status, verdict_front, verdict_datum, verdict_text, verdict_words};
+ghost use Rattle.avro_answer.specs.JsonAnswer.{NamedPath, json_line, judged_tree, verdict_status};
+ghost use Rattle.avro_answer.specs.inside.VerdictTexts.{no_front, verdict_front, verdict_datum, verdict_text, verdict_words};
 ghost use Rattle.avro_answer.specs.declared.form.Form.{Form};
 
 use crate::faults::append_fault;
@@ -56,6 +58,7 @@ pub(crate) fn put_verdict<O: Output>(
 ) -> Result<(), PutError>
     requires small { IfRefuted verdict.now (λ r. value_size (value_of r.datum) ≤ 2 ^ 64 - 1) }
     ensures put { form ≡ Form.Text → OnOk result (O.keeps out.old (verdict_text (schema_nodes writer.now) verdict.now) out.new) }
+    ensures put_json { form ≡ Form.Json → OnOk result ((named : NamedPath) × O.keeps out.old (json_line (judged_tree (schema_nodes writer.now) named verdict.now)) out.new) }
     ensures works { OnOk result (O.failures out.new ≡ O.failures out.old) }
     ensures fails { IsErrOf result PutError.CannotWrite → (O.failures out.new ≢ O.failures out.old) ⊎ O.stuck out.new }
     ensures memory { IsErrOf result PutError.OutOfMemory → O.failures out.new ≡ O.failures out.old }
@@ -75,7 +78,8 @@ fn front_of(
     form: Form,
 ) -> Result<Vec<u8>, Memory>
     requires small { IfRefuted verdict.now (λ r. value_size (value_of r.datum) ≤ 2 ^ 64 - 1) }
-    ensures { IfOk result (λ text. form ≡ Form.Text → text.items ≡ verdict_front verdict.now) }
+    ensures text { IfOk result (λ text. form ≡ Form.Text → text.items ≡ verdict_front verdict.now) }
+    ensures json { IfOk result (λ text. form ≡ Form.Json → (named : NamedPath) × ((nodes : List Node) → (text.items ++ verdict_datum nodes verdict.now) ++ codes "}\n" ≡ json_line (judged_tree nodes named verdict.now))) }
 {
     match form {
         Form::Json => Ok(judged_front(alloc, writer, reader, verdict)?.into_bytes()),
@@ -141,7 +145,8 @@ fn put_datum<O: Output>(
 
 /// The end of the answer, after the datum.
 fn end_of(form: Form) -> &'static [u8]
-    ensures { form ≡ Form.Text → result.now ≡ codes "\n" }
+    ensures text { form ≡ Form.Text → result.now ≡ codes "\n" }
+    ensures json { form ≡ Form.Json → result.now ≡ codes "}\n" }
 {
     match form {
         Form::Text => b"\n",

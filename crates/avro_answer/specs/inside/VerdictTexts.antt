@@ -1,4 +1,4 @@
--- The texts of verdicts, and their statuses.
+-- The texts of verdicts.
 use Rattle.std.specs.Prelude.{ℕ, List, [], ◌++◌, codes}
 use Rattle.avro_schema.specs.Node.{Node, root_of}
 use Rattle.avro_schema.specs.Value.{Value, size}
@@ -11,11 +11,6 @@ use Rattle.avro_judge.specs.declared.verdict.Cause.{Cause}
 use Rattle.avro_judge.specs.declared.verdict.Verdict.{Verdict}
 use Rattle.avro_answer.specs.Texts.{cause_text, fault_text}
 use Rattle.avro_answer.specs.JudgeAnswer.{no_text}
-
-abbrev pub verdict_status : Verdict → ℕ
-verdict_status (Verdict.Approved a) = 0
-verdict_status (Verdict.Refuted r) = 1
-verdict_status (Verdict.Undecided cause) = 2
 
 -- the words of verdicts: of a yes, of a no by its datum and its fault, and of an undecided by its cause
 pub record Words : Type 0 where
