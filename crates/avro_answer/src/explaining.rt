@@ -6,6 +6,7 @@ ghost use Rattle.avro_schema.specs.SeenSchema.{schema_nodes};
 ghost use Rattle.avro_schema_json.specs.Declaration.{max_text};
 ghost use Rattle.avro_schema_json.specs.declared.error.SchemaError.{SchemaError};
 ghost use Rattle.avro_answer.specs.ExplainAnswer.{FaultsAnswer, FaultsStatus, ExplainAnswer, ExplainStatus};
+ghost use Rattle.avro_answer.specs.JsonAnswer.{json_line, no_fault_tree, over_pairs_tree};
 ghost use Rattle.avro_answer.specs.RefusalText.{RefusesPair, HaveSchemas};
 ghost use Rattle.avro_answer.specs.declared.form.Form.{Form};
 ghost use Rattle.avro_answer.specs.declared.refusal.Refusal.TheVariants.{Writer, OutOfMemory};
@@ -74,7 +75,8 @@ fn explain_schemas(
 
 /// The answer for two schemas without a fault.
 pub fn no_fault(form: Form) -> &'static str
-    ensures { form ≡ Form.Text → result.now ≡ codes "yes\n" }
+    ensures text { form ≡ Form.Text → result.now ≡ codes "yes\n" }
+    ensures json { form ≡ Form.Json → result.now ≡ json_line no_fault_tree }
 {
     match form {
         Form::Text => "yes\n",
@@ -84,7 +86,8 @@ pub fn no_fault(form: Form) -> &'static str
 
 /// The answer for two schemas whose roots lead to more pairs than the limit.
 pub fn over_pairs(form: Form) -> &'static str
-    ensures { form ≡ Form.Text → result.now ≡ codes "undecided Pairs\n" }
+    ensures text { form ≡ Form.Text → result.now ≡ codes "undecided Pairs\n" }
+    ensures json { form ≡ Form.Json → result.now ≡ json_line over_pairs_tree }
 {
     match form {
         Form::Text => "undecided Pairs\n",

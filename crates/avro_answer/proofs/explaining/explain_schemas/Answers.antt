@@ -25,7 +25,7 @@ returns-in_ok-from_slice-in-Ok-clause-answered c = λ is_text.
     (yes_status writer reader c.args.max_pairs
     (within_limit writer reader (marked found.dead.items) found.places.items c.args.max_pairs c.in-Ok.ensures.dead c.in-Ok.ensures.visited c.in-Ok.ensures.limit)
     (c.in-Ok.ensures.compatible (no_member found.faults.items found.faults.len c.is_empty.result found.faults.ok.0 c.is_empty.ensures c.if-is_empty.true)))
-    (λ h. c.in_ok-from_slice-in-Ok.ensures.items ∙ (c.as_bytes.ensures.value ∙ c.no_fault.ensures is_text))
+    (λ h. c.in_ok-from_slice-in-Ok.ensures.items ∙ (c.as_bytes.ensures.value ∙ c.no_fault.ensures.text is_text))
     (λ h. absurd (omega (arith, h)))
     (λ h. absurd (omega (arith, h)))
 

@@ -1,0 +1,7 @@
+use Rattle.std.proofs.Common.{refl}
+use Rattle.json.specs.Print.{escape_byte}
+use Rattle.avro_answer.proofs.explaining.over_pairs.Goals as goal
+
+pub returns-in-Json-clause-json : goal.returns-in-Json-clause-json
+unfolding escape_byte
+returns-in-Json-clause-json c = λ _. refl
