@@ -8,7 +8,7 @@ ghost use Rattle.avro_schema_json.specs.declared.error.SchemaError.{SchemaError}
 ghost use Rattle.avro_judge.specs.Answered.{IfApproved};
 ghost use Rattle.avro_answer.specs.CertifyAnswer.{CertifyAnswer, IsCertifiedBy};
 ghost use Rattle.avro_answer.specs.JudgeAnswer.{StatusAnswer};
-ghost use Rattle.avro_answer.specs.inside.VerdictTexts.{verdict_status};
+ghost use Rattle.avro_answer.specs.JsonAnswer.{verdict_status};
 ghost use Rattle.avro_answer.specs.RefusalText.{RefusesPair, HaveSchemas};
 ghost use Rattle.avro_answer.specs.declared.refusal.Refusal.TheVariants.{Writer, OutOfMemory};
 
