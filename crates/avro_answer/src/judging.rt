@@ -7,6 +7,7 @@ ghost use Rattle.avro_judge.specs.Headline.{IsRight};
 ghost use Rattle.avro_display.specs.declared.put_error.PutError.{PutError};
 ghost use Rattle.avro_answer.specs.CutAnswer.{IsCut};
 ghost use Rattle.avro_answer.specs.JudgeAnswer.{SchemasAnswer, StatusAnswer, JudgeAnswer, JudgeStatus};
+ghost use Rattle.avro_answer.specs.JsonAnswer.{IsJudgedLine};
 ghost use Rattle.avro_answer.specs.RefusalText.{RefusesPair, HaveSchemas};
 ghost use Rattle.avro_answer.specs.declared.form.Form.{Form};
 ghost use Rattle.avro_answer.specs.declared.refusal.Refusal.TheVariants.{Writer, OutOfMemory};
@@ -26,7 +27,7 @@ use std::alloc::Global;
 
 /// Judges two schemas, puts the answer into an output, and returns the verdict with its status: `yes` if and only if no datum fails, a no
 /// with a smallest datum that does, its fault, its number of nodes and its display, or `undecided` with a cause if and only if the limit of
-/// that cause is exceeded. With JSON output this is proved of the status alone.
+/// that cause is exceeded. With JSON output it puts the line of that verdict and status, of which no clause says what names a fault has.
 ///
 /// # Errors
 ///
@@ -43,6 +44,7 @@ pub fn judge_schemas<'a, O: Output>(
     ensures right { IfOk result (λ j. IsRight writer.now reader.now limits.now j.0) }
     ensures answered { IfOk result (λ j. form ≡ Form.Text → (text : List ℕ)
         × SchemasAnswer (schema_nodes writer.now) (schema_nodes reader.now) limits.now text j.1 × O.keeps out.old text out.new) }
+    ensures json { IfOk result (λ j. form ≡ Form.Json → (line : List ℕ) × IsJudgedLine (schema_nodes writer.now) j.0 line j.1 × O.keeps out.old line out.new) }
     ensures status { IfOk result (λ j. StatusAnswer (schema_nodes writer.now) (schema_nodes reader.now) limits.now j.1) }
     ensures works { OnOk result (O.failures out.new ≡ O.failures out.old) }
     ensures fails { IsErrOf result PutError.CannotWrite → (O.failures out.new ≢ O.failures out.old) ⊎ O.stuck out.new }
@@ -56,7 +58,8 @@ pub fn judge_schemas<'a, O: Output>(
     Ok((verdict, status))
 }
 
-/// Judges the schemas of two texts, as [`judge_schemas`] does. Of the answer's text only the front is kept that there is room for.
+/// Judges the schemas of two texts, as [`judge_schemas`] does. Of the answer's text only the front is kept that there is room for. With
+/// JSON output this is proved of the status alone.
 ///
 /// # Errors
 ///

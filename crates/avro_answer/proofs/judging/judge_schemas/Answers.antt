@@ -1,5 +1,6 @@
 use Rattle.std.proofs.Common.{refl}
 use Rattle.avro_schema.specs.SeenSchema.{schema_nodes}
+use Rattle.avro_answer.specs.JsonAnswer.{json_line, judged_tree}
 use Rattle.avro_answer.specs.inside.VerdictTexts.{verdict_text}
 use Rattle.avro_answer.proofs.VerdictAnswers.{answered, status_answered}
 use Rattle.avro_answer.proofs.judging.judge_schemas.Goals as goal
@@ -16,3 +17,8 @@ returns-clause-answered g c = λ is_text.
 pub returns-clause-status : goal.returns-clause-status
 returns-clause-status g c =
     status_answered c.args.writer.now c.args.reader.now c.args.limits.now c.in_ok-verdict.verdict c.status_of-status.result c.status_of-status.ensures c.in_ok-verdict.ensures
+
+pub returns-clause-json : goal.returns-clause-json
+returns-clause-json g c = λ is_json.
+    let put = c.in_ok-put_verdict.ensures.put_json is_json in
+    (json_line (judged_tree (schema_nodes c.args.writer.now) put.0 c.in_ok-verdict.verdict), (put.0, refl, c.status_of-status.ensures), put.1)
