@@ -1,8 +1,9 @@
-ghost use Rattle.std.specs.Prelude.{◌≡◌, ◌++◌, codes, IfOk};
+ghost use Rattle.std.specs.Prelude.{◌≡◌, ◌++◌, codes, IfOk, option_copied};
 ghost use Rattle.std.specs.Result.{IfErr};
 ghost use Rattle.avro_schema.specs.SeenSchema.{schema_nodes};
 ghost use Rattle.avro_judge.specs.Headline.{IsRight};
 ghost use Rattle.avro_answer.specs.HistoryAnswer.{LineAnswer, HistoryAnswer, HistoryStatus, cut_texts, RefusesHistory, AllHaveSchemas};
+ghost use Rattle.avro_answer.specs.JsonAnswer.{IsHistoryLine};
 ghost use Rattle.avro_answer.specs.JudgeAnswer.{StatusAnswer};
 ghost use Rattle.avro_answer.specs.inside.VerdictTexts.{verdict_words};
 ghost use Rattle.avro_answer.specs.declared.form.Form.{Form};
@@ -65,8 +66,8 @@ fn line_of(alloc: Global, word: &str, verdict: &Verdict<'_>) -> Result<Vec<u8>, 
     Ok(line)
 }
 
-/// Judges two schemas, and returns a line of JSON, with the name of a file, and a mode if there is one. What is proved is its status, not
-/// the line.
+/// Judges two schemas, and returns a line of JSON of the verdict, with the name of a file, a mode if there is one, and its status. No clause
+/// says what names a fault has.
 ///
 /// # Errors
 ///
@@ -80,6 +81,7 @@ pub fn judge_json_line<'a>(
     limits: &JudgeLimits,
 ) -> Result<Judged<'a>, Memory>
     ensures right { IfOk result (λ j. IsRight writer.now reader.now limits.now j.verdict) }
+    ensures json { IfOk result (λ j. IsHistoryLine file.now (option_copied mode.entry) j.verdict j.answer.text.items j.answer.status) }
     ensures status { IfOk result (λ j. StatusAnswer (schema_nodes writer.now) (schema_nodes reader.now) limits.now j.answer.status) }
 {
     let verdict = judge_is_right(alloc, writer, reader, limits)?;
