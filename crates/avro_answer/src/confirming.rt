@@ -4,7 +4,8 @@ ghost use Rattle.avro_schema.specs.SeenSchema.{schema_nodes};
 ghost use Rattle.avro_schema_json.specs.Declaration.{max_text};
 ghost use Rattle.avro_schema_json.specs.declared.error.SchemaError.{SchemaError};
 ghost use Rattle.avro_certificate.specs.SeenCertificate.{dead_of, pairs_in};
-ghost use Rattle.avro_answer.specs.ConfirmAnswer.{SetsAnswer, SetsStatus, ConfirmAnswer, ConfirmStatus, HasCertificate, RefusesOneOf};
+ghost use Rattle.avro_answer.specs.ConfirmAnswer.{SetsAnswer, SetsStatus, SetsJson, ConfirmAnswer, ConfirmStatus, HasCertificate, RefusesOneOf};
+ghost use Rattle.avro_answer.specs.JsonAnswer.{json_line, confirmed_tree};
 ghost use Rattle.avro_answer.specs.RefusalText.{HaveSchemas};
 ghost use Rattle.avro_answer.specs.declared.form.Form.{Form};
 ghost use Rattle.avro_answer.specs.declared.refusal.Refusal.TheVariants.{Writer, OutOfMemory};
@@ -20,7 +21,7 @@ use avro_schema::{Memory, Schema};
 use std::alloc::{AllocError, Global};
 
 /// Says whether a certificate confirms two schemas, which it does if and only if its sets are closed: `confirmed` with status 0, otherwise
-/// `not confirmed` with status 1. With JSON output this is proved of the status alone.
+/// `not confirmed` with status 1. With JSON output it is the line of JSON of that.
 ///
 /// # Errors
 ///
@@ -33,13 +34,14 @@ pub fn confirm_schemas(
     form: Form,
 ) -> Result<Answer, Memory>
     ensures answered { IfOk result (λ a. form ≡ Form.Text → SetsAnswer (schema_nodes writer.now) (schema_nodes reader.now) (dead_of certificate.now) (pairs_in certificate.now) a.text.items a.status) }
+    ensures json { IfOk result (λ a. form ≡ Form.Json → SetsJson (schema_nodes writer.now) (schema_nodes reader.now) (dead_of certificate.now) (pairs_in certificate.now) a.text.items) }
     ensures status { IfOk result (λ a. SetsStatus (schema_nodes writer.now) (schema_nodes reader.now) (dead_of certificate.now) (pairs_in certificate.now) a.status) }
 {
     let is_confirmed = confirm(alloc, writer, reader, certificate)?.is_some();
     Ok(answer_confirmed(alloc, is_confirmed, form)?)
 }
 
-/// The answer `confirmed` with status 0, or `not confirmed` with status 1. With JSON output the status alone is proved.
+/// The answer `confirmed` with status 0, or `not confirmed` with status 1, or the line of JSON of that.
 ///
 /// # Errors
 ///
@@ -48,6 +50,7 @@ pub fn answer_confirmed(alloc: Global, is_confirmed: bool, form: Form) -> Result
     ensures yes { IfOk result (λ a. is_confirmed ≡ true → a.status ≡ 0) }
     ensures no { IfOk result (λ a. is_confirmed ≡ false → a.status ≡ 1) }
     ensures yes_text { IfOk result (λ a. form ≡ Form.Text → is_confirmed ≡ true → a.text.items ≡ codes "confirmed\n") }
+    ensures json { IfOk result (λ a. form ≡ Form.Json → a.text.items ≡ json_line (confirmed_tree is_confirmed)) }
     ensures no_text { IfOk result (λ a. form ≡ Form.Text → is_confirmed ≡ false → a.text.items ≡ codes "not confirmed\n") }
 {
     let text = match form {
