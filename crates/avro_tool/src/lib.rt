@@ -1,7 +1,14 @@
-//! The program `avro`, as a function over its words, a reader and two writers. Of its own functions the exit status of each `Failure` and
-//! the line of each refusal are proved, and that `Watched`, an input around another for `--progress`, takes, ends and counts as the other
-//! does; the rest is safe, and returns.
+//! The program `avro`, as a function over its words, a reader and two writers. Of its own functions these are proved: the exit status of
+//! each `Failure`, each `Finding` and each report, and the line of each refusal; what `confirm` prints of two schemas and a certificate
+//! that were read, and its status; the counts of `check`; and that `Watched`, an input around another for `--progress`, takes, ends and
+//! counts as the other does. The rest is safe, and returns.
+//!
+//! `run` makes an `Output` of the writer for the answers, and the commands put into that. No failed call of it is retried.
 #![tactic(auto)]
+
+ghost use Rattle.std.specs.Prelude.{◌≡◌, ◌⊎◌, ◌≤◌};
+ghost use Rattle.avro_tool.specs.FailureText.{exit_status};
+ghost use Rattle.avro_tool.specs.FoundStatus.{finding_status, first_failed, IsVerdict, worse};
 
 mod command_line;
 mod commands;
@@ -14,6 +21,7 @@ mod printing;
 mod progress;
 mod request;
 
+use avro_device::{Output, WriteOutput};
 use command_line::request_of;
 use commands::{
     check, confirm, copy, explain, header, history, judge, pipe, read, schema, show, version,
@@ -39,7 +47,10 @@ enum Finding {
 
 impl Finding {
     /// The finding for a verdict with this status.
-    fn of_verdict(status: u8) -> Finding {
+    fn of_verdict(status: u8) -> Finding
+        ensures verdict { IsVerdict result }
+        ensures status { status ≤ 2 → finding_status result ≡ status }
+    {
         match status {
             0 => Finding::Yes,
             1 => Finding::No,
@@ -47,7 +58,9 @@ impl Finding {
         }
     }
 
-    fn status(self) -> u8 {
+    fn status(self) -> u8
+        ensures { result ≡ finding_status self }
+    {
         match self {
             Finding::Good | Finding::Yes => 0,
             Finding::No => 1,
@@ -57,7 +70,9 @@ impl Finding {
     }
 
     /// The finding for several, after one more failed with a status.
-    fn or_failed(self, status: u8) -> Finding {
+    fn or_failed(self, status: u8) -> Finding
+        ensures { finding_status result ≡ first_failed self status }
+    {
         match self {
             Finding::Failed(first) => Finding::Failed(first),
             _ => Finding::Failed(status),
@@ -65,7 +80,10 @@ impl Finding {
     }
 
     /// The finding for both: a no outranks an undecided, which outranks a yes.
-    fn and(self, other: Finding) -> Finding {
+    fn and(self, other: Finding) -> Finding
+        ensures verdict { IsVerdict self → IsVerdict other → IsVerdict result }
+        ensures status { IsVerdict self → IsVerdict other → finding_status result ≡ worse (finding_status self) (finding_status other) }
+    {
         if self == Finding::No || other == Finding::No {
             Finding::No
         } else if self == Finding::Undecided {
@@ -104,7 +122,9 @@ pub fn run<R: Files + Clock + AllocGlobal, I: Read, O: Write, E: Write>(
 /// Reports a failure by one write, and returns its status. If standard error fails too, the
 /// status is all that can be reported; if memory runs out for the line, that is reported in its
 /// place.
-fn report<E: Write>(alloc: Global, failure: &Failure<'_>, err: &mut E) -> u8 {
+fn report<E: Write>(alloc: Global, failure: &Failure<'_>, err: &mut E) -> u8
+    ensures { (result ≡ exit_status failure.now) ⊎ (result ≡ 5) }
+{
     match failure.line(alloc) {
         Ok(line) => {
             let _ = err.write_all(&line);
@@ -115,7 +135,9 @@ fn report<E: Write>(alloc: Global, failure: &Failure<'_>, err: &mut E) -> u8 {
 }
 
 /// Reports that memory ran out, without allocating.
-fn report_memory<E: Write>(err: &mut E) -> u8 {
+fn report_memory<E: Write>(err: &mut E) -> u8
+    ensures { result ≡ 5 }
+{
     let failure = Failure::OutOfMemory;
     let _ = err.write_all(failure.fixed_line().as_bytes());
     failure.status()
@@ -131,11 +153,11 @@ fn answer<'a, R: Files + Clock + AllocGlobal, I: Read, O: Write, E: Write>(
 ) -> Result<Finding, Failure<'a>> {
     let request = request_of(rt.alloc(), words)?;
     refuse_files(rt, &request)?;
-    answer_request(rt, &request, input, out, err)
+    answer_request(rt, &request, input, &mut WriteOutput::new(out), err)
 }
 
 /// Does what is asked for.
-fn answer_request<'a, R: Files + Clock + AllocGlobal, I: Read, O: Write, E: Write>(
+fn answer_request<'a, R: Files + Clock + AllocGlobal, I: Read, O: Output, E: Write>(
     rt: &R,
     request: &Request<'a>,
     input: &mut I,

@@ -11,7 +11,7 @@ use crate::files::container::{open_container, open_watched, tell_file_counts};
 use crate::{Finding, report};
 use avro_answer::Form;
 use avro_container::{Counts, check};
-use avro_device::Input;
+use avro_device::{Input, Output};
 use avro_file::FileLimits;
 use std::alloc::Global;
 use std::io::Write;
@@ -19,7 +19,7 @@ use std::rt::{Clock, Files};
 
 /// Reads the containers in files, and prints how many data and blocks each has. If one has a fault, it is
 /// reported and the others are still read; the status is that of the first fault.
-pub(crate) fn check_files<'a, R: Files + Clock + AllocGlobal, O: Write, E: Write>(
+pub(crate) fn check_files<'a, R: Files + Clock + AllocGlobal, O: Output, E: Write>(
     rt: &R,
     words: &[&'a str],
     form: Form,
@@ -66,7 +66,7 @@ fn watch_file<'a, R: Files + Clock + AllocGlobal, E: Write>(
 }
 
 /// Prints how many data and blocks a container has, if it has no fault.
-fn tell_file<'a, O: Write>(
+fn tell_file<'a, O: Output>(
     alloc: Global,
     word: &'a str,
     counts: Result<Counts, Failure<'a>>,
