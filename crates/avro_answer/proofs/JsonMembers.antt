@@ -93,5 +93,5 @@ size_fits v r n e small is =
 
 -- whether there is an approval is whether the sets are closed
 pub confirmed_is : {A : Type 0} (o : Option A) (closed : Bool) → IfSome o (λ _. closed ≡ true) → IfNone o (closed ≡ false) → is_some o ≡ closed
-confirmed_is (Some x) closed yes no = sym yes
-confirmed_is None closed yes no = sym no
+confirmed_is (Some x) closed told refused = sym told
+confirmed_is None closed told refused = sym refused
