@@ -211,7 +211,6 @@ SPELLED = "the specification spells the canonical form; no JSON is shown"
 TOKEN_WISE = "a display goes out token by token; a clause says that the whole is serde_json's text"
 SCANNED = "a byte that is looked for in JSON, where none is written"
 LINE = "one whole line or its frame, which a clause or a test spells"
-IN_ORDER = "members in the order of the answer, which a map of serde_json does not keep; a clause says that the whole is its text"
 EXCEPTIONS = {
     UTF8: [
         ("avro_cursor/src/text.rt text_of", "the one function: simdutf8 takes longer to start than short texts take in all"),
@@ -235,8 +234,6 @@ EXCEPTIONS = {
         ("avro_answer/src/explaining.rt over_pairs", LINE),
         ("avro_answer/src/fault_lines.rt begin_faults", LINE),
         ("avro_answer/src/fault_place.rt push_step", "an entry in a path, which is no JSON"),
-        ("avro_answer/src/json_object.rt json", IN_ORDER),
-        ("avro_answer/src/json_object.rt new", IN_ORDER),
         ("avro_answer/src/many_data.rt fault_line", LINE),
         ("avro_canonical/src/opening.rt open_fields", SPELLED),
         ("avro_canonical/src/opening.rt open_node", SPELLED),
