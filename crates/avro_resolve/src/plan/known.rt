@@ -26,7 +26,7 @@ pub(crate) fn narrow(index: usize) -> u32 {
 }
 
 /// The pair at an index.
-pub(crate) fn pair_at(
+fn pair_at(
     known: &IndexSet<u64, Seeded>,
     reader: &Schema,
     index: usize,
@@ -47,17 +47,6 @@ pub(crate) fn index_in(known: &IndexSet<u64, Seeded>, count: u32, w: NodeId, r: 
     }
 }
 
-/// The index of a pair, which is added after the others where it is new.
-pub(crate) fn index_added(
-    known: &mut IndexSet<u64, Seeded>,
-    count: u32,
-    w: NodeId,
-    r: NodeId,
-) -> Result<u32, Memory> {
-    let (index, _) = known.insert_full(number(count, w, r))?;
-    Ok(narrow(index))
-}
-
 /// The numbers of the pairs that are kept, in their order. Where a pair is there before, a number that no pair has stands
 /// for it, so that each pair after it has its index.
 pub(crate) fn numbers_of(
@@ -75,4 +64,39 @@ pub(crate) fn numbers_of(
         }
     }
     Ok(known)
+}
+
+/// How many parts the pairs of a plan have together, at most: what is not kept is found by its names.
+const MOST_PARTS: usize = 262_144;
+
+/// The pairs of nodes that were found so far, each once.
+#[derive(Drop)]
+pub struct Found {
+    known: IndexSet<u64, Seeded>,
+    parts: usize,
+}
+
+impl Found {
+    /// No pairs.
+    pub fn new(alloc: Global, seed: Seeded) -> Found {
+        Found {
+            known: IndexSet::with_hasher(alloc, seed),
+            parts: 0,
+        }
+    }
+
+    /// The pair at an index, if it is kept.
+    pub fn pair(&self, reader: &Schema, index: usize) -> Option<(NodeId, NodeId)> {
+        if self.parts > MOST_PARTS {
+            return None;
+        }
+        pair_at(&self.known, reader, index)
+    }
+
+    /// The index of a part's pair, which is added after the others where it is new.
+    pub fn index_of(&mut self, reader: &Schema, w: NodeId, r: NodeId) -> Result<u32, Memory> {
+        self.parts = self.parts.saturating_add(1);
+        let (index, _) = self.known.insert_full(number(count(reader), w, r))?;
+        Ok(narrow(index))
+    }
 }

@@ -2,16 +2,11 @@ ghost use Rattle.std.specs.Prelude.{IfOk};
 ghost use Rattle.avro_schema.specs.SeenSchema.{schema_nodes};
 ghost use Rattle.avro_compare.specs.Planned.{AreComparisons, IsComparison};
 
-use crate::plan::known::{count, index_added, pair_at};
+use crate::plan::known::Found;
 use crate::plan::ordering::parts_of;
 use avro_compare::{Comparison, Names, compare};
 use avro_schema::{Memory, Schema};
-use avro_texts::Seeded;
-use indexmap::IndexSet;
 use std::alloc::Global;
-
-/// How many parts the pairs of a plan have together, at most: what is not kept is found by its names.
-const MOST_PARTS: usize = 262_144;
 
 /// What a plan keeps of the pairs of nodes that the roots lead to, and the indices of the pairs of their parts.
 /// The roots' pair is the first.
@@ -23,21 +18,26 @@ pub(crate) fn compare_reached(
     ensures { IfOk result (λ r. AreComparisons (schema_nodes writer.now) (schema_nodes reader.now) r.0.items) }
 {
     let names = Names::new(alloc, writer, reader)?;
-    let mut known = IndexSet::with_hasher(alloc, names.seed());
-    index_added(&mut known, count(reader), writer.root(), reader.root())?;
+    compare_from_roots(alloc, &names)
+}
+
+/// The same by the tables of names.
+fn compare_from_roots(
+    alloc: Global,
+    names: &Names,
+) -> Result<(Vec<Comparison>, Vec<Vec<u32>>), Memory>
+    ensures { IfOk result (λ r. AreComparisons (schema_nodes names.now.0) (schema_nodes names.now.1) r.0.items) }
+{
+    let (writer, reader) = (names.writer(), names.reader());
+    let mut found = Found::new(alloc, names.seed());
+    found.index_of(reader, writer.root(), reader.root())?;
     let mut kept = Vec::new(alloc);
     let mut parts = Vec::new(alloc);
-    let mut total = 0usize;
     for _round in 0..most_pairs(writer, reader) {
-        if total > MOST_PARTS {
-            return Ok((kept, parts));
-        }
-        match pair_at(&known, reader, kept.len()) {
+        match found.pair(reader, kept.len()) {
             Some((w, r)) => {
-                let comparison = compare(alloc, &names, w, r)?;
-                let indices = find_parts(alloc, &names, &comparison, &mut known)?;
-                total = total.saturating_add(indices.len());
-                parts.push(indices)?;
+                let comparison = compare(alloc, names, w, r)?;
+                parts.push(find_parts(alloc, names, &comparison, &mut found)?)?;
                 kept.push(comparison)?;
             }
             None => return Ok((kept, parts)),
@@ -56,13 +56,13 @@ fn find_parts(
     alloc: Global,
     names: &Names,
     pair: &Comparison,
-    known: &mut IndexSet<u64, Seeded>,
+    found: &mut Found,
 ) -> Result<Vec<u32>, Memory>
     requires { IsComparison (schema_nodes names.now.0) (schema_nodes names.now.1) pair.now }
 {
     let mut indices = Vec::new(alloc);
     for part in &parts_of(alloc, names, pair)? {
-        indices.push(index_added(known, count(names.reader()), part.0, part.1)?)?;
+        indices.push(found.index_of(names.reader(), part.0, part.1)?)?;
     }
     Ok(indices)
 }

@@ -8,8 +8,8 @@ use Rattle.avro_compare.proofs.public.Planning.{holds_push, same_some}
 use Rattle.avro_resolve.specs.Copied.{IsFlag, IsStraight}
 use Rattle.avro_resolve.proofs.plan.flagging.flags_of.Goals as goal
 
-pub is_straight-requires-clause-pair : goal.is_straight-requires-clause-pair
-is_straight-requires-clause-pair c =
+pub is_straight-requires : goal.is_straight-requires
+is_straight-requires c =
     subst (λ s. IsComparison (schema_nodes s.0) (schema_nodes s.1) c.index-pairs-index.result) (sym c.new-plan.ensures)
     (c.requires c.loop-index.index c.index-pairs-index.result
     (slice_get_read c.args.pairs.now (length c.args.pairs.now) c.loop-index.index c.index-pairs-index.result refl c.loop-index-test.true c.index-pairs-index.is))

@@ -1,12 +1,9 @@
-use Rattle.std.proofs.Common.{length, refl, subst}
+use Rattle.std.proofs.Common.{IfOk, subst}
 use Rattle.avro_schema.specs.SeenSchema.{schema_nodes}
-use Rattle.avro_compare.specs.Planned.{IsComparison}
-use Rattle.avro_compare.proofs.public.Planning.{holds_push}
+use Rattle.avro_schema.specs.declared.schema.Schema.{Schema}
+use Rattle.avro_compare.specs.Planned.{AreComparisons}
 use Rattle.avro_resolve.proofs.plan.walking.compare_reached.Goals as goal
 
-pub loop-round-preserved : goal.loop-round-preserved
-loop-round-preserved c =
-    let before = c.loop-round.kept.items in
-    (holds_push (λ k p. IsComparison (schema_nodes c.args.writer.now) (schema_nodes c.args.reader.now) p) before c.push-in-Some.new.self.items c.in_ok-comparison-in-Some.comparison (length before)
-    c.in_ok-push-in-Some-2.ensures.items (c.loop-round.invariant, refl)
-    (subst (λ s. IsComparison (schema_nodes s.0) (schema_nodes s.1) c.in_ok-comparison-in-Some.comparison) c.in_ok-names.ensures c.in_ok-comparison-in-Some.ensures.0)).0
+pub returns : goal.returns
+returns c =
+    subst (λ (s : Schema × Schema). IfOk c.compare_from_roots.result (λ r. AreComparisons (schema_nodes s.0) (schema_nodes s.1) r.0.items)) c.in_ok-names.ensures c.compare_from_roots.ensures
