@@ -34,5 +34,6 @@ fn put_answer<O: Output>(out: &mut O, answer: &[u8]) -> Result<(), DeviceFault>
     ensures flushed { OnOk result (O.flushed out.new) }
 {
     put_all(&mut *out, answer)?;
-    out.flush()
+    out.flush()?;
+    Ok(())
 }
