@@ -1,14 +1,13 @@
+pub mod public
 pub mod Certified
 pub mod DataFound
 pub mod DataLines
 pub mod DataTexts
 pub mod FaultLines
-pub mod FaultsAnswers
 pub mod Fronts
 pub mod HistoryLines
 pub mod HistoryTexts
 pub mod JsonMembers
-pub mod PairLimits
 pub mod ReadLaws
 pub mod Refused
 pub mod TextLaws

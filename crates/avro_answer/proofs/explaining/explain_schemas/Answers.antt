@@ -1,8 +1,8 @@
 use Rattle.std.proofs.Common.{◌∙◌, arith}
 use Rattle.avro_schema.specs.SeenSchema.{schema_nodes}
 use Rattle.avro_explain.specs.Places.{marked}
-use Rattle.avro_answer.proofs.FaultsAnswers.{no_member, some_member, yes_status, no_status, with_texts}
-use Rattle.avro_answer.proofs.PairLimits.{within_limit}
+use Rattle.avro_answer.proofs.public.FaultsAnswers.{no_member, some_member, yes_status, no_status, with_texts}
+use Rattle.avro_answer.proofs.public.PairLimits.{within_limit}
 use Rattle.avro_answer.proofs.explaining.explain_schemas.Goals as goal
 
 pub returns-in_ok-from_slice-in-Ok-clause-status :
