@@ -11,4 +11,4 @@ returns-clause-json c = λ is_json.
     let closed = is_closed (schema_nodes c.args.writer.now) (schema_nodes c.args.reader.now) (dead_of c.args.certificate.now) (pairs_in c.args.certificate.now) in
     c.in_ok-answer_confirmed.ensures.json is_json
     ∙ ap (λ (b : Bool). json_line (confirmed_tree b))
-    (c.is_some.ensures ∙ confirmed_is c.in_ok-confirm.field-0 closed c.in_ok-confirm.ensures.confirmed c.in_ok-confirm.ensures.refused)
+    (c.is_some-is_confirmed.ensures ∙ confirmed_is c.in_ok-confirm.field-0 closed c.in_ok-confirm.ensures.confirmed c.in_ok-confirm.ensures.refused)
