@@ -1,4 +1,3 @@
 pub mod ContainerText
-pub mod DefaultLimits
 pub mod FailureText
 pub mod FoundStatus

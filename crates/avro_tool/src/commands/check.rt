@@ -1,25 +1,17 @@
-ghost use Rattle.std.specs.Prelude.{◌≡◌, IfOk, Err, Some};
-ghost use Rattle.avro_file.specs.FileFault.{FileFault};
-ghost use Rattle.avro_file.specs.FileSeen.{file_fault};
-ghost use Rattle.avro_file.specs.declared.error.CopyError.{CopyError};
-ghost use Rattle.avro_container.specs.Checking.{Takes, IsWhole, IsFaulty};
-ghost use Rattle.avro_tool.specs.DefaultLimits.{default_limits};
-ghost use Rattle.avro_tool.specs.declared.failure.Failure.TheVariants.{Container};
-
 use crate::failure::Failure;
 use crate::files::container::{open_container, open_watched, tell_file_counts};
 use crate::{Finding, report};
 use avro_answer::Form;
 use avro_container::{Counts, check};
-use avro_device::{Input, Output};
-use avro_file::FileLimits;
+use avro_device::Input;
+use avro_file::{CopyError, FileLimits};
 use std::alloc::Global;
 use std::io::Write;
 use std::rt::{Clock, Files};
 
 /// Reads the containers in files, and prints how many data and blocks each has. If one has a fault, it is
 /// reported and the others are still read; the status is that of the first fault.
-pub(crate) fn check_files<'a, R: Files + Clock + AllocGlobal, O: Output, E: Write>(
+pub(crate) fn check_files<'a, R: Files + Clock + AllocGlobal, O: Write, E: Write>(
     rt: &R,
     words: &[&'a str],
     form: Form,
@@ -50,7 +42,10 @@ pub(crate) fn check_files<'a, R: Files + Clock + AllocGlobal, O: Output, E: Writ
 /// How many data and blocks the container in a file has, each of which is read.
 fn check_file<'a, R: Files + AllocGlobal>(rt: &R, word: &'a str) -> Result<Counts, Failure<'a>> {
     let mut input = open_container(rt, word)?;
-    counts_of(rt.alloc(), &mut input, word)
+    match count_data(rt.alloc(), &mut input) {
+        Ok(counts) => Ok(counts),
+        Err(error) => Err(Failure::of_container(word, error)),
+    }
 }
 
 /// The same, with its progress reported.
@@ -60,13 +55,16 @@ fn watch_file<'a, R: Files + Clock + AllocGlobal, E: Write>(
     err: &mut E,
 ) -> Result<Counts, Failure<'a>> {
     let mut input = open_watched(rt, word, err)?;
-    let counts = counts_of(rt.alloc(), &mut input, word);
+    let counts = count_data(rt.alloc(), &mut input);
     input.finish();
-    counts
+    match counts {
+        Ok(counts) => Ok(counts),
+        Err(error) => Err(Failure::of_container(word, error)),
+    }
 }
 
 /// Prints how many data and blocks a container has, if it has no fault.
-fn tell_file<'a, O: Output>(
+fn tell_file<'a, O: Write>(
     alloc: Global,
     word: &'a str,
     counts: Result<Counts, Failure<'a>>,
@@ -81,18 +79,6 @@ fn tell_file<'a, O: Output>(
 }
 
 /// How many data and blocks a container has, each of which is read.
-fn counts_of<'a, I: Input>(
-    alloc: Global,
-    input: &mut I,
-    word: &'a str,
-) -> Result<Counts, Failure<'a>>
-    ensures whole { IfOk result (λ counts. Takes I.gives input.old input.new
-        (IsWhole default_limits (I.ended input.new) counts.items counts.blocks)) }
-    ensures refused { (e : CopyError) (f : FileFault) → result ≡ Err (Container word.exit e) → file_fault e ≡ Some f
-        → Takes I.gives input.old input.new (IsFaulty default_limits (I.ended input.new) f) }
-{
-    match check(alloc, input, &FileLimits::default()) {
-        Ok(counts) => Ok(counts),
-        Err(error) => Err(Failure::of_container(word, error)),
-    }
+fn count_data<I: Input>(alloc: Global, input: &mut I) -> Result<Counts, CopyError> {
+    check(alloc, input, &FileLimits::default())
 }

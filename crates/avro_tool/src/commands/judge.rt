@@ -4,17 +4,17 @@ use crate::files::certificate::write_certificate_file;
 use crate::files::refutation::write_refutation_file;
 use crate::files::schema::{read_schema_file, read_text_file};
 use crate::request::Judging;
-use avro_answer::{Form, judge_schemas};
-use avro_device::Output;
-use avro_judge::{JudgeLimits, Verdict};
+use avro_answer::judge_schemas;
+use avro_device::WriteOutput;
+use avro_judge::Verdict;
 use avro_schema::Schema;
 use avro_schema_json::ReaderText;
-use std::alloc::Global;
+use std::io::Write;
 use std::rt::Files;
 
 /// Judges the schemas of two files, and prints the verdict. After a yes the certificate is written
 /// where a file is named for it, and after a no the refutation.
-pub(crate) fn judge_files<'a, R: Files + AllocGlobal, O: Output>(
+pub(crate) fn judge_files<'a, R: Files + AllocGlobal, O: Write>(
     rt: &R,
     asked: &Judging<'a>,
     out: &mut O,
@@ -24,7 +24,7 @@ pub(crate) fn judge_files<'a, R: Files + AllocGlobal, O: Output>(
 }
 
 /// Judges a writer's schema and the reader's, which is read first.
-fn judge_written<'a, R: Files + AllocGlobal, O: Output>(
+fn judge_written<'a, R: Files + AllocGlobal, O: Write>(
     rt: &R,
     asked: &Judging<'a>,
     writer: &ReaderText,
@@ -35,36 +35,24 @@ fn judge_written<'a, R: Files + AllocGlobal, O: Output>(
 }
 
 /// Judges two schemas, prints the verdict, and writes its evidence where a file is named for it.
-fn judge_pair<'a, R: Files + AllocGlobal, O: Output>(
+fn judge_pair<'a, R: Files + AllocGlobal, O: Write>(
     rt: &R,
     asked: &Judging<'a>,
     writer: &ReaderText,
     reader: &Schema,
     out: &mut O,
 ) -> Result<Finding, Failure<'a>> {
-    let (verdict, finding) = tell_verdict(
+    let mut output = WriteOutput::new(out);
+    let (verdict, status) = judge_schemas(
+        &mut output,
         rt.alloc(),
         writer.schema(),
         reader,
         &asked.limits,
         asked.form,
-        out,
     )?;
     write_evidence(rt, asked, writer, &verdict)?;
-    Ok(finding)
-}
-
-/// Judges two schemas, and prints the verdict.
-fn tell_verdict<'a, 's, O: Output>(
-    alloc: Global,
-    writer: &'s Schema,
-    reader: &'s Schema,
-    limits: &JudgeLimits,
-    form: Form,
-    out: &mut O,
-) -> Result<(Verdict<'s>, Finding), Failure<'a>> {
-    let (verdict, status) = judge_schemas(out, alloc, writer, reader, limits, form)?;
-    Ok((verdict, Finding::of_verdict(status)))
+    Ok(Finding::of_verdict(status))
 }
 
 /// Writes the certificate of a yes, or the datum of a no, where a file is named for it.

@@ -3,7 +3,6 @@ use crate::failure::Failure;
 use crate::files::schema::{MAX_TEXT, bytes_of};
 use crate::printing::print_bytes;
 use avro_answer::{Shown, schema_refusal};
-use avro_device::Output;
 use avro_schema::Schema;
 use avro_schema_json::{SchemaError, read_schema};
 use avro_why::{Reason, Reasons, find_reasons};
@@ -16,7 +15,7 @@ const MAX_REASONS: usize = 100;
 
 /// Reads the schema of a file, and prints its number of nodes, its canonical form or its fingerprint. If it is refused,
 /// and the words ask for that, the places of its faults are reported.
-pub(crate) fn show_schema<'a, R: Files + AllocGlobal, O: Output, E: Write>(
+pub(crate) fn show_schema<'a, R: Files + AllocGlobal, O: Write, E: Write>(
     rt: &R,
     file: &'a str,
     shown: Shown,
@@ -35,7 +34,7 @@ pub(crate) fn show_schema<'a, R: Files + AllocGlobal, O: Output, E: Write>(
 }
 
 /// Prints what is shown of a schema.
-fn tell_schema<'a, O: Output>(
+fn tell_schema<'a, O: Write>(
     alloc: Global,
     schema: &Schema,
     shown: Shown,

@@ -1,14 +1,14 @@
 use crate::Finding;
 use crate::failure::Failure;
-use crate::printing::{print, print_bytes};
+use crate::printing::print;
 use crate::progress::Watched;
 use avro_answer::{Form, counts_line};
 use avro_container::Counts;
-use avro_device::{Output, ReadInput};
+use avro_device::ReadInput;
 use std::alloc::Global;
-use std::fs;
 use std::io::{BufReader, Cursor, Write};
 use std::rt::{Clock, Files};
+use std::{fs, io};
 
 /// How many bytes are read or written at once.
 pub(crate) const ROOM: usize = 65_536;
@@ -57,17 +57,19 @@ pub(crate) fn length_of<R: Files>(rt: &R, word: &str) -> Option<u64> {
 }
 
 /// Prints how many data and blocks a container has.
-pub(crate) fn tell_counts<'a, O: Output>(
+pub(crate) fn tell_counts<'a, O: Write>(
     out: &mut O,
     counts: Counts,
 ) -> Result<Finding, Failure<'a>> {
-    print_counts(out, counts)?;
-    Ok(Finding::Good)
+    match print_counts(out, counts) {
+        Ok(()) => Ok(Finding::Good),
+        Err(_) => Err(Failure::CannotPrint),
+    }
 }
 
 /// Prints how many data and blocks the container in a file has, with the file's name if there are several
 /// files, or if the line is one of JSON.
-pub(crate) fn tell_file_counts<'a, O: Output>(
+pub(crate) fn tell_file_counts<'a, O: Write>(
     alloc: Global,
     out: &mut O,
     word: &str,
@@ -88,12 +90,11 @@ pub(crate) fn tell_file_counts<'a, O: Output>(
 }
 
 /// Prints the line of two counts by one write.
-pub(crate) fn print_counts<'a, O: Output>(out: &mut O, counts: Counts) -> Result<(), Failure<'a>> {
+pub(crate) fn print_counts<O: Write>(out: &mut O, counts: Counts) -> io::Result<()> {
     let Counts { items, blocks } = counts;
     let mut line = Cursor::new([0; ROOM_OF_COUNTS]);
-    if writeln!(line, "data {items} blocks {blocks}").is_err() {
-        return Err(Failure::CannotPrint);
-    }
+    writeln!(line, "data {items} blocks {blocks}")?;
     let len = (line.position() as usize).min(ROOM_OF_COUNTS);
-    print_bytes(out, &line.get_ref()[..len])
+    out.write_all(&line.get_ref()[..len])?;
+    out.flush()
 }
