@@ -1,7 +1,8 @@
 //! The program `avro`, as a function over its words, a reader and two writers. Of its own functions these are proved: the exit status of
-//! each `Failure`, each `Finding` and each report, and the line of each refusal; what `confirm` prints of two schemas and a certificate
-//! that were read, and its status; the counts of `check`; and that `Watched`, an input around another for `--progress`, takes, ends and
-//! counts as the other does. The rest is safe, and returns.
+//! each `Failure` and each `Finding`, and the line of each refusal; that the text and the status of `judge`, `explain`, `confirm` and
+//! `schema` are those of `avro_answer` for the schemas that were read, in their order; the counts
+//! of `check`; and that `Watched`, an input around another for `--progress`, takes, ends and counts as the other does. The rest is safe,
+//! and returns.
 //!
 //! `run` makes an `Output` of the writer for the answers, and the commands put into that. No failed call of it is retried.
 #![tactic(auto)]

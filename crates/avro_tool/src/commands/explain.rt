@@ -1,5 +1,11 @@
 //! All faults of two schemas, by name.
 
+ghost use Rattle.std.specs.Prelude.{◌≡◌, ℕ, List, IfOk};
+ghost use Rattle.avro_schema.specs.SeenSchema.{schema_nodes};
+ghost use Rattle.avro_answer.specs.ExplainAnswer.{FaultsAnswer, FaultsStatus};
+ghost use Rattle.avro_answer.specs.declared.form.Form.{Form};
+ghost use Rattle.avro_tool.specs.FoundStatus.{finding_status};
+
 use crate::Finding;
 use crate::failure::Failure;
 use crate::files::schema::read_schema_file;
@@ -40,7 +46,11 @@ fn explain_pair<'a, O: Output>(
     writer: &Schema,
     reader: &Schema,
     out: &mut O,
-) -> Result<Finding, Failure<'a>> {
+) -> Result<Finding, Failure<'a>>
+    ensures answered { IfOk result (λ f. asked.now.form ≡ Form.Text → (text : List ℕ)
+        × FaultsAnswer (schema_nodes writer.now) (schema_nodes reader.now) asked.now.max_pairs text (finding_status f) × O.keeps out.old text out.new) }
+    ensures status { IfOk result (λ f. FaultsStatus (schema_nodes writer.now) (schema_nodes reader.now) asked.now.max_pairs (finding_status f)) }
+{
     match explain(alloc, writer, reader, asked.max_pairs as usize) {
         Ok(found) if found.faults.is_empty() => {
             print(out, no_fault(asked.form))?;

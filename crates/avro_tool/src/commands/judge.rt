@@ -1,3 +1,9 @@
+ghost use Rattle.std.specs.Prelude.{◌≡◌, ℕ, List, IfOk};
+ghost use Rattle.avro_schema.specs.SeenSchema.{schema_nodes};
+ghost use Rattle.avro_answer.specs.JudgeAnswer.{SchemasAnswer, StatusAnswer};
+ghost use Rattle.avro_answer.specs.declared.form.Form.{Form};
+ghost use Rattle.avro_tool.specs.FoundStatus.{finding_status};
+
 use crate::Finding;
 use crate::failure::Failure;
 use crate::files::certificate::write_certificate_file;
@@ -41,7 +47,11 @@ fn judge_pair<'a, R: Files + AllocGlobal, O: Output>(
     writer: &ReaderText,
     reader: &Schema,
     out: &mut O,
-) -> Result<Finding, Failure<'a>> {
+) -> Result<Finding, Failure<'a>>
+    ensures answered { IfOk result (λ f. asked.now.form ≡ Form.Text → (text : List ℕ)
+        × SchemasAnswer (schema_nodes writer.now.1) (schema_nodes reader.now) asked.now.limits text (finding_status f) × O.keeps out.old text out.new) }
+    ensures status { IfOk result (λ f. StatusAnswer (schema_nodes writer.now.1) (schema_nodes reader.now) asked.now.limits (finding_status f)) }
+{
     let (verdict, finding) = tell_verdict(
         rt.alloc(),
         writer.schema(),
@@ -62,7 +72,11 @@ fn tell_verdict<'a, 's, O: Output>(
     limits: &JudgeLimits,
     form: Form,
     out: &mut O,
-) -> Result<(Verdict<'s>, Finding), Failure<'a>> {
+) -> Result<(Verdict<'s>, Finding), Failure<'a>>
+    ensures answered { IfOk result (λ v. form ≡ Form.Text → (text : List ℕ)
+        × SchemasAnswer (schema_nodes writer.now) (schema_nodes reader.now) limits.now text (finding_status v.1) × O.keeps out.old text out.new) }
+    ensures status { IfOk result (λ v. StatusAnswer (schema_nodes writer.now) (schema_nodes reader.now) limits.now (finding_status v.1)) }
+{
     let (verdict, status) = judge_schemas(out, alloc, writer, reader, limits, form)?;
     Ok((verdict, Finding::of_verdict(status)))
 }

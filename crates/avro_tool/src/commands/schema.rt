@@ -1,3 +1,8 @@
+ghost use Rattle.std.specs.Prelude.{◌≡◌, ℕ, List, IfOk, OnOk};
+ghost use Rattle.avro_schema.specs.SeenSchema.{schema_nodes};
+ghost use Rattle.avro_answer.specs.SchemaAnswer.{NodesAnswer};
+ghost use Rattle.avro_tool.specs.FoundStatus.{finding_status};
+
 use crate::Finding;
 use crate::failure::Failure;
 use crate::files::schema::{MAX_TEXT, bytes_of};
@@ -40,7 +45,10 @@ fn tell_schema<'a, O: Output>(
     schema: &Schema,
     shown: Shown,
     out: &mut O,
-) -> Result<Finding, Failure<'a>> {
+) -> Result<Finding, Failure<'a>>
+    ensures answered { OnOk result ((text : List ℕ) × NodesAnswer shown (schema_nodes schema.now) text × O.keeps out.old text out.new) }
+    ensures good { IfOk result (λ f. finding_status f ≡ 0) }
+{
     let line = avro_answer::show_schema(alloc, schema, shown)?;
     print_bytes(out, &line)?;
     Ok(Finding::Good)
