@@ -11,13 +11,13 @@ ghost use Rattle.avro_schema_json.specs.DeclaredAttributes.{unless};
 ghost use Rattle.avro_schema_json.specs.DeclaredFaults.{refusals_of_nodes, or_else};
 ghost use Rattle.avro_schema_json.specs.DeclaredSchema.{field_default, is_default_read, are_defaults_read, are_all_defaults_read, completed_nodes};
 ghost use Rattle.avro_schema_json.specs.inside.Repeats.{AreNamesDistinct};
-ghost use Rattle.avro_schema_json.specs.inside.Tables.{AreTables};
+ghost use Rattle.avro_schema_json.specs.inside.Tables.{IsMarking};
 ghost use Rattle.avro_schema_json.specs.inside.OwnDefaults.{all_without_defaults};
 ghost use Rattle.avro_schema_json.specs.inside.SeenDefaults.{data_seen, lists_seen, defaults_of_node as node_defaults_by, first_or, others_of, fields_with_defaults, node_with_defaults, nodes_with_defaults};
 ghost use Rattle.avro_schema_json.specs.inside.SeenRaw.{raw_field_of, raw_fields_of, raw_node_of, raw_nodes_of};
 ghost use Rattle.avro_schema_json.specs.declared.error.SchemaError.TheVariants.{InvalidDefault, OutOfMemory};
 
-use crate::defaults::tables::{Tables, tables_of};
+use crate::defaults::tables::{Marking, marking_of};
 use crate::defaults::{default_of, unmarked_default};
 use crate::error::SchemaError;
 use crate::raw::{RawEnum, RawField, RawNode, RawRecord};
@@ -47,15 +47,16 @@ fn default_of_field(
     alloc: Global,
     seed: Seeded,
     raws: &[RawNode],
-    tables: &Option<Tables<'_>>,
+    marking: &mut Option<Marking<'_>>,
     field: &RawField,
 ) -> Result<Option<Datum>, Memory>
-    requires tables { IfSome tables.now (AreTables (all_without_defaults raws.now)) }
-    ensures { IfOk result (λ datum. option_map value_of datum ≡ field_default (all_without_defaults raws.now) (raw_field_of field.now)) }
+    requires marking { IfSome marking.old (IsMarking (all_without_defaults raws.now)) }
+    ensures marking { OnOk result (IfSome marking.new (IsMarking (all_without_defaults raws.now))) }
+    ensures default { IfOk result (λ datum. option_map value_of datum ≡ field_default (all_without_defaults raws.now) (raw_field_of field.now)) }
 {
     match field.default {
-        Some(tree) => match tables {
-            Some(tables) => default_of(alloc, seed, raws, tables, tree, field.node),
+        Some(tree) => match marking {
+            Some(marking) => default_of(alloc, seed, raws, marking, tree, field.node),
             None => unmarked_default(alloc, seed, raws, tree, field.node),
         },
         None => Ok(None),
@@ -67,17 +68,18 @@ fn defaults_of_fields(
     alloc: Global,
     seed: Seeded,
     raws: &[RawNode],
-    tables: &Option<Tables<'_>>,
+    marking: &mut Option<Marking<'_>>,
     fields: &[RawField],
 ) -> Result<NodeDefaults, Memory>
-    requires tables { IfSome tables.now (AreTables (all_without_defaults raws.now)) }
+    requires marking { IfSome marking.old (IsMarking (all_without_defaults raws.now)) }
+    ensures marking { OnOk result (IfSome marking.new (IsMarking (all_without_defaults raws.now))) }
     ensures data { IfOk result (λ defaults. data_seen defaults.of_fields.items ≡ map (field_default (all_without_defaults raws.now)) (raw_fields_of fields.now)) }
     ensures read { IfOk result (λ defaults. defaults.are_read ≡ list_all (is_default_read (all_without_defaults raws.now)) (raw_fields_of fields.now)) }
 {
     let mut of_fields: Vec<Option<Datum>> = Vec::new(alloc);
     let mut are_read = true;
     for field in fields {
-        let default = default_of_field(alloc, seed, raws, tables, field)?;
+        let default = default_of_field(alloc, seed, raws, marking, field)?;
         are_read = are_read && (default.is_some() || !field.default.is_some());
         of_fields.push(default)?;
     }
@@ -92,15 +94,16 @@ fn defaults_of_node(
     alloc: Global,
     seed: Seeded,
     raws: &[RawNode],
-    tables: &Option<Tables<'_>>,
+    marking: &mut Option<Marking<'_>>,
     raw: &RawNode,
 ) -> Result<NodeDefaults, Memory>
-    requires tables { IfSome tables.now (AreTables (all_without_defaults raws.now)) }
+    requires marking { IfSome marking.old (IsMarking (all_without_defaults raws.now)) }
+    ensures marking { OnOk result (IfSome marking.new (IsMarking (all_without_defaults raws.now))) }
     ensures data { IfOk result (λ defaults. data_seen defaults.of_fields.items ≡ node_defaults_by (all_without_defaults raws.now) (raw_node_of raw.now)) }
     ensures read { IfOk result (λ defaults. defaults.are_read ≡ are_defaults_read (all_without_defaults raws.now) (raw_node_of raw.now)) }
 {
     match raw {
-        RawNode::Record(record) => defaults_of_fields(alloc, seed, raws, tables, &record.fields),
+        RawNode::Record(record) => defaults_of_fields(alloc, seed, raws, marking, &record.fields),
         _ => Ok(NodeDefaults {
             of_fields: Vec::new(alloc),
             are_read: true,
@@ -119,19 +122,19 @@ fn is_helped(field: &RawField) -> bool {
 }
 
 /// The tables of nodes, if they help to read a default.
-fn tables_for<'a>(
+fn marking_for<'a>(
     alloc: Global,
     seed: Seeded,
     raws: &'a [RawNode<'_>],
-) -> Result<Option<Tables<'a>>, Memory>
+) -> Result<Option<Marking<'a>>, Memory>
     requires distinct { AreNamesDistinct (all_without_defaults raws.now) }
-    ensures { IfOk result (λ tables. IfSome tables (AreTables (all_without_defaults raws.now))) }
+    ensures { IfOk result (λ marking. IfSome marking (IsMarking (all_without_defaults raws.now))) }
 {
     for raw in raws {
         match raw {
             RawNode::Record(record) => {
                 if record.fields.iter().any(|field| is_helped(field)) {
-                    return Ok(Some(tables_of(alloc, seed, raws)?));
+                    return Ok(Some(marking_of(alloc, seed, raws)?));
                 }
             }
             _ => {}
@@ -145,9 +148,10 @@ fn defaults_by_tables(
     alloc: Global,
     seed: Seeded,
     raws: &[RawNode],
-    tables: &Option<Tables<'_>>,
+    marking: &mut Option<Marking<'_>>,
 ) -> Result<Defaults, Memory>
-    requires tables { IfSome tables.now (AreTables (all_without_defaults raws.now)) }
+    requires marking { IfSome marking.old (IsMarking (all_without_defaults raws.now)) }
+    ensures marking { OnOk result (IfSome marking.new (IsMarking (all_without_defaults raws.now))) }
     ensures data { IfOk result (λ defaults. lists_seen defaults.of_nodes.items ≡ map (node_defaults_by (all_without_defaults raws.now)) (raw_nodes_of raws.now)) }
     ensures read { IfOk result (λ defaults. defaults.are_read ≡ are_all_defaults_read (raw_nodes_of raws.now)) }
 {
@@ -157,7 +161,7 @@ fn defaults_by_tables(
         let NodeDefaults {
             of_fields,
             are_read: are_these_read,
-        } = defaults_of_node(alloc, seed, raws, tables, raw)?;
+        } = defaults_of_node(alloc, seed, raws, marking, raw)?;
         are_read = are_read && are_these_read;
         of_nodes.push(of_fields)?;
     }
@@ -170,8 +174,8 @@ fn defaults_of_nodes(alloc: Global, seed: Seeded, raws: &[RawNode]) -> Result<De
     ensures data { IfOk result (λ defaults. lists_seen defaults.of_nodes.items ≡ map (node_defaults_by (all_without_defaults raws.now)) (raw_nodes_of raws.now)) }
     ensures read { IfOk result (λ defaults. defaults.are_read ≡ are_all_defaults_read (raw_nodes_of raws.now)) }
 {
-    let tables = tables_for(alloc, seed, raws)?;
-    defaults_by_tables(alloc, seed, raws, &tables)
+    let mut marking = marking_for(alloc, seed, raws)?;
+    defaults_by_tables(alloc, seed, raws, &mut marking)
 }
 
 /// The next default, or none where the list ends.

@@ -6,7 +6,7 @@ ghost use Rattle.avro_schema.specs.Seen.{value_of, values_of, entries_of, ids_of
 ghost use Rattle.avro_schema.specs.Value.{Value as SeenValue};
 ghost use Rattle.avro_schema_json.specs.DeclaredDefaults.{default_of as default_by, each_default, entries_default as each_entry, default_under, fields_default as each_field, object_default as default_of_object, items_default as default_of_items, member_keys, first_fit};
 ghost use Rattle.avro_schema_json.specs.inside.OwnDefaults.{own_default as own_default_by, default_of_fields, without_defaults, all_without_defaults, fields_seen};
-ghost use Rattle.avro_schema_json.specs.inside.Tables.{AreTables};
+ghost use Rattle.avro_schema_json.specs.inside.Tables.{IsMarking};
 ghost use Rattle.avro_schema_json.specs.inside.Walk.{AreFirsts, IsKnown, nodes_of};
 ghost use Rattle.serde_json.specs.Data.{Data};
 ghost use Rattle.serde_json.specs.View.{view, items_view, members_view};
@@ -31,7 +31,7 @@ use crate::defaults::parts::{Mark, no_marks};
 use crate::defaults::plain_defaults::{
     boolean_default, null_default, number_default, text_default,
 };
-use crate::defaults::tables::Tables;
+use crate::defaults::tables::Marking;
 use crate::defaults::walk::{
     Firsts, Walk, first_branch, is_ruled_out, marks_of_members, member_mark, part_mark,
 };
@@ -51,20 +51,20 @@ pub(crate) fn default_of(
     alloc: Global,
     seed: Seeded,
     raws: &[RawNode],
-    tables: &Tables,
+    marking: &mut Marking,
     tree: &Value,
     id: NodeId,
 ) -> Result<Option<Datum>, Memory>
-    requires tables { AreTables (all_without_defaults raws.now) tables.now }
-    ensures { IfOk result (λ datum. option_map value_of datum ≡ default_by (all_without_defaults raws.now) (view tree.now) (node_at (all_without_defaults raws.now) id.0)) }
+    requires marking { IsMarking (all_without_defaults raws.now) marking.old }
+    ensures marking { OnOk result (IsMarking (all_without_defaults raws.now) marking.new) }
+    ensures default { IfOk result (λ datum. option_map value_of datum ≡ default_by (all_without_defaults raws.now) (view tree.now) (node_at (all_without_defaults raws.now) id.0)) }
 {
-    let mut marks = no_marks(alloc);
-    let mark = mark_tree(alloc, tables, tree, &mut marks)?;
+    let mark = mark_tree(alloc, &marking.tables, tree, &mut marking.marks)?;
     let walk = Walk {
         seed,
         raws,
-        last: tables.last,
-        marks: &marks,
+        last: marking.tables.last,
+        marks: &marking.marks,
     };
     let mut firsts: Firsts = BTreeMap::new(alloc);
     known_default(alloc, &walk, tree, id, Some(mark), &mut firsts)
