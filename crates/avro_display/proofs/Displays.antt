@@ -1,14 +1,16 @@
 -- The text of what is displayed, part by part.
-use Rattle.std.proofs.Common.{◌≡◌, ◌<◌, ◌≤◌, ◌+◌, ◌*◌, ℕ, zero, suc, List, [], ◌∷◌, ◌++◌, length, drop, get_or, Bool, true, Option, Some, None, refl, ap, ◌∙◌, arith, append_assoc}
+use Rattle.std.proofs.Common.{◌≡◌, ◌<◌, ◌≤◌, ◌+◌, ◌*◌, ℕ, zero, suc, List, [], ◌∷◌, ◌++◌, length, drop, get_or, Bool, true, Option, Some, None, refl, ap, subst, ◌∙◌, arith, append_assoc}
 use Rattle.std.proofs.lemmas.List.{drop_more, drop_all}
 use Rattle.std.specs.List.{AllByRecursion}
 use Rattle.serde_json.specs.Data.{Data, Items, no_items, item}
 use Rattle.serde_json.specs.Written.{comma_if, compact_text, items_text, members_text}
+use Rattle.avro_device.specs.PutFront.{PutsFrontOf}
 use Rattle.avro_display.specs.Displayed.{items_count, item_at, members_left, object_text}
 use Rattle.avro_display.specs.Order.{in_order}
 use Rattle.avro_display.specs.Pieces.{PutsText}
 use Rattle.avro_display.specs.Table.{head_text}
 use Rattle.avro_display.specs.declared.member.Member.{Member}
+use Rattle.avro_display.proofs.public.Fronts.{fronts_last, fronts_more}
 use Rattle.avro_display.proofs.public.Putting.{puts_more, puts_last}
 
 -- a measure that falls from a part to its parts
@@ -41,6 +43,21 @@ all_at P [] i x within all = absurd (omega (arith, within))
 all_at P (y ∷ ys) zero x within all = all.0
 all_at P (y ∷ ys) (suc i) x within all = all_at P ys i x (omega (arith, within)) all.1
 
+-- ---- the next part of what is left
+
+next_item : (text : List ℕ) (later : Bool) (ds : Items) (i : ℕ) (next : List ℕ) → i < items_count ds → next ≡ text ++ comma_if later
+    → text ++ items_text later (items_from i ds) ≡ next ++ (compact_text (item_at ds i) ++ items_text true (items_from (i + 1) ds))
+next_item text later ds i next within has = rw (item_here i ds within, has) (simp append_assoc)
+
+next_entry : (text : List ℕ) (later : Bool) (tree : ℕ → Data) (left rest : List (List ℕ × ℕ)) (e : List ℕ × ℕ) (next : List ℕ) → left ≡ e ∷ rest
+    → next ≡ text ++ (comma_if later ++ head_text e.0)
+    → text ++ members_text later (in_order tree left) ≡ next ++ (compact_text (tree e.1) ++ members_text true (in_order tree rest))
+next_entry text later tree left rest e next is has = rw (is, has) (simp append_assoc)
+
+next_member : (text : List ℕ) (tree : ℕ → Data) (ms : List Member) (i : ℕ) (m : Member) (next : List ℕ) → i < length ms → m ≡ get_or ms i m → next ≡ text ++ m.head.items
+    → text ++ members_left tree (drop i ms) ≡ next ++ (compact_text (tree m.field) ++ members_left tree (drop (i + 1) ms))
+next_member text tree ms i m next within at has = rw (drop_more ms i m within, ← at, has) (simp append_assoc)
+
 -- ---- a list of parts goes out one after another
 
 module _ {O : Type 0} (keeps : O → List ℕ → O → Type 0) (chain : (s t u : O) (front back : List ℕ) → keeps s front t → keeps t back u → keeps s (front ++ back) u)
@@ -52,7 +69,7 @@ module _ {O : Type 0} (keeps : O → List ℕ → O → Type 0) (chain : (s t u 
   items_more later ds i next within has all step =
       let part = compact_text (item_at ds i) in
       let tail = items_text true (items_from (i + 1) ds) in
-      puts_more keeps chain s t u held whole (text ++ items_text later (items_from i ds)) next part then tail (rw (item_here i ds within, has) (simp append_assoc)) all step
+      puts_more keeps chain s t u held whole (text ++ items_text later (items_from i ds)) next part then tail (next_item text later ds i next within has) all step
 
   pub items_last : (later : Bool) (ds : Items) (i : ℕ) → items_count ds ≤ i
       → PutsText keeps s held whole t (text ++ items_text later (items_from i ds)) → PutsText keeps t text (93 ∷ []) u then → PutsText keeps s held whole u then
@@ -65,7 +82,7 @@ module _ {O : Type 0} (keeps : O → List ℕ → O → Type 0) (chain : (s t u 
   entries_more later tree left rest e next is has all step =
       let part = compact_text (tree e.1) in
       let tail = members_text true (in_order tree rest) in
-      puts_more keeps chain s t u held whole (text ++ members_text later (in_order tree left)) next part then tail (rw (is, has) (simp append_assoc)) all step
+      puts_more keeps chain s t u held whole (text ++ members_text later (in_order tree left)) next part then tail (next_entry text later tree left rest e next is has) all step
 
   pub entries_last : (later : Bool) (tree : ℕ → Data) (left : List (List ℕ × ℕ)) → left ≡ [] → PutsText keeps s held whole t (text ++ members_text later (in_order tree left))
       → PutsText keeps t text (125 ∷ []) u then → PutsText keeps s held whole u then
@@ -79,12 +96,47 @@ module _ {O : Type 0} (keeps : O → List ℕ → O → Type 0) (chain : (s t u 
   members_more tree ms i m next within at has all step =
       let part = compact_text (tree m.field) in
       let tail = members_left tree (drop (i + 1) ms) in
-      puts_more keeps chain s t u held whole (text ++ members_left tree (drop i ms)) next part then tail (rw (drop_more ms i m within, ← at, has) (simp append_assoc)) all step
+      puts_more keeps chain s t u held whole (text ++ members_left tree (drop i ms)) next part then tail (next_member text tree ms i m next within at has) all step
 
   pub members_last : (tree : ℕ → Data) (ms : List Member) (i : ℕ) → length ms ≤ i
       → PutsText keeps s held whole t (text ++ members_left tree (drop i ms)) → PutsText keeps t text (125 ∷ []) u then → PutsText keeps s held whole u then
   members_last tree ms i past all step =
       puts_last keeps chain s t u held whole (text ++ members_left tree (drop i ms)) text (125 ∷ []) then (rw (drop_all i ms past)) all step
+
+-- ---- a step of it fails
+
+module _ {O : Type 0} (keeps : O → List ℕ → O → Type 0) (chain : (s t u : O) (front back : List ℕ) → keeps s front t → keeps t back u → keeps s (front ++ back) u)
+    (s t u : O) (held whole text : List ℕ) where
+  pub item_fails : (later : Bool) (ds : Items) (i : ℕ) (next : List ℕ) → i < items_count ds → next ≡ text ++ comma_if later
+      → PutsText keeps s held whole t (text ++ items_text later (items_from i ds)) → PutsFrontOf keeps t u (next ++ compact_text (item_at ds i)) → PutsFrontOf keeps s u (held ++ whole)
+  item_fails later ds i next within has =
+      fronts_more keeps chain s t u held whole _ next (compact_text (item_at ds i)) (items_text true (items_from (i + 1) ds)) (next_item text later ds i next within has)
+
+  pub items_last_fails : (later : Bool) (ds : Items) (i : ℕ) → items_count ds ≤ i
+      → PutsText keeps s held whole t (text ++ items_text later (items_from i ds)) → PutsFrontOf keeps t u (text ++ 93 ∷ []) → PutsFrontOf keeps s u (held ++ whole)
+  items_last_fails later ds i past all = fronts_last keeps chain s t u held whole (text ++ 93 ∷ [])
+      (subst (λ left. PutsText keeps s held whole t (text ++ items_text later left)) (item_none i ds past) all)
+
+  pub entry_fails : (later : Bool) (tree : ℕ → Data) (left rest : List (List ℕ × ℕ)) (e : List ℕ × ℕ) (next : List ℕ) → left ≡ e ∷ rest
+      → next ≡ text ++ (comma_if later ++ head_text e.0) → PutsText keeps s held whole t (text ++ members_text later (in_order tree left))
+      → PutsFrontOf keeps t u (next ++ compact_text (tree e.1)) → PutsFrontOf keeps s u (held ++ whole)
+  entry_fails later tree left rest e next is has =
+      fronts_more keeps chain s t u held whole _ next (compact_text (tree e.1)) (members_text true (in_order tree rest)) (next_entry text later tree left rest e next is has)
+
+  pub entries_last_fails : (later : Bool) (tree : ℕ → Data) (left : List (List ℕ × ℕ)) → left ≡ [] → PutsText keeps s held whole t (text ++ members_text later (in_order tree left))
+      → PutsFrontOf keeps t u (text ++ 125 ∷ []) → PutsFrontOf keeps s u (held ++ whole)
+  entries_last_fails later tree left is all = fronts_last keeps chain s t u held whole (text ++ 125 ∷ [])
+      (subst (λ es. PutsText keeps s held whole t (text ++ members_text later (in_order tree es))) is all)
+
+  pub member_fails : (tree : ℕ → Data) (ms : List Member) (i : ℕ) (m : Member) (next : List ℕ) → i < length ms → m ≡ get_or ms i m → next ≡ text ++ m.head.items
+      → PutsText keeps s held whole t (text ++ members_left tree (drop i ms)) → PutsFrontOf keeps t u (next ++ compact_text (tree m.field)) → PutsFrontOf keeps s u (held ++ whole)
+  member_fails tree ms i m next within at has =
+      fronts_more keeps chain s t u held whole _ next (compact_text (tree m.field)) (members_left tree (drop (i + 1) ms)) (next_member text tree ms i m next within at has)
+
+  pub members_last_fails : (tree : ℕ → Data) (ms : List Member) (i : ℕ) → length ms ≤ i
+      → PutsText keeps s held whole t (text ++ members_left tree (drop i ms)) → PutsFrontOf keeps t u (text ++ 125 ∷ []) → PutsFrontOf keeps s u (held ++ whole)
+  members_last_fails tree ms i past all = fronts_last keeps chain s t u held whole (text ++ 125 ∷ [])
+      (subst (λ left. PutsText keeps s held whole t (text ++ members_left tree left)) (drop_all i ms past) all)
 
 -- an object with members
 pub some_members : (tree : ℕ → Data) (ms : List Member) → 0 < length ms → members_left tree ms ≡ object_text tree ms

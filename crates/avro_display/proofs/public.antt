@@ -1,3 +1,4 @@
 pub mod Putting
 pub mod Ordering
 pub mod Opened
+pub mod Fronts

@@ -1,4 +1,5 @@
-ghost use Rattle.std.specs.Prelude.{◌≡◌, ◌≢◌, ◌⊎◌, ◌++◌, [], ◌∷◌, string_bytes, IfOk, OnOk, IsErrOf};
+ghost use Rattle.std.specs.Prelude.{◌≡◌, ◌≢◌, ◌⊎◌, ◌++◌, [], ◌∷◌, string_bytes, IfOk, OnOk, OnErr, IsErrOf};
+ghost use Rattle.avro_device.specs.PutFront.{PutsFrontOf};
 ghost use Rattle.avro_schema.specs.Node.{node_at, root_of};
 ghost use Rattle.avro_schema.specs.Seen.{value_of};
 ghost use Rattle.avro_schema.specs.SeenSchema.{schema_nodes};
@@ -88,7 +89,7 @@ fn put_shown<O: Output>(
 ///
 /// # Errors
 ///
-/// The output failed, or took none of the bytes; memory ran out. No clause says what was put then.
+/// The output failed, or took none of the bytes; memory ran out. A prefix of what the text held and then the display was put.
 pub fn put_display<O: Output>(
     out: &mut O,
     text: &mut Vec<u8>,
@@ -99,6 +100,8 @@ pub fn put_display<O: Output>(
 ) -> Result<(), PutError>
     ensures put { OnOk result (PutsText O.keeps out.old text.old.items
         (display_text (schema_nodes table.now) (node_at (schema_nodes table.now) node.0) (value_of datum.now)) out.new text.new.items) }
+    ensures front { OnErr result (PutsFrontOf O.keeps out.old out.new
+        (text.old.items ++ display_text (schema_nodes table.now) (node_at (schema_nodes table.now) node.0) (value_of datum.now))) }
     ensures works { OnOk result (O.failures out.new ≡ O.failures out.old) }
     ensures fails { IsErrOf result PutError.CannotWrite → (O.failures out.new ≢ O.failures out.old) ⊎ O.stuck out.new }
     ensures memory { IsErrOf result PutError.OutOfMemory → O.failures out.new ≡ O.failures out.old }
@@ -119,6 +122,8 @@ fn put_datum<O: Output>(
 ) -> Result<(), PutError>
     ensures put { OnOk result (PutsText O.keeps out.old text.old
         (display_text (schema_nodes table.now) (node_at (schema_nodes table.now) node.0) (value_of datum.now)) out.new text.new) }
+    ensures front { OnErr result (PutsFrontOf O.keeps out.old out.new
+        (text.old ++ display_text (schema_nodes table.now) (node_at (schema_nodes table.now) node.0) (value_of datum.now))) }
     ensures works { OnOk result (O.failures out.new ≡ O.failures out.old) }
     ensures fails { IsErrOf result PutError.CannotWrite → (O.failures out.new ≢ O.failures out.old) ⊎ O.stuck out.new }
     ensures memory { IsErrOf result PutError.OutOfMemory → O.failures out.new ≡ O.failures out.old }
@@ -131,7 +136,7 @@ fn put_datum<O: Output>(
 ///
 /// # Errors
 ///
-/// Those of [`put_display`].
+/// Those of [`put_display`]. A prefix of what the text held and then the line was put.
 pub fn put_line<O: Output>(
     out: &mut O,
     text: &mut Text,
@@ -140,6 +145,8 @@ pub fn put_line<O: Output>(
 ) -> Result<(), PutError>
     ensures put { OnOk result (PutsText O.keeps out.old text.old
         (display_text (schema_nodes table.now) (root_of (schema_nodes table.now)) (value_of datum.now) ++ 10 ∷ []) out.new text.new) }
+    ensures front { OnErr result (PutsFrontOf O.keeps out.old out.new
+        (text.old ++ (display_text (schema_nodes table.now) (root_of (schema_nodes table.now)) (value_of datum.now) ++ 10 ∷ []))) }
     ensures works { OnOk result (O.failures out.new ≡ O.failures out.old) }
     ensures fails { IsErrOf result PutError.CannotWrite → (O.failures out.new ≢ O.failures out.old) ⊎ O.stuck out.new }
     ensures memory { IsErrOf result PutError.OutOfMemory → O.failures out.new ≡ O.failures out.old }

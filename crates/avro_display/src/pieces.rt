@@ -1,9 +1,10 @@
 //! Text that goes out in pieces.
 
-ghost use Rattle.std.specs.Prelude.{◌≡◌, ◌≢◌, ◌⊎◌, ◌∷◌, [], OnOk, IsErrOf, encode_utf8_all};
+ghost use Rattle.std.specs.Prelude.{◌≡◌, ◌≢◌, ◌⊎◌, ◌++◌, ◌∷◌, [], OnOk, OnErr, IsErrOf, encode_utf8_all};
 ghost use Rattle.json.specs.Print.{quoted};
 ghost use Rattle.serde_json.specs.Find.{of_integer};
 ghost use Rattle.serde_json.specs.Written.{number_text};
+ghost use Rattle.avro_device.specs.PutFront.{PutsFrontOf};
 ghost use Rattle.avro_display.specs.Pieces.{PutsText};
 ghost use Rattle.avro_display.specs.declared.put_error.PutError.{PutError};
 
@@ -18,9 +19,10 @@ const PIECE: usize = 1_048_576;
 ///
 /// # Errors
 ///
-/// The output failed, or took none of the bytes.
+/// The output failed, or took none of the bytes: a prefix of the text was put.
 pub(crate) fn put_piece<O: Output>(out: &mut O, text: &mut Text) -> Result<(), PutError>
     ensures put { OnOk result (PutsText O.keeps out.old text.old [] out.new text.new) }
+    ensures front { OnErr result (PutsFrontOf O.keeps out.old out.new text.old) }
     ensures works { OnOk result (O.failures out.new ≡ O.failures out.old) }
     ensures fails { IsErrOf result PutError.CannotWrite → (O.failures out.new ≢ O.failures out.old) ⊎ O.stuck out.new }
     ensures memory { IsErrOf result PutError.OutOfMemory → O.failures out.new ≡ O.failures out.old }
@@ -40,6 +42,7 @@ pub(crate) fn put_plain<O: Output>(
     bytes: &[u8],
 ) -> Result<(), PutError>
     ensures put { OnOk result (PutsText O.keeps out.old text.old bytes.now out.new text.new) }
+    ensures front { OnErr result (PutsFrontOf O.keeps out.old out.new (text.old ++ bytes.now)) }
     ensures works { OnOk result (O.failures out.new ≡ O.failures out.old) }
     ensures fails { IsErrOf result PutError.CannotWrite → (O.failures out.new ≢ O.failures out.old) ⊎ O.stuck out.new }
     ensures memory { IsErrOf result PutError.OutOfMemory → O.failures out.new ≡ O.failures out.old }
@@ -52,9 +55,10 @@ pub(crate) fn put_plain<O: Output>(
 ///
 /// # Errors
 ///
-/// The output failed, or took none of the bytes; memory ran out.
+/// The output failed, or took none of the bytes; memory ran out. A prefix of what the text held and then the byte was put.
 pub fn put_byte<O: Output>(out: &mut O, text: &mut Text, byte: u8) -> Result<(), PutError>
     ensures put { OnOk result (PutsText O.keeps out.old text.old (byte ∷ []) out.new text.new) }
+    ensures front { OnErr result (PutsFrontOf O.keeps out.old out.new (text.old ++ byte ∷ [])) }
     ensures works { OnOk result (O.failures out.new ≡ O.failures out.old) }
     ensures fails { IsErrOf result PutError.CannotWrite → (O.failures out.new ≢ O.failures out.old) ⊎ O.stuck out.new }
     ensures memory { IsErrOf result PutError.OutOfMemory → O.failures out.new ≡ O.failures out.old }
@@ -70,6 +74,7 @@ pub(crate) fn put_number<O: Output>(
     number: i64,
 ) -> Result<(), PutError>
     ensures put { OnOk result (PutsText O.keeps out.old text.old (number_text (of_integer number)) out.new text.new) }
+    ensures front { OnErr result (PutsFrontOf O.keeps out.old out.new (text.old ++ number_text (of_integer number))) }
     ensures works { OnOk result (O.failures out.new ≡ O.failures out.old) }
     ensures fails { IsErrOf result PutError.CannotWrite → (O.failures out.new ≢ O.failures out.old) ⊎ O.stuck out.new }
     ensures memory { IsErrOf result PutError.OutOfMemory → O.failures out.new ≡ O.failures out.old }
@@ -85,6 +90,7 @@ pub(crate) fn put_quoted<O: Output>(
     string: &str,
 ) -> Result<(), PutError>
     ensures put { OnOk result (PutsText O.keeps out.old text.old (quoted string.now) out.new text.new) }
+    ensures front { OnErr result (PutsFrontOf O.keeps out.old out.new (text.old ++ quoted string.now)) }
     ensures works { OnOk result (O.failures out.new ≡ O.failures out.old) }
     ensures fails { IsErrOf result PutError.CannotWrite → (O.failures out.new ≢ O.failures out.old) ⊎ O.stuck out.new }
     ensures memory { IsErrOf result PutError.OutOfMemory → O.failures out.new ≡ O.failures out.old }
@@ -100,6 +106,7 @@ pub(crate) fn put_characters<O: Output>(
     bytes: &[u8],
 ) -> Result<(), PutError>
     ensures put { OnOk result (PutsText O.keeps out.old text.old (quoted (encode_utf8_all bytes.now)) out.new text.new) }
+    ensures front { OnErr result (PutsFrontOf O.keeps out.old out.new (text.old ++ quoted (encode_utf8_all bytes.now))) }
     ensures works { OnOk result (O.failures out.new ≡ O.failures out.old) }
     ensures fails { IsErrOf result PutError.CannotWrite → (O.failures out.new ≢ O.failures out.old) ⊎ O.stuck out.new }
     ensures memory { IsErrOf result PutError.OutOfMemory → O.failures out.new ≡ O.failures out.old }

@@ -1,9 +1,10 @@
 //! Putting what is displayed, one part after another.
 
-ghost use Rattle.std.specs.Prelude.{◌≡◌, ◌≢◌, ◌⊎◌, ◌++◌, ◌∷◌, ℕ, [], List, OnOk, IsErrOf, map};
+ghost use Rattle.std.specs.Prelude.{◌≡◌, ◌≢◌, ◌⊎◌, ◌++◌, ◌∷◌, ℕ, [], List, OnOk, OnErr, IsErrOf, map};
 ghost use Rattle.std.specs.List.{AllByRecursion};
 ghost use Rattle.serde_json.specs.Data.{Data, Items, array, object, no_members};
 ghost use Rattle.serde_json.specs.Written.{compact_text};
+ghost use Rattle.avro_device.specs.PutFront.{PutsFrontOf};
 ghost use Rattle.avro_display.specs.Displayed.{AreOrdered, EntriesAre, IsShown, ItemsAre, object_text};
 ghost use Rattle.avro_display.specs.Order.{in_order, put_each};
 ghost use Rattle.avro_display.specs.Pieces.{PutsText};
@@ -26,7 +27,7 @@ use std::collections::BTreeMap;
 ///
 /// # Errors
 ///
-/// The output failed, or took none of the bytes; memory ran out. No clause says what was put then.
+/// The output failed, or took none of the bytes; memory ran out. A prefix of what the text held and then the display was put.
 #[cycle(putting)]
 pub fn put_displayed<O: Output, D: Displayed>(
     out: &mut O,
@@ -35,6 +36,7 @@ pub fn put_displayed<O: Output, D: Displayed>(
     part: Option<D::Part>,
 ) -> Result<(), PutError>
     ensures put { (d : Data) → IsShown (D.shows displayed.now) part d → OnOk result (PutsText O.keeps out.old text.old (compact_text d) out.new text.new) }
+    ensures front { (d : Data) → IsShown (D.shows displayed.now) part d → OnErr result (PutsFrontOf O.keeps out.old out.new (text.old ++ compact_text d)) }
     ensures works { OnOk result (O.failures out.new ≡ O.failures out.old) }
     ensures fails { IsErrOf result PutError.CannotWrite → (O.failures out.new ≢ O.failures out.old) ⊎ O.stuck out.new }
     ensures memory { IsErrOf result PutError.OutOfMemory → O.failures out.new ≡ O.failures out.old }
@@ -67,6 +69,8 @@ fn put_branch<O: Output, D: Displayed>(
 ) -> Result<(), PutError>
     ensures put { (d : Data) → D.shows displayed.now value d
         → OnOk result (PutsText O.keeps out.old text.old (opening.now ++ (compact_text d ++ 125 ∷ [])) out.new text.new) }
+    ensures front { (d : Data) → D.shows displayed.now value d
+        → OnErr result (PutsFrontOf O.keeps out.old out.new (text.old ++ (opening.now ++ (compact_text d ++ 125 ∷ [])))) }
     ensures works { OnOk result (O.failures out.new ≡ O.failures out.old) }
     ensures fails { IsErrOf result PutError.CannotWrite → (O.failures out.new ≢ O.failures out.old) ⊎ O.stuck out.new }
     ensures memory { IsErrOf result PutError.OutOfMemory → O.failures out.new ≡ O.failures out.old }
@@ -87,6 +91,8 @@ fn put_items<O: Output, D: Displayed>(
 ) -> Result<(), PutError>
     ensures put { (ds : Items) → ItemsAre (D.item_shows displayed.now) items count ds
         → OnOk result (PutsText O.keeps out.old text.old (compact_text (array ds)) out.new text.new) }
+    ensures front { (ds : Items) → ItemsAre (D.item_shows displayed.now) items count ds
+        → OnErr result (PutsFrontOf O.keeps out.old out.new (text.old ++ compact_text (array ds))) }
     ensures works { OnOk result (O.failures out.new ≡ O.failures out.old) }
     ensures fails { IsErrOf result PutError.CannotWrite → (O.failures out.new ≢ O.failures out.old) ⊎ O.stuck out.new }
     ensures memory { IsErrOf result PutError.OutOfMemory → O.failures out.new ≡ O.failures out.old }
@@ -113,6 +119,8 @@ fn put_entries<O: Output, D: Displayed>(
 ) -> Result<(), PutError>
     ensures put { (keys : List (List ℕ)) (tree : ℕ → Data) → EntriesAre (D.entry_shows displayed.now) entries count keys tree
         → OnOk result (PutsText O.keeps out.old text.old (compact_text (object (put_each tree 0 keys no_members))) out.new text.new) }
+    ensures front { (keys : List (List ℕ)) (tree : ℕ → Data) → EntriesAre (D.entry_shows displayed.now) entries count keys tree
+        → OnErr result (PutsFrontOf O.keeps out.old out.new (text.old ++ compact_text (object (put_each tree 0 keys no_members)))) }
     ensures works { OnOk result (O.failures out.new ≡ O.failures out.old) }
     ensures fails { IsErrOf result PutError.CannotWrite → (O.failures out.new ≢ O.failures out.old) ⊎ O.stuck out.new }
     ensures memory { IsErrOf result PutError.OutOfMemory → O.failures out.new ≡ O.failures out.old }
@@ -132,6 +140,8 @@ fn put_ordered<O: Output, D: Displayed>(
 ) -> Result<(), PutError>
     ensures put { (tree : ℕ → Data) → AreOrdered (D.entry_shows displayed.now) entries (map seen_place order.now.entries) tree
         → OnOk result (PutsText O.keeps out.old text.old (compact_text (object (in_order tree (map seen_place order.now.entries)))) out.new text.new) }
+    ensures front { (tree : ℕ → Data) → AreOrdered (D.entry_shows displayed.now) entries (map seen_place order.now.entries) tree
+        → OnErr result (PutsFrontOf O.keeps out.old out.new (text.old ++ compact_text (object (in_order tree (map seen_place order.now.entries))))) }
     ensures works { OnOk result (O.failures out.new ≡ O.failures out.old) }
     ensures fails { IsErrOf result PutError.CannotWrite → (O.failures out.new ≢ O.failures out.old) ⊎ O.stuck out.new }
     ensures memory { IsErrOf result PutError.OutOfMemory → O.failures out.new ≡ O.failures out.old }
@@ -158,6 +168,8 @@ fn put_members<O: Output, D: Displayed>(
 ) -> Result<(), PutError>
     ensures put { (tree : ℕ → Data) → AllByRecursion (λ m. D.member_shows displayed.now owner m (tree m.field)) members.now
         → OnOk result (PutsText O.keeps out.old text.old (object_text tree members.now) out.new text.new) }
+    ensures front { (tree : ℕ → Data) → AllByRecursion (λ m. D.member_shows displayed.now owner m (tree m.field)) members.now
+        → OnErr result (PutsFrontOf O.keeps out.old out.new (text.old ++ object_text tree members.now)) }
     ensures works { OnOk result (O.failures out.new ≡ O.failures out.old) }
     ensures fails { IsErrOf result PutError.CannotWrite → (O.failures out.new ≢ O.failures out.old) ⊎ O.stuck out.new }
     ensures memory { IsErrOf result PutError.OutOfMemory → O.failures out.new ≡ O.failures out.old }
