@@ -1,4 +1,5 @@
-ghost use Rattle.std.specs.Prelude.{◌≡◌, ◌≢◌, ◌⊎◌, ◌++◌, [], ◌∷◌, Ok, OnOk, IsErrOf};
+ghost use Rattle.std.specs.Prelude.{◌≡◌, ◌≢◌, ◌⊎◌, ◌++◌, [], ◌∷◌, Ok, OnOk, OnErr, IsErrOf};
+ghost use Rattle.avro_device.specs.PutFront.{PutsFrontOf};
 ghost use Rattle.avro_schema.specs.Node.{root_of};
 ghost use Rattle.avro_schema.specs.Seen.{value_of};
 ghost use Rattle.avro_schema.specs.SeenSchema.{schema_nodes};
@@ -21,7 +22,7 @@ use avro_schema::Datum;
 ///
 /// # Errors
 ///
-/// The output failed, or took none of the bytes; memory ran out. No clause says what was put then.
+/// The output failed, or took none of the bytes; memory ran out. A prefix of what the text held and then the line was put.
 pub fn put_resolved_line<O: Output>(
     out: &mut O,
     text: &mut Text,
@@ -31,6 +32,9 @@ pub fn put_resolved_line<O: Output>(
     ensures put { (u : Value) → resolve_root (schema_nodes resolved.now.plan.now.0) (schema_nodes resolved.now.plan.now.1) (value_of datum.now) ≡ Ok u
         → OnOk result (PutsText O.keeps out.old text.old
         (display_text (schema_nodes resolved.now.table.now) (root_of (schema_nodes resolved.now.table.now)) u ++ 10 ∷ []) out.new text.new) }
+    ensures front { (u : Value) → resolve_root (schema_nodes resolved.now.plan.now.0) (schema_nodes resolved.now.plan.now.1) (value_of datum.now) ≡ Ok u
+        → OnErr result (PutsFrontOf O.keeps out.old out.new (text.old
+        ++ (display_text (schema_nodes resolved.now.table.now) (root_of (schema_nodes resolved.now.table.now)) u ++ 10 ∷ []))) }
     ensures works { OnOk result (O.failures out.new ≡ O.failures out.old) }
     ensures fails { IsErrOf result PutError.CannotWrite → (O.failures out.new ≢ O.failures out.old) ⊎ O.stuck out.new }
     ensures memory { IsErrOf result PutError.OutOfMemory → O.failures out.new ≡ O.failures out.old }
