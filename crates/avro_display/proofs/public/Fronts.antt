@@ -4,10 +4,6 @@ use Rattle.std.specs.Prelude.{OnErr}
 use Rattle.avro_device.specs.PutFront.{PutsFrontOf}
 use Rattle.avro_display.specs.Pieces.{PutsText}
 
-pub on_err : {A E P Q : Type 0} → (P → Q) → (r : Result A E) → OnErr r P → OnErr r Q
-on_err f (Ok a) h = tt
-on_err f (Err e) h = f h
-
 -- what holds anyway
 pub on_any_err : {A E P : Type 0} → P → (r : Result A E) → OnErr r P
 on_any_err h (Ok a) = tt

@@ -1,4 +1,5 @@
 use Rattle.std.proofs.Common.{◌≡◌, ◌++◌, ◌∷◌, [], List, ℕ, false, length, refl, sym, ap, subst, ◌∙◌, ◌<◌, arith, rules, map}
+use Rattle.std.proofs.lemmas.Result.{on_err_weaker}
 use Rattle.std.specs.Prelude.{OnOk}
 use Rattle.serde_json.specs.Data.{object}
 use Rattle.serde_json.specs.Written.{compact_text, items_text, members_text}
@@ -9,7 +10,7 @@ use Rattle.avro_display.specs.Pieces.{PutsText}
 use Rattle.avro_display.specs.inside.Tables.{seen_place}
 use Rattle.avro_display.proofs.Displays.{all_at, entries_last, entries_last_fails, entries_more, entry_fails, item_fails, items_last, items_last_fails, items_more}
 use Rattle.avro_display.proofs.Displays.{member_fails, members_last, members_last_fails, members_more, some_members}
-use Rattle.avro_display.proofs.public.Fronts.{fronts_both, fronts_held, fronts_longer, fronts_opened, on_any_err, on_err}
+use Rattle.avro_display.proofs.public.Fronts.{fronts_both, fronts_held, fronts_longer, fronts_opened, on_any_err}
 use Rattle.avro_display.proofs.public.Putting.{on_ok, puts_both, puts_none, puts_opened}
 use Rattle.avro_display.proofs.putting.+putting.Goals as goal
 
@@ -140,10 +141,10 @@ pub put_items-returns-clause-front : goal.put_items-returns-clause-front
 put_items-returns-clause-front g t c = λ ds are.
     let l = c.loop-index in
     let all = items_text false ds in
-    on_err (λ step. fronts_opened g.O.Output.keeps c.args.out.now c.put_byte.new.out c.args.text.now (91 ∷ []) all c.append_byte.new.self c.in_ok-append_byte.ensures.appended
+    on_err_weaker c.put_byte.result (λ step. fronts_opened g.O.Output.keeps c.args.out.now c.put_byte.new.out c.args.text.now (91 ∷ []) all c.append_byte.new.self c.in_ok-append_byte.ensures.appended
     (items_last_fails g.O.Output.keeps g.met.O.Output.chain c.args.out.now l.out c.put_byte.new.out c.append_byte.new.self all
     l.text l.later ds l.index (omega (arith, are.0, c.loop-index-test.false)) (l.invariant.0 ds are) step))
-    c.put_byte.result c.put_byte.ensures.front
+    c.put_byte.ensures.front
 
 pub put_ordered-returns-in_err-append_entry_key-clause-front : goal.put_ordered-returns-in_err-append_entry_key-clause-front
 put_ordered-returns-in_err-append_entry_key-clause-front g t c = λ tree are.
@@ -172,16 +173,16 @@ put_ordered-returns-clause-front g t c = λ tree are.
     let l = c.loop-key in
     let all = members_text false (in_order tree (map seen_place c.args.order.now.entries)) in
     let none : map seen_place l.key-iterator ≡ [] = search rules in
-    on_err (λ step. fronts_opened g.O.Output.keeps c.args.out.now c.put_byte.new.out c.args.text.now (123 ∷ []) all c.append_byte.new.self c.in_ok-append_byte.ensures.appended
+    on_err_weaker c.put_byte.result (λ step. fronts_opened g.O.Output.keeps c.args.out.now c.put_byte.new.out c.args.text.now (123 ∷ []) all c.append_byte.new.self c.in_ok-append_byte.ensures.appended
     (entries_last_fails g.O.Output.keeps g.met.O.Output.chain c.args.out.now l.out c.put_byte.new.out c.append_byte.new.self all
     l.text l.later tree (map seen_place l.key-iterator) none (l.invariant.0 tree are).0 step))
-    c.put_byte.result c.put_byte.ensures.front
+    c.put_byte.ensures.front
 
 pub put_entries-returns-clause-front : goal.put_entries-returns-clause-front
 put_entries-returns-clause-front g t c = λ keys tree are.
-    on_err (λ step. subst (λ ms. PutsFrontOf g.O.Output.keeps c.args.out.now c.put_ordered.new.out (c.args.text.now ++ compact_text (object ms)))
+    on_err_weaker c.put_ordered.result (λ step. subst (λ ms. PutsFrontOf g.O.Output.keeps c.args.out.now c.put_ordered.new.out (c.args.text.now ++ compact_text (object ms)))
     (c.in_ok-order.ensures.order keys tree are tree) step)
-    c.put_ordered.result (c.put_ordered.ensures.front tree (c.in_ok-order.ensures.have keys tree are))
+    (c.put_ordered.ensures.front tree (c.in_ok-order.ensures.have keys tree are))
 
 pub put_members-returns-in_err-append-clause-front : goal.put_members-returns-in_err-append-clause-front
 put_members-returns-in_err-append-clause-front g t c = λ tree are.
@@ -209,10 +210,10 @@ put_members-returns-clause-front g t c = λ tree are.
     let l = c.loop-member in
     let ms = c.args.members.now in
     let some : 0 < length ms = search rules in
-    on_err (λ step. subst (λ b. PutsFrontOf g.O.Output.keeps c.args.out.now c.put_byte.new.out (c.args.text.now ++ b)) (some_members tree ms some)
+    on_err_weaker c.put_byte.result (λ step. subst (λ b. PutsFrontOf g.O.Output.keeps c.args.out.now c.put_byte.new.out (c.args.text.now ++ b)) (some_members tree ms some)
     (members_last_fails g.O.Output.keeps g.met.O.Output.chain c.args.out.now l.out c.put_byte.new.out c.args.text.now (members_left tree ms)
     l.text tree ms l.member-index c.loop-member-test.false (l.invariant.0 tree are) step))
-    c.put_byte.result c.put_byte.ensures.front
+    c.put_byte.ensures.front
 
 pub put_branch-returns-in_err-put_displayed-clause-front : goal.put_branch-returns-in_err-put_displayed-clause-front
 put_branch-returns-in_err-put_displayed-clause-front g t c = λ d is.
@@ -222,6 +223,6 @@ put_branch-returns-in_err-put_displayed-clause-front g t c = λ d is.
 
 pub put_branch-returns-clause-front : goal.put_branch-returns-clause-front
 put_branch-returns-clause-front g t c = λ d is.
-    on_err (λ step. fronts_opened g.O.Output.keeps _ _ c.args.text.now c.args.opening.now (compact_text d ++ 125 ∷ []) _ c.in_ok-append.ensures.appended
+    on_err_weaker c.put_byte.result (λ step. fronts_opened g.O.Output.keeps _ _ c.args.text.now c.args.opening.now (compact_text d ++ 125 ∷ []) _ c.in_ok-append.ensures.appended
     (fronts_both g.O.Output.keeps g.met.O.Output.chain _ _ _ c.append.new.self (compact_text d) _ (125 ∷ []) (c.in_ok-put_displayed.ensures.put d is) step))
-    c.put_byte.result c.put_byte.ensures.front
+    c.put_byte.ensures.front

@@ -1,9 +1,10 @@
 use Rattle.std.proofs.Common.{◌∷◌, [], refl}
+use Rattle.std.proofs.lemmas.Result.{on_err_weaker}
 use Rattle.avro_schema.specs.Node.{root_of}
 use Rattle.avro_schema.specs.SeenSchema.{schema_nodes}
 use Rattle.serde_json.specs.Written.{compact_text}
 use Rattle.avro_display.specs.DisplayTree.{display_tree}
-use Rattle.avro_display.proofs.public.Fronts.{fronts_both, fronts_longer, on_any_err, on_err}
+use Rattle.avro_display.proofs.public.Fronts.{fronts_both, fronts_longer, on_any_err}
 use Rattle.avro_display.proofs.public.Putting.{on_ok, puts_both}
 use Rattle.avro_show.proofs.show.put_resolved_line.Goals as goal
 
@@ -29,8 +30,8 @@ pub returns-clause-front : goal.returns-clause-front
 returns-clause-front g c = λ u resolved.
     let nodes = schema_nodes c.args.resolved.now.table.now in
     let d = display_tree nodes (root_of nodes) u in
-    on_err (λ step. fronts_both g.O.Output.keeps g.met.O.Output.chain c.args.out.now c.put_displayed.new.out c.put_byte.new.out c.args.text.now (compact_text d) c.put_displayed.new.text
+    on_err_weaker c.put_byte.result (λ step. fronts_both g.O.Output.keeps g.met.O.Output.chain c.args.out.now c.put_displayed.new.out c.put_byte.new.out c.args.text.now (compact_text d) c.put_displayed.new.text
     (10 ∷ [])
     (c.in_ok-put_displayed.ensures.put d (u, rw (c.roots.ensures.of_writer, c.roots.ensures.of_reader) resolved, rw c.root.ensures.root refl))
     step)
-    c.put_byte.result c.put_byte.ensures.front
+    c.put_byte.ensures.front
