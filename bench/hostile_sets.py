@@ -117,7 +117,7 @@ def symbols_twice(size, number=60):
 
 def one_set(records, maps, holders, labels):
     """Records without fields, some in maps and some in records of one field, and short defaults of members that are all of the one
-    large set of these records: it is asked for its parents under each label, anew for each default."""
+    large set of these records: each default asks for its parents under each label."""
     def text(size):
         fields = [{"name": "s", "type": {"type": "enum", "name": "S", "symbols": list(LETTERS[:labels])}}]
         fields += [{"name": f"r{k}", "type": record(f"R{k}")} for k in range(records)]
