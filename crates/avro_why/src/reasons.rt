@@ -1,4 +1,4 @@
-ghost use Rattle.std.specs.Prelude.{◌≤◌, ℕ, List, IfOk, length};
+ghost use Rattle.std.specs.Prelude.{◌≤◌, ℕ, List, IfOk, length, max};
 ghost use Rattle.avro_why.specs.Placed.{ArePlaced};
 ghost use Rattle.avro_why.specs.Position.{IsPosition};
 
@@ -40,8 +40,8 @@ pub struct Reasons {
     pub others: usize,
 }
 
-/// The places for which a text is refused with this error, in the order of the text: the first ones, up to a limit. None
-/// are found where memory ran out, or where a fault is one that only the reader of the whole sees.
+/// The places for which a text is refused with this error, in the order of the text: the first ones, up to a limit; of a text
+/// that is no JSON one. None are found where memory ran out, or where a fault is one that only the reader of the whole sees.
 ///
 /// # Errors
 ///
@@ -53,6 +53,7 @@ pub fn find_reasons(
     limit: usize,
 ) -> Result<Reasons, AllocError>
     ensures placed { IfOk result (λ r. ArePlaced text.now r.first.items) }
+    ensures few { IfOk result (λ r. length r.first.items ≤ max limit 1) }
 {
     if text.len() > MAX_TEXT {
         let words = "more than 1048576 bytes";
@@ -70,7 +71,8 @@ pub fn find_reasons(
 
 /// What there is of a text that is no JSON.
 fn reasons_without_json(alloc: Global, fault: Option<JsonFault>) -> Result<Reasons, AllocError>
-    ensures { (text : List ℕ) → IfOk result (λ r. ArePlaced text r.first.items) }
+    ensures placed { (text : List ℕ) → IfOk result (λ r. ArePlaced text r.first.items) }
+    ensures few { IfOk result (λ r. length r.first.items ≤ 1) }
 {
     let mut first = Vec::new(alloc);
     if let Some(fault) = fault {
@@ -93,7 +95,8 @@ fn reasons_in_tree(
     limit: usize,
 ) -> Result<Reasons, AllocError>
     requires small { length text.now ≤ 1048576 }
-    ensures { IfOk result (λ r. ArePlaced text.now r.first.items) }
+    ensures placed { IfOk result (λ r. ArePlaced text.now r.first.items) }
+    ensures few { IfOk result (λ r. length r.first.items ≤ limit) }
 {
     let mut walk = Walk::new(alloc, Seeded::of_text(text))?;
     // Other errors are found only in trees of integers.
@@ -131,11 +134,12 @@ fn first_reasons(
     limit: usize,
 ) -> Result<Reasons, AllocError>
     requires small { length text.now ≤ 1048576 }
-    ensures { IfOk result (λ r. ArePlaced text.now r.first.items) }
+    ensures placed { IfOk result (λ r. ArePlaced text.now r.first.items) }
+    ensures few { IfOk result (λ r. length r.first.items ≤ limit) }
 {
     let order = by_offset(alloc, text, walk)?;
     let mut first = Vec::new(alloc);
-    for (offset, index) in order.iter().take(limit) {
+    for (offset, index) in &order[..order.len().min(limit)] {
         if let Some((place, fault)) = walk.faults.get(*index) {
             first.push(reason_of(alloc, text, walk, *offset, *place, *fault)?)?;
         }
