@@ -1,9 +1,11 @@
-ghost use Rattle.std.specs.Prelude.{◌≡◌, ◌≢◌, ◌<◌, ◌⊎◌, ℕ, List, length, IfOk, OnOk, IsErrOf};
+ghost use Rattle.std.specs.Prelude.{◌≡◌, ◌≢◌, ◌<◌, ◌⊎◌, ℕ, List, [], length, IfOk, OnOk, OnErr, IsErrOf};
+ghost use Rattle.avro_device.specs.PutFront.{PutsFrontOf};
 ghost use Rattle.std.specs.Result.{IfErr};
 ghost use Rattle.avro_schema.specs.SeenSchema.{schema_nodes};
 ghost use Rattle.avro_schema_json.specs.Declaration.{max_text};
 ghost use Rattle.avro_schema_json.specs.declared.error.SchemaError.{SchemaError};
 ghost use Rattle.avro_judge.specs.Headline.{IsRight};
+ghost use Rattle.avro_judge.specs.declared.verdict.Verdict.{Verdict};
 ghost use Rattle.avro_display.specs.declared.put_error.PutError.{PutError};
 ghost use Rattle.avro_answer.specs.CutAnswer.{IsCut};
 ghost use Rattle.avro_answer.specs.JudgeAnswer.{SchemasAnswer, StatusAnswer, JudgeAnswer, JudgeStatus};
@@ -31,7 +33,7 @@ use std::alloc::Global;
 ///
 /// # Errors
 ///
-/// The output failed, or took none of the bytes; memory ran out. No clause says what was put then.
+/// The output failed, or took none of the bytes; memory ran out. A prefix of the answer was put then, or nothing.
 #[tactic(auto, using(crate::proofs::VerdictAnswers::is_small))]
 pub fn judge_schemas<'a, O: Output>(
     out: &mut O,
@@ -45,6 +47,10 @@ pub fn judge_schemas<'a, O: Output>(
     ensures answered { IfOk result (λ j. form ≡ Form.Text → (text : List ℕ)
         × SchemasAnswer (schema_nodes writer.now) (schema_nodes reader.now) limits.now text j.1 × O.keeps out.old text out.new) }
     ensures json { IfOk result (λ j. form ≡ Form.Json → (line : List ℕ) × IsJudgedLine (schema_nodes writer.now) j.0 line j.1 × O.keeps out.old line out.new) }
+    ensures front { form ≡ Form.Text → OnErr result (O.keeps out.old [] out.new ⊎ (text : List ℕ) × (status : ℕ)
+        × SchemasAnswer (schema_nodes writer.now) (schema_nodes reader.now) limits.now text status × PutsFrontOf O.keeps out.old out.new text) }
+    ensures front_json { form ≡ Form.Json → OnErr result (O.keeps out.old [] out.new ⊎ (verdict : Verdict) × (line : List ℕ) × (status : ℕ)
+        × IsRight writer.now reader.now limits.now verdict × IsJudgedLine (schema_nodes writer.now) verdict line status × PutsFrontOf O.keeps out.old out.new line) }
     ensures status { IfOk result (λ j. StatusAnswer (schema_nodes writer.now) (schema_nodes reader.now) limits.now j.1) }
     ensures works { OnOk result (O.failures out.new ≡ O.failures out.old) }
     ensures fails { IsErrOf result PutError.CannotWrite → (O.failures out.new ≢ O.failures out.old) ⊎ O.stuck out.new }

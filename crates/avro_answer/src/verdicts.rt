@@ -1,6 +1,7 @@
 //! The texts of verdicts.
 
-ghost use Rattle.std.specs.Prelude.{◌≡◌, ◌≢◌, ◌≤◌, ◌-◌, ◌^◌, ◌⊎◌, ◌++◌, List, codes, IfOk, OnOk, IsErrOf};
+ghost use Rattle.std.specs.Prelude.{◌≡◌, ◌≢◌, ◌≤◌, ◌-◌, ◌^◌, ◌⊎◌, ◌++◌, List, codes, IfOk, OnOk, OnErr, IsErrOf};
+ghost use Rattle.avro_device.specs.PutFront.{PutsFrontOf};
 ghost use Rattle.avro_schema.specs.Node.{Node};
 ghost use Rattle.avro_schema.specs.Seen.{value_of};
 ghost use Rattle.avro_schema.specs.SeenSchema.{schema_nodes};
@@ -47,7 +48,7 @@ pub(crate) fn status_of(verdict: &Verdict<'_>) -> u8
     }
 }
 
-/// Puts the answer for a verdict.
+/// Puts the answer for a verdict. Where that fails, a prefix of it was put.
 pub(crate) fn put_verdict<O: Output>(
     out: &mut O,
     alloc: Global,
@@ -58,6 +59,8 @@ pub(crate) fn put_verdict<O: Output>(
 ) -> Result<(), PutError>
     requires small { IfRefuted verdict.now (λ r. value_size (value_of r.datum) ≤ 2 ^ 64 - 1) }
     ensures put { form ≡ Form.Text → OnOk result (O.keeps out.old (verdict_text (schema_nodes writer.now) verdict.now) out.new) }
+    ensures front { form ≡ Form.Text → OnErr result (PutsFrontOf O.keeps out.old out.new (verdict_text (schema_nodes writer.now) verdict.now)) }
+    ensures front_json { form ≡ Form.Json → OnErr result ((named : NamedPath) × PutsFrontOf O.keeps out.old out.new (json_line (judged_tree (schema_nodes writer.now) named verdict.now))) }
     ensures put_json { form ≡ Form.Json → OnOk result ((named : NamedPath) × O.keeps out.old (json_line (judged_tree (schema_nodes writer.now) named verdict.now)) out.new) }
     ensures works { OnOk result (O.failures out.new ≡ O.failures out.old) }
     ensures fails { IsErrOf result PutError.CannotWrite → (O.failures out.new ≢ O.failures out.old) ⊎ O.stuck out.new }
@@ -132,6 +135,7 @@ fn put_datum<O: Output>(
     verdict: &Verdict<'_>,
 ) -> Result<(), PutError>
     ensures put { OnOk result (PutsText O.keeps out.old text.old.items (verdict_datum (schema_nodes writer.now) verdict.now) out.new text.new.items) }
+    ensures front { OnErr result (PutsFrontOf O.keeps out.old out.new (text.old.items ++ verdict_datum (schema_nodes writer.now) verdict.now)) }
     ensures works { OnOk result (O.failures out.new ≡ O.failures out.old) }
     ensures fails { IsErrOf result PutError.CannotWrite → (O.failures out.new ≢ O.failures out.old) ⊎ O.stuck out.new }
     ensures memory { IsErrOf result PutError.OutOfMemory → O.failures out.new ≡ O.failures out.old }
