@@ -233,7 +233,6 @@ EXCEPTIONS = {
         ("avro_answer/src/datum_texts.rt append_json", LINE),
         ("avro_answer/src/explaining.rt no_fault", LINE),
         ("avro_answer/src/explaining.rt over_pairs", LINE),
-        ("avro_answer/src/fault_lines.rt begin_faults", LINE),
         ("avro_answer/src/fault_place.rt push_step", "an entry in a path, which is no JSON"),
         ("avro_answer/src/json_object.rt json", ADDED),
         ("avro_answer/src/json_object.rt new", ADDED),

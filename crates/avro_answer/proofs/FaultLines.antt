@@ -1,16 +1,23 @@
--- The lines of faults, one after another, and the places of the faults of two schemas.
-use Rattle.std.proofs.Common.{◌≡◌, ◌∙◌, ◌<◌, ◌≤◌, ◌+◌, ℕ, suc, List, [], ◌∷◌, ◌++◌, drop, get_or, Result, Ok, Err, length, sym, ap, subst, arith, append_assoc, append-nil}
+-- The faults in a form, one after another, and the places of the faults of two schemas.
+use Rattle.std.proofs.Common.{◌≡◌, ◌∙◌, ◌<◌, ◌≤◌, ◌+◌, ℕ, suc, Bool, true, false, List, [], ◌∷◌, ◌++◌, drop, get_or, Result, Ok, Err, length, refl, sym, ap, subst, arith, append_assoc, append-nil}
 use Rattle.std.proofs.lemmas.List.{drop_more}
 use Rattle.std.specs.List.{AllByRecursion, AllZip, concat}
 use Rattle.std.specs.Prelude.{OnOk}
+use Rattle.serde_json.specs.Data.{Data}
+use Rattle.serde_json.specs.Written.{comma_if, compact_text, items_text}
 use Rattle.avro_schema.specs.Node.{Node, node_at}
 use Rattle.avro_explain.specs.Details.{details_of}
 use Rattle.avro_explain.specs.Places.{findings, findings_at, findings_from}
 use Rattle.avro_explain.specs.declared.found.Detail.{Detail}
 use Rattle.avro_explain.specs.declared.found.Finding.{Finding}
 use Rattle.avro_explain.specs.declared.found.Place.{Place}
-use Rattle.avro_answer.specs.FaultLine.{no_line, AreFaultLines, IsFaultLine, IsLineAdded}
-use Rattle.avro_answer.specs.inside.FaultsAdded.{HavePlaces, AreLeft, AreLinesAdded}
+use Rattle.avro_answer.specs.FaultLine.{IsFaultLine, IsLineAdded}
+use Rattle.avro_answer.specs.FaultTree.{node_tree, IsFaultTree}
+use Rattle.avro_answer.specs.JsonAnswer.{found_tree, place_tree, tree_items}
+use Rattle.avro_answer.specs.declared.form.Form.{Form}
+use Rattle.avro_answer.specs.declared.named_fault.NamedFault.{NamedFault}
+use Rattle.avro_answer.specs.inside.FaultsAdded.{HavePlaces, AreFaultsAdded, AreLeft, AreTold, IsBegun, IsFaultAdded, IsTreeAdded, faults_end}
+use Rattle.avro_answer.specs.inside.NamedLine.{IsNamed, named_line, named_tree}
 
 -- what is left of a list at an index
 pub next_left : (items xs : List Finding) (i : ℕ) (d : Finding) → xs ≡ items → i < length xs → drop i items ≡ get_or xs i d ∷ drop (i + 1) items
@@ -36,69 +43,108 @@ of_all writer reader n index (p ∷ places) within =
     (of_one n index (details_of writer reader (node_at writer p.w.0) (node_at reader p.r.0)) (omega (arith, within)))
     (of_all writer reader n (suc index) places (omega (arith, within)))
 
+-- an item of a list after its comma, and the items after it
+after_item : (before comma text rest : List ℕ) → (before ++ (comma ++ text)) ++ rest ≡ before ++ (comma ++ (text ++ rest))
+after_item before comma text rest = append_assoc before (comma ++ text) rest ∙ ap (λ t. before ++ t) (append_assoc comma text rest)
+
 module _ (writer reader : List Node) (places : List Place) where
   -- each fault of the places is of one of them
   pub placed : (faults : List Finding) → faults ≡ findings_from writer reader 0 places → HavePlaces places faults
   placed faults are = subst (HavePlaces places) (sym are) (of_all writer reader (length places) 0 places (omega arith))
 
-  -- all are left at first
-  pub left_all : (faults : List Finding) (text : List ℕ) → HavePlaces places faults → AreLeft writer reader places faults faults text text
-  left_all faults text have = record { placed = have; whole = λ after added. added }
-
-  -- one is left no more
-  pub left_more : (faults left rest : List Finding) (fault : Finding) (before old new : List ℕ) → left ≡ fault ∷ rest
-      → (fault.place < length places → IsLineAdded writer reader places fault old new)
-      → AreLeft writer reader places faults left before old → AreLeft writer reader places faults rest before new
-  left_more faults left rest fault before old new is line have =
-      let all = subst (HavePlaces places) is have.placed in record {
-        placed = all.1;
-        whole = λ after added. subst (λ fs. AreLinesAdded writer reader places fs old after → AreLinesAdded writer reader places faults before after) is (have.whole after)
-            (new, line all.0, added);
-      }
-
-  -- the line is added to what is put and what is kept
-  behind : (fault : Finding) (put old new : List ℕ) → IsLineAdded writer reader places fault old new → IsLineAdded writer reader places fault (put ++ old) (put ++ new)
-  behind fault put old new line = record {
-    line = line.line;
-    is = line.is;
-    added = ap (λ t. put ++ t) line.added ∙ sym (append_assoc put old line.line);
+  -- what is written of a fault by names is its line, or its tree
+  pub line_of_named : (fault : Finding) (named : NamedFault) → IsNamed writer reader places fault named → IsFaultLine writer reader places fault (named_line named)
+  line_of_named fault named is = record {
+    found = is.found;
+    written = rw (is.detail, is.missing, is.writer_at, is.reader_at, is.written, is.read) refl;
   }
 
-  -- the same where a part of what was kept is put then
-  module _ {O : Type 0} (keeps : O → List ℕ → O → Type 0) (chain : (s t u : O) (front back : List ℕ) → keeps s front t → keeps t back u → keeps s (front ++ back) u)
-      (first then last : O) (faults left rest : List Finding) (fault : Finding) (before old mid new : List ℕ) where
-    pub put_more : left ≡ fault ∷ rest → (fault.place < length places → IsLineAdded writer reader places fault old mid)
-        → (piece : List ℕ) × keeps then piece last × (mid ≡ piece ++ new)
-        → (put : List ℕ) × keeps first put then × AreLeft writer reader places faults left before (put ++ old)
-        → (put : List ℕ) × keeps first put last × AreLeft writer reader places faults rest before (put ++ new)
-    put_more is line (piece, appended, cut) (put, stood, have) = (
-      put ++ piece,
-      chain first then last put piece stood appended,
-      subst (AreLeft writer reader places faults rest before) (ap (λ t. put ++ t) cut ∙ sym (append_assoc put piece new))
-          (left_more faults left rest fault before (put ++ old) (put ++ mid) is (λ h. behind fault put old mid (line h)) have),
-    )
+  pub tree_of_named : (fault : Finding) (named : NamedFault) → IsNamed writer reader places fault named → IsFaultTree writer reader places fault (named_tree named)
+  tree_of_named fault named is = record {
+    found = is.found;
+    written = rw (is.detail, is.missing, is.writer_node, is.reader_node, is.writer_at, is.reader_at, is.written, is.read) refl;
+  }
+
+  -- a fault is added to what is put and what is kept
+  behind : (form : Form) (later : Bool) (fault : Finding) (put old new : List ℕ) → IsFaultAdded form writer reader places later fault old new
+      → IsFaultAdded form writer reader places later fault (put ++ old) (put ++ new)
+  behind Form.Text later fault put old new one = record {
+    line = one.line;
+    is = one.is;
+    added = ap (λ t. put ++ t) one.added ∙ sym (append_assoc put old one.line);
+  }
+  behind Form.Json later fault put old new one = record {
+    tree = one.tree;
+    is = one.is;
+    added = ap (λ t. put ++ t) one.added ∙ sym (append_assoc put old (comma_if later ++ compact_text one.tree));
+  }
 
   -- the lines that were added
-  lines_of : (faults : List Finding) (before after : List ℕ) → AreLinesAdded writer reader places faults before after
+  lines_of : (later : Bool) (faults : List Finding) (before after : List ℕ) → AreFaultsAdded Form.Text writer reader places later faults before after
       → (lines : List (List ℕ)) × AllZip (IsFaultLine writer reader places) faults lines × (after ≡ before ++ concat lines)
-  lines_of [] before after added = ([], tt, added ∙ sym (append-nil before))
-  lines_of (fault ∷ faults) before after (between, line, added) =
-      let more = lines_of faults between after added in
-      (line.line ∷ more.0, (line.is, more.1), more.2 ∙ ap (λ t. t ++ concat more.0) line.added ∙ append_assoc before line.line (concat more.0))
+  lines_of later [] before after added = ([], tt, added ∙ sym (append-nil before))
+  lines_of later (fault ∷ faults) before after (between, one, added) =
+      let more = lines_of true faults between after added in
+      (one.line ∷ more.0, (one.is, more.1), more.2 ∙ ap (λ t. t ++ concat more.0) one.added ∙ append_assoc before one.line (concat more.0))
 
-  pub told : (faults : List Finding) (text : List ℕ) → AreLinesAdded writer reader places faults (no_line (length faults)) text → AreFaultLines writer reader places faults text
-  told faults text added =
-      let more = lines_of faults (no_line (length faults)) text added in
-      record { lines = more.0; each = more.1; written = more.2 }
+  -- the trees that were added, as the items of an array
+  trees_of : (later : Bool) (faults : List Finding) (before after : List ℕ) → AreFaultsAdded Form.Json writer reader places later faults before after
+      → (trees : List Data) × AllZip (IsFaultTree writer reader places) faults trees × (after ++ 93 ∷ [] ≡ before ++ items_text later (tree_items trees))
+  trees_of later [] before after added = ([], tt, ap (λ t. t ++ 93 ∷ []) added)
+  trees_of later (fault ∷ faults) before after (between, one, added) =
+      let more = trees_of true faults between after added in
+      let rest : List ℕ = items_text true (tree_items more.0) in
+      (one.tree ∷ more.0, (one.is, more.1), more.2 ∙ ap (λ t. t ++ rest) one.added ∙ after_item before (comma_if later) (compact_text one.tree) rest)
 
-  -- all lines are put, and what was kept of them
-  pub put_all : {O : Type 0} (keeps : O → List ℕ → O → Type 0) (chain : (s t u : O) (front back : List ℕ) → keeps s front t → keeps t back u → keeps s (front ++ back) u)
-      (first then last : O) (faults : List Finding) (begun rest whole : List ℕ) → begun ≡ no_line (length faults) → whole ≡ rest
-      → (put : List ℕ) × keeps first put then × AreLinesAdded writer reader places faults begun (put ++ rest) → keeps then whole last
-      → (text : List ℕ) × AreFaultLines writer reader places faults text × keeps first text last
-  put_all keeps chain first then last faults begun rest whole is same (put, stood, added) appended = (
-    put ++ whole,
-    told faults (put ++ whole) (subst (λ b. AreLinesAdded writer reader places faults b (put ++ whole)) is
-        (subst (λ r. AreLinesAdded writer reader places faults begun (put ++ r)) (sym same) added)),
-    chain first then last put whole stood appended,
-  )
+  pub told : (form : Form) (faults : List Finding) (begun text : List ℕ) → IsBegun form (length faults) begun
+      → AreFaultsAdded form writer reader places false faults begun text → AreTold form writer reader places faults (text ++ faults_end form)
+  told Form.Text faults begun text is added =
+      let more = lines_of false faults begun text added in
+      record { lines = more.0; each = more.1; written = append-nil text ∙ more.2 ∙ ap (λ b. b ++ concat more.0) is }
+  told Form.Json faults begun text is added =
+      let more = trees_of false faults begun text added in
+      record { trees = more.0; each = more.1; written = sym (append_assoc text (93 ∷ []) (125 ∷ 10 ∷ [])) ∙ ap (λ t. t ++ 125 ∷ 10 ∷ []) more.2 ∙ is more.0 }
+
+  module _ (form : Form) where
+    -- all are left at first
+    pub left_all : (faults : List Finding) (text : List ℕ) → HavePlaces places faults → AreLeft form writer reader places faults faults false text text
+    left_all faults text have = record { placed = have; whole = λ after added. added }
+
+    -- one is left no more
+    pub left_more : (faults left rest : List Finding) (later : Bool) (fault : Finding) (before old new : List ℕ) → left ≡ fault ∷ rest
+        → (fault.place < length places → IsFaultAdded form writer reader places later fault old new)
+        → AreLeft form writer reader places faults left later before old → AreLeft form writer reader places faults rest true before new
+    left_more faults left rest later fault before old new is one have =
+        let all = subst (HavePlaces places) is have.placed in record {
+          placed = all.1;
+          whole = λ after added.
+              subst (λ fs. AreFaultsAdded form writer reader places later fs old after → AreFaultsAdded form writer reader places false faults before after) is (have.whole after)
+              (new, one all.0, added);
+        }
+
+    module _ {O : Type 0} (keeps : O → List ℕ → O → Type 0) (chain : (s t u : O) (front back : List ℕ) → keeps s front t → keeps t back u → keeps s (front ++ back) u)
+        (first then last : O) (faults : List Finding) where
+      -- the same where a part of what was kept is put then
+      pub put_more : (left rest : List Finding) (later : Bool) (fault : Finding) (before old mid new : List ℕ) → left ≡ fault ∷ rest
+          → (fault.place < length places → IsFaultAdded form writer reader places later fault old mid)
+          → (piece : List ℕ) × keeps then piece last × (mid ≡ piece ++ new)
+          → (put : List ℕ) × keeps first put then × AreLeft form writer reader places faults left later before (put ++ old)
+          → (put : List ℕ) × keeps first put last × AreLeft form writer reader places faults rest true before (put ++ new)
+      put_more left rest later fault before old mid new is one (piece, appended, cut) (put, stood, have) = (
+        put ++ piece,
+        chain first then last put piece stood appended,
+        subst (AreLeft form writer reader places faults rest true before) (ap (λ t. put ++ t) cut ∙ sym (append_assoc put piece new))
+            (left_more faults left rest later fault before (put ++ old) (put ++ mid) is (λ h. behind form later fault put old mid (one h)) have),
+      )
+
+      -- all are put, and what was kept of them with the end
+      pub put_all : (known : Form) → form ≡ known → (begun rest whole : List ℕ) → IsBegun form (length faults) begun → whole ≡ rest ++ faults_end form
+          → (put : List ℕ) × keeps first put then × AreFaultsAdded form writer reader places false faults begun (put ++ rest) → keeps then whole last
+          → (text : List ℕ) × AreTold known writer reader places faults text × keeps first text last
+      put_all known is begun rest whole start same (put, stood, added) appended = (
+        put ++ whole,
+        subst (λ f. AreTold f writer reader places faults (put ++ whole)) is
+            (subst (AreTold form writer reader places faults) (append_assoc put rest (faults_end form) ∙ ap (λ t. put ++ t) (sym same))
+            (told form faults begun (put ++ rest) start added)),
+        chain first then last put whole stood appended,
+      )

@@ -42,7 +42,8 @@ pub line_is : (empty full : JsonObject) (more : Members → Members) (line : Lis
 line_is empty full more line text later put is =
     is ∙ (sym (append_assoc (string_bytes full.text) (125 ∷ []) (10 ∷ [])) ∙ ap (λ (t : List ℕ). t ++ 10 ∷ []) (whole empty full more text later put))
 
-in_front : (before after : List ℕ) (later : Bool) (key : List ℕ) (d : Data) → after ≡ before ++ (comma_if later ++ (head_text key ++ []))
+-- a key, and the value and the end that come after it
+pub in_front : (before after : List ℕ) (later : Bool) (key : List ℕ) (d : Data) → after ≡ before ++ (comma_if later ++ (head_text key ++ []))
     → (after ++ compact_text d) ++ 125 ∷ [] ≡ before ++ members_text later (member key d no_members)
 in_front before after later key d e = rw e (simp append_assoc)
 

@@ -10,6 +10,8 @@ use Rattle.avro_explain.specs.declared.found.Finding.{Finding}
 use Rattle.avro_explain.specs.declared.found.Place.{Place}
 use Rattle.avro_answer.specs.ReadText.{IsReadAs}
 use Rattle.avro_answer.specs.FaultLine.{AreFaultLines}
+use Rattle.avro_answer.specs.FaultTree.{AreFaultTrees}
+use Rattle.avro_answer.specs.JsonAnswer.{json_line, no_fault_tree, over_pairs_tree}
 use Rattle.avro_answer.specs.JudgeAnswer.{IsYes}
 
 -- the answer `undecided Pairs`, with status 2
@@ -20,10 +22,9 @@ IsOverPairs text status = (text ≡ codes "undecided Pairs\n") × (status ≡ 2)
 abbrev pub IsOverLimit : List Node → List Node → ℕ → Type 0
 IsOverLimit writer reader limit = (dead : List ℕ) × (pairs : List Pair) × IsGreatestDead writer dead × AreTooMany writer reader dead limit pairs
 
--- The text of a no: the pairs of nodes that the roots lead to, each once, in the order and by the steps of a
--- breadth-first search, except for those whose writer's node has no datum; exactly their faults; and a line for each of
--- these, in order.
-pub record AreAllFaults (writer reader : List Node) (text : List ℕ) : Type 0 where
+-- What is told of a no: the pairs of nodes that the roots lead to, each once, in the order and by the steps of a
+-- breadth-first search, except for those whose writer's node has no datum; and exactly their faults.
+pub record AreFaultsTold (writer reader : List Node) (Told : List Place → List Finding → Type 0) : Type 0 where
   pub dead : List ℕ
   pub greatest : IsGreatestDead writer dead
   pub places : List Place
@@ -34,7 +35,15 @@ pub record AreAllFaults (writer reader : List Node) (text : List ℕ) : Type 0 w
   pub searched : AreSearched writer reader dead places
   pub faults : List Finding
   pub exact : AreFaults writer reader places faults
-  pub told : AreFaultLines writer reader places faults text
+  pub told : Told places faults
+
+-- the text of a no has a line for each of the faults, in order
+abbrev pub AreAllFaults : List Node → List Node → List ℕ → Type 0
+AreAllFaults writer reader text = AreFaultsTold writer reader (λ places faults. AreFaultLines writer reader places faults text)
+
+-- the line of JSON of a no has a tree for each of the faults, in order
+abbrev pub AreAllFaultTrees : List Node → List Node → List ℕ → Type 0
+AreAllFaultTrees writer reader line = AreFaultsTold writer reader (λ places faults. AreFaultTrees writer reader places faults line)
 
 -- What is answered of two schemas, of which at most a number of pairs of nodes are gone through: `undecided Pairs` and
 -- status 2 if and only if the roots lead to more, otherwise `yes` and status 0 if and only if no datum fails, and
@@ -58,6 +67,13 @@ pub record FaultsStatus (writer reader : List Node) (limit status : ℕ) : Type 
   pub undecided : (status ≡ 2) ↔ IsOverLimit writer reader limit
   pub known : (status ≡ 0) ⊎ (status ≡ 1) ⊎ (status ≡ 2)
 
+-- What is answered as JSON: a line by the status, and nothing else.
+pub record FaultsJson (writer reader : List Node) (limit : ℕ) (line : List ℕ) (status : ℕ) : Type 0 where
+  pub known : FaultsStatus writer reader limit status
+  pub yes : status ≡ 0 → line ≡ json_line no_fault_tree
+  pub faults : status ≡ 1 → AreAllFaultTrees writer reader line
+  pub undecided : status ≡ 2 → line ≡ json_line over_pairs_tree
+
 -- What is answered of two texts: both declare schemas and are not too long, and it is the answer of those.
 pub record ExplainAnswer (writer reader : List ℕ) (limit : ℕ) (text : List ℕ) (status : ℕ) : Type 0 where
   pub written : List Node
@@ -73,3 +89,11 @@ pub record ExplainStatus (writer reader : List ℕ) (limit status : ℕ) : Type 
   pub declares_written : IsReadAs writer written
   pub declares_read : IsReadAs reader read
   pub answered : FaultsStatus written read limit status
+
+-- The same of the line of JSON.
+pub record ExplainJson (writer reader : List ℕ) (limit : ℕ) (line : List ℕ) (status : ℕ) : Type 0 where
+  pub written : List Node
+  pub read : List Node
+  pub declares_written : IsReadAs writer written
+  pub declares_read : IsReadAs reader read
+  pub answered : FaultsJson written read limit line status

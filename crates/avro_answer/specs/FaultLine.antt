@@ -67,8 +67,8 @@ fault_line writer reader place d writer_way reader_way =
     line_of d (unwrap_or (missing_of writer reader place d) []) (place_text writer writer_way) (type_text 256 writer place.w.0)
     (place_text reader reader_way) (type_text 256 reader place.r.0)
 
--- the line of a fault, by the two ways to its place, which lead to the nodes of the place
-pub record IsFaultLine (writer reader : List Node) (places : List Place) (fault : Finding) (line : List ℕ) : Type 0 where
+-- the place of a fault, and two ways to it, which lead to the nodes of the place
+pub record IsFaultAt (writer reader : List Node) (places : List Place) (fault : Finding) : Type 0 where
   pub place : Place
   pub there : slice_get places fault.place ≡ Some place
   pub writer_way : List PathStep
@@ -76,7 +76,11 @@ pub record IsFaultLine (writer reader : List Node) (places : List Place) (fault 
   pub leads_writer : ArePlaced writer reader places → IsWay writer writer_way place.w.0
   pub leads_reader : ArePlaced writer reader places → IsWay reader reader_way place.r.0
   pub way : ArePlaced writer reader places → IsWayTo places fault.place writer_way reader_way
-  pub written : line ≡ fault_line writer reader place fault.detail writer_way reader_way
+
+-- the line of a fault, by the two ways to its place
+pub record IsFaultLine (writer reader : List Node) (places : List Place) (fault : Finding) (line : List ℕ) : Type 0 where
+  pub found : IsFaultAt writer reader places fault
+  pub written : line ≡ fault_line writer reader found.place fault.detail found.writer_way found.reader_way
 
 -- this line added to a text
 pub record IsLineAdded (writer reader : List Node) (places : List Place) (fault : Finding) (before after : List ℕ) : Type 0 where

@@ -9,8 +9,10 @@ use Rattle.avro_compare.specs.FaultText.{kind_name}
 use Rattle.avro_compare.specs.declared.error.Fault.{Fault}
 use Rattle.avro_compare.specs.declared.error.FaultKind.{FaultKind}
 use Rattle.avro_display.specs.DisplayTree.{display_tree}
+use Rattle.avro_explain.specs.declared.found.Detail.{Detail}
 use Rattle.avro_judge.specs.declared.verdict.Cause.{Cause}
 use Rattle.avro_judge.specs.declared.verdict.Verdict.{Verdict}
+use Rattle.avro_answer.specs.FaultLine.{fault_word}
 use Rattle.avro_answer.specs.Texts.{cause_text}
 
 -- the line of a tree: its compact text, and a line feed
@@ -103,3 +105,37 @@ no_fault_tree = object (member (codes "verdict") (string (codes "yes")) (member 
 -- the answer of `explain` for two schemas with too many pairs of nodes
 abbrev pub over_pairs_tree : Data
 over_pairs_tree = object (member (codes "verdict") (string (codes "undecided")) (member (codes "cause") (string (cause_text Cause.Pairs)) no_members))
+
+-- a node of a schema: its number, the place by names, and the type
+abbrev pub place_tree : ℕ → List ℕ → List ℕ → Data
+place_tree node at kind = object
+    (member (codes "node") (number (unsigned node))
+    (member (codes "at") (string at)
+    (member (codes "type") (string kind) no_members)))
+
+-- the key of what is missing in a fault of `explain`
+abbrev pub detail_key : Detail → List ℕ
+detail_key (Detail.MissingField k) = codes "field"
+detail_key d = codes "symbol"
+
+-- the member of what is missing, where it is told, before the others
+abbrev pub detail_member : Detail → Option (List ℕ) → Members → Members
+detail_member d None rest = rest
+detail_member d (Some name) rest = member (detail_key d) (string name) rest
+
+-- a fault of `explain`: its kind, what is missing, and the nodes of both schemas
+abbrev pub found_tree : Detail → Option (List ℕ) → Data → Data → Data
+found_tree d missing writer reader = object
+    (member (codes "fault") (string (fault_word d))
+    (detail_member d missing
+    (member (codes "writer") writer
+    (member (codes "reader") reader no_members))))
+
+-- trees as items, in order
+abbrev pub tree_items : List Data → Items
+tree_items [] = no_items
+tree_items (tree ∷ trees) = item tree (tree_items trees)
+
+-- the answer of `explain` for two schemas with these faults
+abbrev pub faults_tree : List Data → Data
+faults_tree trees = object (member (codes "verdict") (string (codes "no")) (member (codes "faults") (array (tree_items trees)) no_members))

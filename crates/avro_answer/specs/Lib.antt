@@ -9,6 +9,7 @@ pub mod ConfirmAnswer
 pub mod ExplainAnswer
 pub mod PlaceText
 pub mod FaultLine
+pub mod FaultTree
 pub mod SchemaAnswer
 pub mod RefusalText
 pub mod ReadAnswer

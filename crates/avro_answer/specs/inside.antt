@@ -4,5 +4,6 @@ pub mod FaultsAdded
 pub mod FrontKept
 pub mod JsonText
 pub mod NamedLine
+pub mod NamedTree
 pub mod Read
 pub mod VerdictTexts

@@ -5,7 +5,7 @@ ghost use Rattle.std.specs.Result.{IfErr};
 ghost use Rattle.avro_schema.specs.SeenSchema.{schema_nodes};
 ghost use Rattle.avro_schema_json.specs.Declaration.{max_text};
 ghost use Rattle.avro_schema_json.specs.declared.error.SchemaError.{SchemaError};
-ghost use Rattle.avro_answer.specs.ExplainAnswer.{FaultsAnswer, FaultsStatus, ExplainAnswer, ExplainStatus};
+ghost use Rattle.avro_answer.specs.ExplainAnswer.{FaultsAnswer, FaultsJson, FaultsStatus, ExplainAnswer, ExplainJson, ExplainStatus};
 ghost use Rattle.avro_answer.specs.JsonAnswer.{json_line, no_fault_tree, over_pairs_tree};
 ghost use Rattle.avro_answer.specs.RefusalText.{RefusesPair, HaveSchemas};
 ghost use Rattle.avro_answer.specs.declared.form.Form.{Form};
@@ -22,7 +22,7 @@ use std::alloc::Global;
 
 /// Finds all faults of the schemas of two texts: `undecided Pairs` if and only if the roots lead to more than `max_pairs` pairs of nodes,
 /// otherwise `yes` if and only if no datum fails, and a no if not every datum resolves, with the number of faults and a line for each, in
-/// order. With JSON output this is proved of the status alone.
+/// order; as JSON the same in one line, with an object for each fault.
 ///
 /// # Errors
 ///
@@ -35,6 +35,7 @@ pub fn explain_text(
     form: Form,
 ) -> Result<Answer, Refusal>
     ensures answered { IfOk result (λ a. form ≡ Form.Text → ExplainAnswer writer.now reader.now max_pairs a.text.items a.status) }
+    ensures json { IfOk result (λ a. form ≡ Form.Json → ExplainJson writer.now reader.now max_pairs a.text.items a.status) }
     ensures status { IfOk result (λ a. ExplainStatus writer.now reader.now max_pairs a.status) }
     ensures too_long { max_text < length writer.now → IsErrOf result (Writer SchemaError.LimitExceeded) }
     ensures refused { IfErr result (RefusesPair writer.now reader.now) }
@@ -54,6 +55,7 @@ fn explain_schemas(
     form: Form,
 ) -> Result<Answer, Memory>
     ensures answered { IfOk result (λ a. form ≡ Form.Text → FaultsAnswer (schema_nodes writer.now) (schema_nodes reader.now) max_pairs a.text.items a.status) }
+    ensures json { IfOk result (λ a. form ≡ Form.Json → FaultsJson (schema_nodes writer.now) (schema_nodes reader.now) max_pairs a.text.items a.status) }
     ensures status { IfOk result (λ a. FaultsStatus (schema_nodes writer.now) (schema_nodes reader.now) max_pairs a.status) }
 {
     match explain(alloc, writer, reader, max_pairs) {

@@ -1,14 +1,16 @@
 //! The lines of all faults of two schemas, by names.
 
-ghost use Rattle.std.specs.Prelude.{◌≡◌, ◌≢◌, ◌<◌, ◌⊎◌, ◌++◌, ℕ, List, [], length, string_bytes, IfOk, OnOk, IsErrOf};
+ghost use Rattle.std.specs.Prelude.{◌≡◌, ◌≢◌, ◌<◌, ◌⊎◌, ◌++◌, ℕ, List, false, length, string_bytes, IfOk, OnOk, IsErrOf};
 ghost use Rattle.avro_schema.specs.SeenSchema.{schema_nodes};
 ghost use Rattle.avro_explain.specs.Places.{AreFaults};
 ghost use Rattle.avro_answer.specs.FaultLine.{AreFaultLines, IsLineAdded, no_line};
-ghost use Rattle.avro_answer.specs.inside.FaultsAdded.{HavePlaces, AreLinesAdded};
+ghost use Rattle.avro_answer.specs.FaultTree.{AreFaultTrees};
+ghost use Rattle.avro_answer.specs.inside.FaultsAdded.{HavePlaces, AreFaultsAdded, AreTold, IsArrayBegun, IsBegun, IsFaultAdded, IsTreeAdded, faults_end};
 ghost use Rattle.avro_answer.specs.declared.form.Form.{Form};
 ghost use Rattle.avro_display.specs.declared.put_error.PutError.{PutError};
 
 use crate::form::Form;
+use crate::json_object::{JsonObject, append_comma};
 use crate::named_fault::name_fault;
 use crate::putting::put_text;
 use avro_device::Output;
@@ -21,7 +23,7 @@ use std::alloc::{AllocError, Global};
 const PIECE: usize = 1_048_576;
 
 /// Puts a no and all faults that [`explain`](avro_explain::explain) found, of which there are some, into an output: their number, and a line
-/// for each, in order, with the paths to the nodes of its place. With JSON output no clause says what is put.
+/// for each, in order, with the paths to the nodes of its place; or one line of JSON with an object for each.
 ///
 /// # Errors
 ///
@@ -36,6 +38,8 @@ pub fn put_faults<O: Output>(
 ) -> Result<(), PutError>
     ensures put { form ≡ Form.Text → AreFaults (schema_nodes writer.now) (schema_nodes reader.now) found.now.places.items found.now.faults.items → OnOk result ((text : List ℕ)
         × AreFaultLines (schema_nodes writer.now) (schema_nodes reader.now) found.now.places.items found.now.faults.items text × O.keeps out.old text out.new) }
+    ensures json { form ≡ Form.Json → AreFaults (schema_nodes writer.now) (schema_nodes reader.now) found.now.places.items found.now.faults.items → OnOk result ((line : List ℕ)
+        × AreFaultTrees (schema_nodes writer.now) (schema_nodes reader.now) found.now.places.items found.now.faults.items line × O.keeps out.old line out.new) }
     ensures works { OnOk result (O.failures out.new ≡ O.failures out.old) }
     ensures fails { IsErrOf result PutError.CannotWrite → (O.failures out.new ≢ O.failures out.old) ⊎ O.stuck out.new }
     ensures memory { IsErrOf result PutError.OutOfMemory → O.failures out.new ≡ O.failures out.old }
@@ -54,8 +58,8 @@ pub(crate) fn faults_text(
     found: &Explanation,
     form: Form,
 ) -> Result<Vec<u8>, Memory>
-    ensures { form ≡ Form.Text → AreFaults (schema_nodes writer.now) (schema_nodes reader.now) found.now.places.items found.now.faults.items
-        → IfOk result (λ text. AreFaultLines (schema_nodes writer.now) (schema_nodes reader.now) found.now.places.items found.now.faults.items text.items) }
+    ensures { AreFaults (schema_nodes writer.now) (schema_nodes reader.now) found.now.places.items found.now.faults.items
+        → IfOk result (λ text. AreTold form (schema_nodes writer.now) (schema_nodes reader.now) found.now.places.items found.now.faults.items text.items) }
 {
     let mut text = begin_faults(alloc, found.faults.len(), form)?;
     append_faults(&mut text, alloc, writer, reader, found, form)?;
@@ -72,15 +76,15 @@ fn append_faults(
     found: &Explanation,
     form: Form,
 ) -> Result<(), Memory>
-    ensures { form ≡ Form.Text → HavePlaces found.now.places.items found.now.faults.items → OnOk result (AreLinesAdded (schema_nodes writer.now)
-        (schema_nodes reader.now) found.now.places.items found.now.faults.items (string_bytes text.old) (string_bytes text.new)) }
+    ensures { HavePlaces found.now.places.items found.now.faults.items → OnOk result (AreFaultsAdded form (schema_nodes writer.now)
+        (schema_nodes reader.now) found.now.places.items false found.now.faults.items (string_bytes text.old) (string_bytes text.new)) }
 {
-    let mut is_first = true;
+    let mut later = false;
     for fault in &found.faults {
         append_fault(
-            &mut *text, alloc, writer, reader, found, *fault, form, is_first,
+            &mut *text, alloc, writer, reader, found, *fault, form, later,
         )?;
-        is_first = false;
+        later = true;
     }
     Ok(())
 }
@@ -95,18 +99,19 @@ fn put_lines<O: Output>(
     found: &Explanation,
     form: Form,
 ) -> Result<(), PutError>
-    ensures put { form ≡ Form.Text → HavePlaces found.now.places.items found.now.faults.items → OnOk result ((put : List ℕ) × O.keeps out.old put out.new
-        × AreLinesAdded (schema_nodes writer.now) (schema_nodes reader.now) found.now.places.items found.now.faults.items (string_bytes text.old) (put ++ string_bytes text.new)) }
+    ensures put { HavePlaces found.now.places.items found.now.faults.items → OnOk result ((put : List ℕ) × O.keeps out.old put out.new
+        × AreFaultsAdded form (schema_nodes writer.now) (schema_nodes reader.now) found.now.places.items false found.now.faults.items (string_bytes text.old)
+        (put ++ string_bytes text.new)) }
     ensures works { OnOk result (O.failures out.new ≡ O.failures out.old) }
     ensures fails { IsErrOf result PutError.CannotWrite → (O.failures out.new ≢ O.failures out.old) ⊎ O.stuck out.new }
     ensures memory { IsErrOf result PutError.OutOfMemory → O.failures out.new ≡ O.failures out.old }
 {
-    let mut is_first = true;
+    let mut later = false;
     for fault in &found.faults {
         append_fault(
-            &mut *text, alloc, writer, reader, found, *fault, form, is_first,
+            &mut *text, alloc, writer, reader, found, *fault, form, later,
         )?;
-        is_first = false;
+        later = true;
         put_piece(&mut *out, &mut *text)?;
     }
     Ok(())
@@ -129,12 +134,24 @@ fn put_piece<O: Output>(out: &mut O, text: &mut String) -> Result<(), PutError>
 
 /// The start of the text, before the faults.
 fn begin_faults(alloc: Global, count: usize, form: Form) -> Result<String, AllocError>
-    ensures { IfOk result (λ begun. form ≡ Form.Text → string_bytes begun ≡ no_line count) }
+    ensures { IfOk result (λ begun. IsBegun form count (string_bytes begun)) }
 {
     match form {
         Form::Text => begin_lines(alloc, count),
-        Form::Json => String::from_str(alloc, "{\"verdict\":\"no\",\"faults\":["),
+        Form::Json => begin_array(alloc),
     }
+}
+
+/// The object of a no, up to the first of its faults.
+fn begin_array(alloc: Global) -> Result<String, AllocError>
+    ensures { IfOk result (λ begun. IsArrayBegun (string_bytes begun)) }
+{
+    let mut answer = JsonObject::new(alloc)?;
+    answer.put_text("verdict", "no")?;
+    answer.put_key("faults")?;
+    let mut text = answer.front();
+    text.push_str("[")?;
+    Ok(text)
 }
 
 /// The line before those of the faults.
@@ -157,14 +174,14 @@ fn append_fault(
     found: &Explanation,
     fault: Finding,
     form: Form,
-    is_first: bool,
+    later: bool,
 ) -> Result<(), Memory>
-    ensures { form ≡ Form.Text → fault.place < length found.now.places.items → OnOk result (IsLineAdded (schema_nodes writer.now) (schema_nodes reader.now)
-        found.now.places.items fault (string_bytes text.old) (string_bytes text.new)) }
+    ensures { fault.place < length found.now.places.items → OnOk result (IsFaultAdded form (schema_nodes writer.now) (schema_nodes reader.now)
+        found.now.places.items later fault (string_bytes text.old) (string_bytes text.new)) }
 {
     match form {
         Form::Text => append_line(text, alloc, writer, reader, &found.places, fault),
-        Form::Json => append_json(text, alloc, writer, reader, &found.places, fault, is_first),
+        Form::Json => append_json(text, alloc, writer, reader, &found.places, fault, later),
     }
 }
 
@@ -189,7 +206,7 @@ fn append_line(
     }
 }
 
-/// Appends the object of a fault, after a comma unless it is the first.
+/// Appends the object of a fault, after a comma if one is before it.
 fn append_json(
     text: &mut String,
     alloc: Global,
@@ -197,22 +214,25 @@ fn append_json(
     reader: &Schema,
     places: &[Place],
     fault: Finding,
-    is_first: bool,
-) -> Result<(), Memory> {
-    let Some(named) = name_fault(alloc, writer, reader, places, fault)? else {
-        return Ok(());
-    };
-    if !is_first {
-        text.push(',')?;
+    later: bool,
+) -> Result<(), Memory>
+    ensures { fault.place < length places.now → OnOk result (IsTreeAdded (schema_nodes writer.now) (schema_nodes reader.now) places.now later fault
+        (string_bytes text.old) (string_bytes text.new)) }
+{
+    match name_fault(alloc, writer, reader, places, fault)? {
+        None => Ok(()),
+        Some(named) => {
+            append_comma(text, later)?;
+            let json = named.json(alloc)?;
+            text.push_str(&json)?;
+            Ok(())
+        }
     }
-    let json = named.json(alloc)?;
-    text.push_str(&json)?;
-    Ok(())
 }
 
 /// The end of the text, after the faults.
 fn end_of_faults(form: Form) -> &'static str
-    ensures { form ≡ Form.Text → result.now ≡ [] }
+    ensures { result.now ≡ faults_end form }
 {
     match form {
         Form::Text => "",

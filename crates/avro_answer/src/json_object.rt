@@ -114,7 +114,7 @@ impl JsonObject {
 }
 
 /// Appends a comma, if something is before.
-fn append_comma(text: &mut String, later: bool) -> Result<(), AllocError>
+pub(crate) fn append_comma(text: &mut String, later: bool) -> Result<(), AllocError>
     ensures { OnOk result (string_bytes text.new ≡ string_bytes text.old ++ comma_if later) }
 {
     if later { text.push_str(",") } else { Ok(()) }

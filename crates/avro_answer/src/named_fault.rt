@@ -1,10 +1,13 @@
 //! A fault of two schemas, with the names of what it is about.
 
-ghost use Rattle.std.specs.Prelude.{◌≡◌, ◌<◌, ◌++◌, None, length, slice_get, string_bytes, option_map, OnOk, IfOk};
+ghost use Rattle.std.specs.Prelude.{◌≡◌, ◌<◌, ◌++◌, true, None, length, slice_get, string_bytes, option_map, OnOk, IfOk};
 ghost use Rattle.std.specs.Option.{IfSome};
+ghost use Rattle.serde_json.specs.Written.{compact_text};
 ghost use Rattle.avro_schema.specs.SeenSchema.{schema_nodes};
 ghost use Rattle.avro_answer.specs.FaultLine.{symbol_at, field_at, missing_of, fault_word, kind_part, reason_text, field_part, writer_part};
-ghost use Rattle.avro_answer.specs.inside.NamedLine.{IsNamed, named_line, missing_seen};
+ghost use Rattle.avro_answer.specs.JsonAnswer.{detail_key, detail_member};
+ghost use Rattle.avro_answer.specs.inside.JsonText.{PutsMembers};
+ghost use Rattle.avro_answer.specs.inside.NamedLine.{IsNamed, named_line, named_tree, missing_seen};
 
 use crate::json_object::JsonObject;
 use crate::named_place::{NamedPlace, field_name, name_place};
@@ -187,20 +190,39 @@ impl<'a> NamedFault<'a> {
     }
 
     /// The object of the fault.
-    pub(crate) fn json(&self, alloc: Global) -> Result<String, AllocError> {
+    pub(crate) fn json(&self, alloc: Global) -> Result<String, AllocError>
+        ensures { IfOk result (λ json. string_bytes json ≡ compact_text (named_tree self.now)) }
+    {
         let mut fault = JsonObject::new(alloc)?;
         fault.put_text("fault", kind_word(self.detail))?;
-        if let Some(name) = self.missing {
-            let key = match self.detail {
-                Detail::MissingField(_) => "field",
-                _ => "symbol",
-            };
-            fault.put_text(key, name)?;
-        }
+        put_name(&mut fault, self.detail, self.missing)?;
         let writer = self.writer.json(alloc)?;
         fault.put_json("writer", &writer)?;
         let reader = self.reader.json(alloc)?;
         fault.put_json("reader", &reader)?;
         fault.json()
+    }
+}
+
+/// Puts the name of what is missing, if there is one.
+fn put_name(fault: &mut JsonObject, detail: Detail, missing: Option<&str>) -> Result<(), AllocError>
+    ensures { fault.old.later ≡ true → OnOk result (PutsMembers fault.old (detail_member detail (option_map (λ name. name.now) missing.entry)) fault.new) }
+{
+    match missing {
+        Some(name) => fault.put_text(key_of_name(detail), name),
+        None => Ok(()),
+    }
+}
+
+/// The key of what is missing.
+fn key_of_name(detail: Detail) -> &'static str
+    ensures { result.now ≡ detail_key detail }
+{
+    match detail {
+        Detail::MissingField(_) => "field",
+        Detail::NoSymbol(_) => "symbol",
+        Detail::NoMatch => "symbol",
+        Detail::NoBranch => "symbol",
+        Detail::NotUtf8 => "symbol",
     }
 }

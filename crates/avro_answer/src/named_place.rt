@@ -1,6 +1,7 @@
 //! A node of a schema, with the way to it by names.
 
 ghost use Rattle.std.specs.Prelude.{◌≡◌, ◌++◌, Some, string_bytes, option_map, option_and_then, slice_get, OnOk, IfOk};
+ghost use Rattle.serde_json.specs.Written.{compact_text};
 ghost use Rattle.avro_schema.specs.Seen.{node_of};
 ghost use Rattle.avro_schema.specs.SeenSchema.{schema_nodes};
 ghost use Rattle.avro_answer.specs.PlaceText.{type_text, branch_mark, field_mark, field_name_at, field_id_at, branch_id_at, mark_from, end_from, step_mark, step_end, way_text, place_text};
@@ -23,8 +24,12 @@ pub(crate) struct NamedPlace {
 }
 
 impl NamedPlace {
+    ghost use Rattle.avro_answer.specs.inside.NamedTree.{named_place_tree};
+
     /// The object of the place.
-    pub(crate) fn json(&self, alloc: Global) -> Result<String, AllocError> {
+    pub(crate) fn json(&self, alloc: Global) -> Result<String, AllocError>
+        ensures { IfOk result (λ json. string_bytes json ≡ compact_text (named_place_tree self.now)) }
+    {
         let mut place = JsonObject::new(alloc)?;
         place.put_number("node", u64::from(self.node))?;
         place.put_text("at", &self.at)?;
@@ -40,6 +45,7 @@ pub(crate) fn name_place(
     id: NodeId,
     way: &[PathStep],
 ) -> Result<NamedPlace, AllocError>
+    ensures node { IfOk result (λ p. p.node ≡ id.0) }
     ensures at { IfOk result (λ p. string_bytes p.at ≡ place_text (schema_nodes schema.now) way.now) }
     ensures type_text { IfOk result (λ p. string_bytes p.type_text ≡ type_text 256 (schema_nodes schema.now) id.0) }
 {

@@ -6,13 +6,13 @@ use Rattle.avro_answer.proofs.fault_lines.put_lines.Goals as goal
 
 pub loop-fault-preserved : goal.loop-fault-preserved
 loop-fault-preserved g c = (
-  λ is_text have.
+  λ have.
       let faults = c.args.found.now.faults.items in
-      put_more (schema_nodes c.args.writer.now) (schema_nodes c.args.reader.now) c.args.found.now.places.items g.O.Output.keeps g.met.O.Output.chain
+      put_more (schema_nodes c.args.writer.now) (schema_nodes c.args.reader.now) c.args.found.now.places.items c.args.form g.O.Output.keeps g.met.O.Output.chain
       c.args.out.now c.loop-fault.out c.put_piece.new.out
-      faults (drop c.loop-fault.fault-index faults) (drop (c.loop-fault.fault-index + 1) faults) _
+      faults (drop c.loop-fault.fault-index faults) (drop (c.loop-fault.fault-index + 1) faults) c.loop-fault.later _
       (string_bytes c.args.text.now) (string_bytes c.loop-fault.text) (string_bytes c.append_fault.new.text) (string_bytes c.put_piece.new.text)
       (next_left faults c.deref-fault-items.result.now c.loop-fault.fault-index _ c.deref-fault-items.ensures.value c.loop-fault-test.true)
-      (c.in_ok-append_fault.ensures is_text) c.in_ok-put_piece.ensures.put (c.loop-fault.invariant.0 is_text have),
+      c.in_ok-append_fault.ensures c.in_ok-put_piece.ensures.put (c.loop-fault.invariant.0 have),
   c.in_ok-put_piece.ensures.works ∙ c.loop-fault.invariant.1,
 )
