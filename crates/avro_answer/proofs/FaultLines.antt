@@ -11,12 +11,12 @@ use Rattle.avro_explain.specs.Places.{findings, findings_at, findings_from}
 use Rattle.avro_explain.specs.declared.found.Detail.{Detail}
 use Rattle.avro_explain.specs.declared.found.Finding.{Finding}
 use Rattle.avro_explain.specs.declared.found.Place.{Place}
-use Rattle.avro_answer.specs.FaultLine.{IsFaultLine, IsLineAdded}
-use Rattle.avro_answer.specs.FaultTree.{node_tree, IsFaultTree}
-use Rattle.avro_answer.specs.JsonAnswer.{found_tree, place_tree, tree_items}
+use Rattle.avro_answer.specs.FaultLine.{IsFaultLine}
+use Rattle.avro_answer.specs.FaultTree.{IsFaultTree}
+use Rattle.avro_answer.specs.JsonAnswer.{tree_items}
 use Rattle.avro_answer.specs.declared.form.Form.{Form}
 use Rattle.avro_answer.specs.declared.named_fault.NamedFault.{NamedFault}
-use Rattle.avro_answer.specs.inside.FaultsAdded.{HavePlaces, AreFaultsAdded, AreLeft, AreTold, IsBegun, IsFaultAdded, IsTreeAdded, faults_end}
+use Rattle.avro_answer.specs.inside.FaultsAdded.{HavePlaces, AreFaultsAdded, AreLeft, AreTold, IsBegun, IsFaultAdded, faults_end}
 use Rattle.avro_answer.specs.inside.NamedLine.{IsNamed, named_line, named_tree}
 
 -- what is left of a list at an index
