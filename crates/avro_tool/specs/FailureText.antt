@@ -1,9 +1,13 @@
 -- What the program says where it ends without an answer: the exit status, and the line of what is refused.
-use Rattle.std.specs.Prelude.{◌≡◌, ℕ, List}
+use Rattle.std.specs.Prelude.{◌≡◌, ◌≢◌, ℕ, List}
 use Rattle.avro_answer.specs.DataRead.{error_text}
 use Rattle.avro_schema_json.specs.Refusals.{schema_code}
 use Rattle.avro_certificate.specs.CertificateRead.{certificate_code}
 use Rattle.avro_answer.specs.RefusalText.{refusal_text}
+use Rattle.avro_display.specs.declared.put_error.PutError.{PutError}
+use Rattle.clap.specs.Values.{kind_of}
+use Rattle.clap.specs.declared.error.Error.{Error}
+use Rattle.clap.specs.declared.error.kind.ErrorKind.{ErrorKind}
 use Rattle.avro_tool.specs.ContainerText.{container_text}
 use Rattle.avro_tool.specs.declared.failure.Failure.{Failure}
 
@@ -26,3 +30,13 @@ IsRefusal (Failure.Certificate word e) line = line ≡ refusal_text word.now (ce
 IsRefusal (Failure.Container word e) line = line ≡ container_text word.now e
 IsRefusal (Failure.Data word e) line = line ≡ refusal_text word.now (error_text e)
 IsRefusal _ line = Unit {0}
+
+-- an output that fails, or no memory
+abbrev pub put_failure : PutError → Failure
+put_failure PutError.CannotWrite = Failure.CannotPrint
+put_failure PutError.OutOfMemory = Failure.OutOfMemory
+
+-- words that ask for nothing: memory ran out exactly where the parser says so
+pub record IsUsageOf (e : Error) (failure : Failure) : Type 0 where
+  pub memory : kind_of e ≡ ErrorKind.OutOfMemory → failure ≡ Failure.OutOfMemory
+  pub words : kind_of e ≢ ErrorKind.OutOfMemory → failure ≡ Failure.Usage e

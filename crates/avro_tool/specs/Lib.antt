@@ -1,3 +1,4 @@
 pub mod ContainerText
+pub mod DefaultLimits
 pub mod FailureText
 pub mod FoundStatus

@@ -240,10 +240,10 @@ impl<'a> From<AllocError> for Failure<'a> {
 }
 
 impl<'a> From<PutError> for Failure<'a> {
-    ghost use Rattle.std.specs.Prelude.{◌≡◌, ◌⊎◌};
-    ghost use Rattle.avro_tool.specs.declared.failure.Failure.TheVariants.{CannotPrint, OutOfMemory};
+    ghost use Rattle.std.specs.Prelude.{◌≡◌};
+    ghost use Rattle.avro_tool.specs.FailureText.{put_failure};
 
-    ghost from_gives = { λ _ failure. (failure ≡ OutOfMemory) ⊎ (failure ≡ CannotPrint) };
+    ghost from_gives = { λ e failure. failure ≡ put_failure e };
 
     fn from(e: PutError) -> Failure<'a> {
         match e {
@@ -254,10 +254,9 @@ impl<'a> From<PutError> for Failure<'a> {
 }
 
 impl<'a> From<clap::Error> for Failure<'a> {
-    ghost use Rattle.std.specs.Prelude.{◌≡◌, ◌⊎◌};
-    ghost use Rattle.avro_tool.specs.declared.failure.Failure.TheVariants.{OutOfMemory, Usage};
+    ghost use Rattle.avro_tool.specs.FailureText.{IsUsageOf};
 
-    ghost from_gives = { λ e failure. (failure ≡ OutOfMemory) ⊎ (failure ≡ Usage e) };
+    ghost from_gives = { λ e failure. IsUsageOf e failure };
 
     fn from(e: clap::Error) -> Failure<'a> {
         if e.kind() == ErrorKind::OutOfMemory {

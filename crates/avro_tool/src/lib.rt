@@ -1,6 +1,10 @@
 //! The program `avro`, as a function over its words, a reader and two writers. Of its own functions these are proved: the exit status of
-//! each `Failure`, each `Finding` and each report, and the line of each refusal; the schema that `show` names fields by; and that
-//! `Watched`, an input around another for `--progress`, takes, ends and counts as the other does. The rest is safe, and returns.
+//! each `Failure` and each `Finding`, and the line of each refusal; that the text and the status of `judge`, `explain`, `confirm` and
+//! `schema` are those of `avro_answer` for the schemas that were read, in their order; the counts
+//! of `check`; and that `Watched`, an input around another for `--progress`, takes, ends and counts as the other does. The rest is safe,
+//! and returns.
+//!
+//! `run` makes an `Output` of the writer for the answers, and the commands put into that. No failed call of it is retried.
 #![tactic(auto)]
 
 ghost use Rattle.std.specs.Prelude.{◌≡◌, ◌⊎◌, ◌≤◌};
@@ -18,6 +22,7 @@ mod printing;
 mod progress;
 mod request;
 
+use avro_device::{Output, WriteOutput};
 use command_line::request_of;
 use commands::{
     check, confirm, copy, explain, header, history, judge, pipe, read, schema, show, version,
@@ -149,11 +154,11 @@ fn answer<'a, R: Files + Clock + AllocGlobal, I: Read, O: Write, E: Write>(
 ) -> Result<Finding, Failure<'a>> {
     let request = request_of(rt.alloc(), words)?;
     refuse_files(rt, &request)?;
-    answer_request(rt, &request, input, out, err)
+    answer_request(rt, &request, input, &mut WriteOutput::new(out), err)
 }
 
 /// Does what is asked for.
-fn answer_request<'a, R: Files + Clock + AllocGlobal, I: Read, O: Write, E: Write>(
+fn answer_request<'a, R: Files + Clock + AllocGlobal, I: Read, O: Output, E: Write>(
     rt: &R,
     request: &Request<'a>,
     input: &mut I,

@@ -1,23 +1,39 @@
 //! Answers, each printed by one write.
 
+ghost use Rattle.std.specs.Prelude.{◌≡◌, OnOk};
+ghost use Rattle.std.specs.Result.{IfErr};
+ghost use Rattle.avro_tool.specs.declared.failure.Failure.TheVariants.{CannotPrint};
+
 use crate::failure::Failure;
-use std::io;
-use std::io::Write;
+use avro_device::{DeviceFault, Output, put_all};
 
 /// Prints an answer.
-pub(crate) fn print<'a, O: Write>(out: &mut O, answer: &str) -> Result<(), Failure<'a>> {
+pub(crate) fn print<'a, O: Output>(out: &mut O, answer: &str) -> Result<(), Failure<'a>>
+    ensures put { OnOk result (O.keeps out.old answer.now out.new) }
+    ensures flushed { OnOk result (O.flushed out.new) }
+    ensures fails { IfErr result (λ f. f ≡ CannotPrint) }
+{
     print_bytes(out, answer.as_bytes())
 }
 
 /// Prints an answer that need not be a text.
-pub(crate) fn print_bytes<'a, O: Write>(out: &mut O, answer: &[u8]) -> Result<(), Failure<'a>> {
-    match write_answer(out, answer) {
+pub(crate) fn print_bytes<'a, O: Output>(out: &mut O, answer: &[u8]) -> Result<(), Failure<'a>>
+    ensures put { OnOk result (O.keeps out.old answer.now out.new) }
+    ensures flushed { OnOk result (O.flushed out.new) }
+    ensures fails { IfErr result (λ f. f ≡ CannotPrint) }
+{
+    match put_answer(out, answer) {
         Ok(()) => Ok(()),
         Err(_) => Err(Failure::CannotPrint),
     }
 }
 
-fn write_answer<O: Write>(out: &mut O, answer: &[u8]) -> io::Result<()> {
-    out.write_all(answer)?;
-    out.flush()
+/// Puts an answer, and flushes.
+fn put_answer<O: Output>(out: &mut O, answer: &[u8]) -> Result<(), DeviceFault>
+    ensures put { OnOk result (O.keeps out.old answer.now out.new) }
+    ensures flushed { OnOk result (O.flushed out.new) }
+{
+    put_all(&mut *out, answer)?;
+    out.flush()?;
+    Ok(())
 }

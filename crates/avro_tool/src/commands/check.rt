@@ -1,17 +1,25 @@
+ghost use Rattle.std.specs.Prelude.{◌≡◌, IfOk, Err, Some};
+ghost use Rattle.avro_file.specs.FileFault.{FileFault};
+ghost use Rattle.avro_file.specs.FileSeen.{file_fault};
+ghost use Rattle.avro_file.specs.declared.error.CopyError.{CopyError};
+ghost use Rattle.avro_container.specs.Checking.{Takes, IsWhole, IsFaulty};
+ghost use Rattle.avro_tool.specs.DefaultLimits.{default_limits};
+ghost use Rattle.avro_tool.specs.declared.failure.Failure.TheVariants.{Container};
+
 use crate::failure::Failure;
 use crate::files::container::{open_container, open_watched, tell_file_counts};
 use crate::{Finding, report};
 use avro_answer::Form;
 use avro_container::{Counts, check};
-use avro_device::Input;
-use avro_file::{CopyError, FileLimits};
+use avro_device::{Input, Output};
+use avro_file::FileLimits;
 use std::alloc::Global;
 use std::io::Write;
 use std::rt::{Clock, Files};
 
 /// Reads the containers in files, and prints how many data and blocks each has. If one has a fault, it is
 /// reported and the others are still read; the status is that of the first fault.
-pub(crate) fn check_files<'a, R: Files + Clock + AllocGlobal, O: Write, E: Write>(
+pub(crate) fn check_files<'a, R: Files + Clock + AllocGlobal, O: Output, E: Write>(
     rt: &R,
     words: &[&'a str],
     form: Form,
@@ -42,10 +50,7 @@ pub(crate) fn check_files<'a, R: Files + Clock + AllocGlobal, O: Write, E: Write
 /// How many data and blocks the container in a file has, each of which is read.
 fn check_file<'a, R: Files + AllocGlobal>(rt: &R, word: &'a str) -> Result<Counts, Failure<'a>> {
     let mut input = open_container(rt, word)?;
-    match count_data(rt.alloc(), &mut input) {
-        Ok(counts) => Ok(counts),
-        Err(error) => Err(Failure::of_container(word, error)),
-    }
+    counts_of(rt.alloc(), &mut input, word)
 }
 
 /// The same, with its progress reported.
@@ -55,16 +60,13 @@ fn watch_file<'a, R: Files + Clock + AllocGlobal, E: Write>(
     err: &mut E,
 ) -> Result<Counts, Failure<'a>> {
     let mut input = open_watched(rt, word, err)?;
-    let counts = count_data(rt.alloc(), &mut input);
+    let counts = counts_of(rt.alloc(), &mut input, word);
     input.finish();
-    match counts {
-        Ok(counts) => Ok(counts),
-        Err(error) => Err(Failure::of_container(word, error)),
-    }
+    counts
 }
 
 /// Prints how many data and blocks a container has, if it has no fault.
-fn tell_file<'a, O: Write>(
+fn tell_file<'a, O: Output>(
     alloc: Global,
     word: &'a str,
     counts: Result<Counts, Failure<'a>>,
@@ -79,6 +81,18 @@ fn tell_file<'a, O: Write>(
 }
 
 /// How many data and blocks a container has, each of which is read.
-fn count_data<I: Input>(alloc: Global, input: &mut I) -> Result<Counts, CopyError> {
-    check(alloc, input, &FileLimits::default())
+fn counts_of<'a, I: Input>(
+    alloc: Global,
+    input: &mut I,
+    word: &'a str,
+) -> Result<Counts, Failure<'a>>
+    ensures whole { IfOk result (λ counts. Takes I.gives input.old input.new
+        (IsWhole default_limits (I.ended input.new) counts.items counts.blocks)) }
+    ensures refused { (e : CopyError) (f : FileFault) → result ≡ Err (Container word.exit e) → file_fault e ≡ Some f
+        → Takes I.gives input.old input.new (IsFaulty default_limits (I.ended input.new) f) }
+{
+    match check(alloc, input, &FileLimits::default()) {
+        Ok(counts) => Ok(counts),
+        Err(error) => Err(Failure::of_container(word, error)),
+    }
 }

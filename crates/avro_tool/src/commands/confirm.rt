@@ -1,17 +1,24 @@
+ghost use Rattle.std.specs.Prelude.{◌≡◌, ℕ, List, IfOk};
+ghost use Rattle.avro_schema.specs.SeenSchema.{schema_nodes};
+ghost use Rattle.avro_certificate.specs.SeenCertificate.{dead_of, pairs_in};
+ghost use Rattle.avro_answer.specs.ConfirmAnswer.{SetsAnswer, SetsStatus};
+ghost use Rattle.avro_answer.specs.declared.form.Form.{Form};
+ghost use Rattle.avro_tool.specs.FoundStatus.{finding_status};
+
 use crate::Finding;
 use crate::failure::Failure;
 use crate::files::certificate::read_certificate_file;
 use crate::files::schema::read_schema_file;
 use crate::printing::print_bytes;
 use avro_answer::{Form, confirm_schemas};
+use avro_device::Output;
 use avro_judge::Certificate;
 use avro_schema::Schema;
 use std::alloc::Global;
-use std::io::Write;
 use std::rt::Files;
 
 /// Prints whether the certificate in a file confirms the schemas of two files.
-pub(crate) fn confirm_files<'a, R: Files + AllocGlobal, O: Write>(
+pub(crate) fn confirm_files<'a, R: Files + AllocGlobal, O: Output>(
     rt: &R,
     writer: &'a str,
     reader: &'a str,
@@ -24,7 +31,7 @@ pub(crate) fn confirm_files<'a, R: Files + AllocGlobal, O: Write>(
 }
 
 /// The same for a writer's schema.
-fn confirm_written<'a, R: Files + AllocGlobal, O: Write>(
+fn confirm_written<'a, R: Files + AllocGlobal, O: Output>(
     rt: &R,
     writer: &Schema,
     reader: &'a str,
@@ -37,7 +44,7 @@ fn confirm_written<'a, R: Files + AllocGlobal, O: Write>(
 }
 
 /// The same for two schemas.
-fn confirm_pair<'a, R: Files + AllocGlobal, O: Write>(
+fn confirm_pair<'a, R: Files + AllocGlobal, O: Output>(
     rt: &R,
     writer: &Schema,
     reader: &Schema,
@@ -50,14 +57,19 @@ fn confirm_pair<'a, R: Files + AllocGlobal, O: Write>(
 }
 
 /// Prints whether a certificate confirms two schemas.
-fn tell_confirmed<'a, O: Write>(
+fn tell_confirmed<'a, O: Output>(
     alloc: Global,
     writer: &Schema,
     reader: &Schema,
     certificate: &Certificate,
     form: Form,
     out: &mut O,
-) -> Result<Finding, Failure<'a>> {
+) -> Result<Finding, Failure<'a>>
+    ensures answered { IfOk result (λ f. form ≡ Form.Text → (text : List ℕ)
+        × SetsAnswer (schema_nodes writer.now) (schema_nodes reader.now) (dead_of certificate.now) (pairs_in certificate.now) text (finding_status f)
+        × O.keeps out.old text out.new) }
+    ensures status { IfOk result (λ f. SetsStatus (schema_nodes writer.now) (schema_nodes reader.now) (dead_of certificate.now) (pairs_in certificate.now) (finding_status f)) }
+{
     let answer = confirm_schemas(alloc, writer, reader, certificate, form)?;
     print_bytes(out, &answer.text)?;
     Ok(Finding::of_verdict(answer.status))

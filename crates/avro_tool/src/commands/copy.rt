@@ -5,7 +5,7 @@ use crate::files::late::LateFile;
 use crate::files::schema::read_reader;
 use crate::request::Copying;
 use avro_container::{Counts, copy};
-use avro_device::{Input, WriteOutput};
+use avro_device::{Input, Output, WriteOutput};
 use avro_file::{CopyError, FileLimits};
 use avro_schema_json::ReaderText;
 use std::alloc::Global;
@@ -14,7 +14,7 @@ use std::rt::{Clock, Files};
 
 /// Copies the container in a file into another one, and prints how many data and blocks it has. The other
 /// file is created, or truncated, once the header was read.
-pub(crate) fn copy_file<'a, R: Files + Clock + AllocGlobal, O: Write, E: Write>(
+pub(crate) fn copy_file<'a, R: Files + Clock + AllocGlobal, O: Output, E: Write>(
     rt: &R,
     asked: &Copying<'a>,
     out: &mut O,
@@ -60,22 +60,17 @@ fn copy_from<'a, R: Files + AllocGlobal, I: Input>(
     reader: Option<&ReaderText>,
 ) -> Result<Counts, Failure<'a>> {
     let mut file = LateFile::new(rt, asked.output);
-    match copy_into(rt.alloc(), source, &mut file, reader, asked.sync) {
+    let copied = copy(
+        rt.alloc(),
+        source,
+        &mut WriteOutput::new(&mut file),
+        reader,
+        asked.sync,
+        &FileLimits::default(),
+    );
+    match copied {
         Ok(counts) => Ok(counts),
         Err(CopyError::OutputFailed) => Err(file.failure()),
         Err(error) => Err(Failure::of_container(asked.source, error)),
     }
-}
-
-/// Copies a container into a writer.
-pub(crate) fn copy_into<I: Input, O: Write>(
-    alloc: Global,
-    source: &mut I,
-    out: &mut O,
-    reader: Option<&ReaderText>,
-    sync: Option<[u8; 16]>,
-) -> Result<Counts, CopyError> {
-    let limits = FileLimits::default();
-    let mut output = WriteOutput::new(out);
-    copy(alloc, source, &mut output, reader, sync, &limits)
 }

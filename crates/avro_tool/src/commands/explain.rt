@@ -1,20 +1,25 @@
 //! All faults of two schemas, by name.
 
+ghost use Rattle.std.specs.Prelude.{◌≡◌, ℕ, List, IfOk};
+ghost use Rattle.avro_schema.specs.SeenSchema.{schema_nodes};
+ghost use Rattle.avro_answer.specs.ExplainAnswer.{FaultsAnswer, FaultsStatus};
+ghost use Rattle.avro_answer.specs.declared.form.Form.{Form};
+ghost use Rattle.avro_tool.specs.FoundStatus.{finding_status};
+
 use crate::Finding;
 use crate::failure::Failure;
 use crate::files::schema::read_schema_file;
 use crate::printing::print;
 use crate::request::Explaining;
-use avro_answer::{Form, no_fault, over_pairs, put_faults};
-use avro_device::WriteOutput;
-use avro_explain::{ExplainError, Explanation, explain};
+use avro_answer::{no_fault, over_pairs, put_faults};
+use avro_device::Output;
+use avro_explain::{ExplainError, explain};
 use avro_schema::Schema;
 use std::alloc::Global;
-use std::io::Write;
 use std::rt::Files;
 
 /// Finds all faults of the schemas of two files, and prints them.
-pub(crate) fn explain_files<'a, R: Files + AllocGlobal, O: Write>(
+pub(crate) fn explain_files<'a, R: Files + AllocGlobal, O: Output>(
     rt: &R,
     asked: &Explaining<'a>,
     out: &mut O,
@@ -24,7 +29,7 @@ pub(crate) fn explain_files<'a, R: Files + AllocGlobal, O: Write>(
 }
 
 /// The same for a writer's schema.
-fn explain_written<'a, R: Files + AllocGlobal, O: Write>(
+fn explain_written<'a, R: Files + AllocGlobal, O: Output>(
     rt: &R,
     asked: &Explaining<'a>,
     writer: &Schema,
@@ -35,53 +40,30 @@ fn explain_written<'a, R: Files + AllocGlobal, O: Write>(
 }
 
 /// Finds all faults of two schemas, and prints them.
-fn explain_pair<'a, O: Write>(
+fn explain_pair<'a, O: Output>(
     alloc: Global,
     asked: &Explaining<'a>,
     writer: &Schema,
     reader: &Schema,
     out: &mut O,
-) -> Result<Finding, Failure<'a>> {
+) -> Result<Finding, Failure<'a>>
+    ensures answered { IfOk result (λ f. asked.now.form ≡ Form.Text → (text : List ℕ)
+        × FaultsAnswer (schema_nodes writer.now) (schema_nodes reader.now) asked.now.max_pairs text (finding_status f) × O.keeps out.old text out.new) }
+    ensures status { IfOk result (λ f. FaultsStatus (schema_nodes writer.now) (schema_nodes reader.now) asked.now.max_pairs (finding_status f)) }
+{
     match explain(alloc, writer, reader, asked.max_pairs as usize) {
-        Ok(found) => tell_faults(alloc, writer, reader, &found, asked.form, out),
-        Err(ExplainError::TooManyPairs) => tell_over_pairs(asked.form, out),
+        Ok(found) if found.faults.is_empty() => {
+            print(out, no_fault(asked.form))?;
+            Ok(Finding::Yes)
+        }
+        Ok(found) => {
+            put_faults(out, alloc, writer, reader, &found, asked.form)?;
+            Ok(Finding::No)
+        }
+        Err(ExplainError::TooManyPairs) => {
+            print(out, over_pairs(asked.form))?;
+            Ok(Finding::Undecided)
+        }
         Err(ExplainError::OutOfMemory) => Err(Failure::OutOfMemory),
     }
-}
-
-/// Prints that there are more pairs than the limit.
-fn tell_over_pairs<'a, O: Write>(form: Form, out: &mut O) -> Result<Finding, Failure<'a>> {
-    print(out, over_pairs(form))?;
-    Ok(Finding::Undecided)
-}
-
-/// Prints a yes, or a no and all faults.
-fn tell_faults<'a, O: Write>(
-    alloc: Global,
-    writer: &Schema,
-    reader: &Schema,
-    found: &Explanation,
-    form: Form,
-    out: &mut O,
-) -> Result<Finding, Failure<'a>> {
-    if found.faults.is_empty() {
-        print(out, no_fault(form))?;
-        return Ok(Finding::Yes);
-    }
-    print_faults(alloc, writer, reader, found, form, out)?;
-    Ok(Finding::No)
-}
-
-/// Prints a no and all faults.
-fn print_faults<'a, O: Write>(
-    alloc: Global,
-    writer: &Schema,
-    reader: &Schema,
-    found: &Explanation,
-    form: Form,
-    out: &mut O,
-) -> Result<(), Failure<'a>> {
-    let mut output = WriteOutput::new(out);
-    put_faults(&mut output, alloc, writer, reader, found, form)?;
-    Ok(())
 }

@@ -4,16 +4,15 @@ use crate::Finding;
 use crate::failure::Failure;
 use crate::files::container::open_container;
 use crate::printing::print_bytes;
-use avro_device::Input;
+use avro_device::{Input, Output};
 use avro_file::{CopyError, FileLimits, read_metadata, schema_text};
 use serde_json::{Map, Value};
 use std::alloc::{AllocError, Global};
-use std::io::Write;
 use std::rt::Files;
 
 /// Prints the text of the schema of the container in a file, or all of its metadata. Its codec may be any,
 /// and the text need not declare a schema.
-pub(crate) fn show_header<'a, R: Files + AllocGlobal, O: Write>(
+pub(crate) fn show_header<'a, R: Files + AllocGlobal, O: Output>(
     rt: &R,
     word: &'a str,
     is_metadata: bool,

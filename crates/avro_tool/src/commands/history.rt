@@ -5,11 +5,11 @@ use crate::files::schema::read_schema_file;
 use crate::printing::print_bytes;
 use crate::request::{Evidence, History, Mode};
 use avro_answer::{Form, Judged, answer_confirmed, judge_json_line, judge_line};
+use avro_device::Output;
 use avro_history::{HistoryCert, confirm_history};
 use avro_judge::{Certificate, Verdict};
 use avro_schema::{Memory, Schema};
 use std::alloc::{AllocError, Global};
-use std::io::Write;
 use std::rt::Files;
 
 /// What a line of a history is about: the file of an earlier schema, and the mode if there are two.
@@ -33,7 +33,7 @@ impl Line<'_> {
 
 /// Prints whether the schemas of several files read each other's data as the mode asks: by judging them, or by
 /// the certificates of a file.
-pub(crate) fn history_of_files<'a, R: Files + AllocGlobal, O: Write>(
+pub(crate) fn history_of_files<'a, R: Files + AllocGlobal, O: Output>(
     rt: &R,
     history: &History<'a>,
     out: &mut O,
@@ -43,7 +43,7 @@ pub(crate) fn history_of_files<'a, R: Files + AllocGlobal, O: Write>(
 }
 
 /// The answer for the earlier schemas; the last one is read first.
-fn history_of_earlier<'a, R: Files + AllocGlobal, O: Write>(
+fn history_of_earlier<'a, R: Files + AllocGlobal, O: Output>(
     rt: &R,
     history: &History<'a>,
     earlier: &[Schema],
@@ -54,7 +54,7 @@ fn history_of_earlier<'a, R: Files + AllocGlobal, O: Write>(
 }
 
 /// The answer for the earlier schemas and the last one.
-fn history_of_schemas<'a, R: Files + AllocGlobal, O: Write>(
+fn history_of_schemas<'a, R: Files + AllocGlobal, O: Output>(
     rt: &R,
     history: &History<'a>,
     earlier: &[Schema],
@@ -69,7 +69,7 @@ fn history_of_schemas<'a, R: Files + AllocGlobal, O: Write>(
 }
 
 /// Prints whether the certificates of a file confirm schemas with the last one.
-fn confirm_given<'a, R: Files + AllocGlobal, O: Write>(
+fn confirm_given<'a, R: Files + AllocGlobal, O: Output>(
     rt: &R,
     word: &'a str,
     form: Form,
@@ -93,7 +93,7 @@ fn are_confirmed(
 }
 
 /// Prints whether certificates confirm schemas.
-fn tell_confirmed<'a, O: Write>(
+fn tell_confirmed<'a, O: Output>(
     alloc: Global,
     is_confirmed: bool,
     form: Form,
@@ -105,7 +105,7 @@ fn tell_confirmed<'a, O: Write>(
 }
 
 /// Judges each earlier schema with the last one, and writes the certificates into a file where all are approved.
-fn certify_into<'a, R: Files + AllocGlobal, O: Write>(
+fn certify_into<'a, R: Files + AllocGlobal, O: Output>(
     rt: &R,
     word: &'a str,
     history: &History<'a>,
@@ -138,7 +138,7 @@ fn read_schema_files<'a, R: Files + AllocGlobal>(
 
 /// Judges each earlier schema with the last one, or with the next one alone, and prints its lines, in order.
 /// The answer has what was found of all.
-fn judge_each<'a, O: Write>(
+fn judge_each<'a, O: Output>(
     alloc: Global,
     history: &History<'a>,
     schemas: &[Schema],
@@ -160,7 +160,7 @@ fn judge_each<'a, O: Write>(
 }
 
 /// Judges two schemas as the mode asks, and prints the lines of it.
-fn judge_modes<'a, O: Write>(
+fn judge_modes<'a, O: Output>(
     alloc: Global,
     history: &History<'a>,
     file: &str,
@@ -189,7 +189,7 @@ fn judge_modes<'a, O: Write>(
 }
 
 /// Judges a writer's schema and a reader's, and prints a line of it.
-fn judge_one<'a, O: Write>(
+fn judge_one<'a, O: Output>(
     alloc: Global,
     history: &History<'a>,
     line: Line<'_>,
@@ -218,7 +218,7 @@ fn judge_as<'s>(
 
 /// Judges each writer's schema once, and prints a line for each, in order. The answer has what was found
 /// of all; the certificates of the approvals are kept.
-fn certify_each<'a, O: Write>(
+fn certify_each<'a, O: Output>(
     alloc: Global,
     history: &History<'a>,
     writers: &[Schema],
@@ -236,7 +236,7 @@ fn certify_each<'a, O: Write>(
 }
 
 /// Judges a writer's schema and a reader's, prints a line of it, and keeps the certificate of an approval.
-fn certify_one<'a, O: Write>(
+fn certify_one<'a, O: Output>(
     alloc: Global,
     history: &History<'a>,
     line: Line<'_>,
@@ -252,7 +252,7 @@ fn certify_one<'a, O: Write>(
 }
 
 /// Prints the line of a verdict.
-fn tell_judged<'a, O: Write>(judged: &Judged<'_>, out: &mut O) -> Result<Finding, Failure<'a>> {
+fn tell_judged<'a, O: Output>(judged: &Judged<'_>, out: &mut O) -> Result<Finding, Failure<'a>> {
     print_bytes(out, &judged.answer.text)?;
     Ok(Finding::of_verdict(judged.answer.status))
 }

@@ -1,20 +1,26 @@
+ghost use Rattle.std.specs.Prelude.{◌≡◌, ℕ, List, IfOk};
+ghost use Rattle.avro_schema.specs.SeenSchema.{schema_nodes};
+ghost use Rattle.avro_answer.specs.JudgeAnswer.{SchemasAnswer, StatusAnswer};
+ghost use Rattle.avro_answer.specs.declared.form.Form.{Form};
+ghost use Rattle.avro_tool.specs.FoundStatus.{finding_status};
+
 use crate::Finding;
 use crate::failure::Failure;
 use crate::files::certificate::write_certificate_file;
 use crate::files::refutation::write_refutation_file;
 use crate::files::schema::{read_schema_file, read_text_file};
 use crate::request::Judging;
-use avro_answer::judge_schemas;
-use avro_device::WriteOutput;
-use avro_judge::Verdict;
+use avro_answer::{Form, judge_schemas};
+use avro_device::Output;
+use avro_judge::{JudgeLimits, Verdict};
 use avro_schema::Schema;
 use avro_schema_json::ReaderText;
-use std::io::Write;
+use std::alloc::Global;
 use std::rt::Files;
 
 /// Judges the schemas of two files, and prints the verdict. After a yes the certificate is written
 /// where a file is named for it, and after a no the refutation.
-pub(crate) fn judge_files<'a, R: Files + AllocGlobal, O: Write>(
+pub(crate) fn judge_files<'a, R: Files + AllocGlobal, O: Output>(
     rt: &R,
     asked: &Judging<'a>,
     out: &mut O,
@@ -24,7 +30,7 @@ pub(crate) fn judge_files<'a, R: Files + AllocGlobal, O: Write>(
 }
 
 /// Judges a writer's schema and the reader's, which is read first.
-fn judge_written<'a, R: Files + AllocGlobal, O: Write>(
+fn judge_written<'a, R: Files + AllocGlobal, O: Output>(
     rt: &R,
     asked: &Judging<'a>,
     writer: &ReaderText,
@@ -35,24 +41,44 @@ fn judge_written<'a, R: Files + AllocGlobal, O: Write>(
 }
 
 /// Judges two schemas, prints the verdict, and writes its evidence where a file is named for it.
-fn judge_pair<'a, R: Files + AllocGlobal, O: Write>(
+fn judge_pair<'a, R: Files + AllocGlobal, O: Output>(
     rt: &R,
     asked: &Judging<'a>,
     writer: &ReaderText,
     reader: &Schema,
     out: &mut O,
-) -> Result<Finding, Failure<'a>> {
-    let mut output = WriteOutput::new(out);
-    let (verdict, status) = judge_schemas(
-        &mut output,
+) -> Result<Finding, Failure<'a>>
+    ensures answered { IfOk result (λ f. asked.now.form ≡ Form.Text → (text : List ℕ)
+        × SchemasAnswer (schema_nodes writer.now.1) (schema_nodes reader.now) asked.now.limits text (finding_status f) × O.keeps out.old text out.new) }
+    ensures status { IfOk result (λ f. StatusAnswer (schema_nodes writer.now.1) (schema_nodes reader.now) asked.now.limits (finding_status f)) }
+{
+    let (verdict, finding) = tell_verdict(
         rt.alloc(),
         writer.schema(),
         reader,
         &asked.limits,
         asked.form,
+        out,
     )?;
     write_evidence(rt, asked, writer, &verdict)?;
-    Ok(Finding::of_verdict(status))
+    Ok(finding)
+}
+
+/// Judges two schemas, and prints the verdict.
+fn tell_verdict<'a, 's, O: Output>(
+    alloc: Global,
+    writer: &'s Schema,
+    reader: &'s Schema,
+    limits: &JudgeLimits,
+    form: Form,
+    out: &mut O,
+) -> Result<(Verdict<'s>, Finding), Failure<'a>>
+    ensures answered { IfOk result (λ v. form ≡ Form.Text → (text : List ℕ)
+        × SchemasAnswer (schema_nodes writer.now) (schema_nodes reader.now) limits.now text (finding_status v.1) × O.keeps out.old text out.new) }
+    ensures status { IfOk result (λ v. StatusAnswer (schema_nodes writer.now) (schema_nodes reader.now) limits.now (finding_status v.1)) }
+{
+    let (verdict, status) = judge_schemas(out, alloc, writer, reader, limits, form)?;
+    Ok((verdict, Finding::of_verdict(status)))
 }
 
 /// Writes the certificate of a yes, or the datum of a no, where a file is named for it.

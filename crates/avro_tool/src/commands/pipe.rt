@@ -1,16 +1,15 @@
 //! A container from one stream to another.
 
 use crate::Finding;
-use crate::commands::copy::copy_into;
 use crate::failure::Failure;
 use crate::files::container::{ROOM, length_of, print_counts};
 use crate::files::kept::STANDARD_INPUT;
 use crate::files::schema::read_reader;
 use crate::progress::Watched;
 use crate::request::Piping;
-use avro_container::Counts;
-use avro_device::{Input, ReadInput};
-use avro_file::CopyError;
+use avro_container::{Counts, copy};
+use avro_device::{Input, Output, ReadInput, WriteOutput};
+use avro_file::{CopyError, FileLimits};
 use avro_schema_json::ReaderText;
 use std::alloc::Global;
 use std::io::{BufReader, Read, Write};
@@ -21,7 +20,7 @@ const INPUT: &str = "-";
 
 /// Copies a container from a reader to a writer, and, if asked for, reports how many data and blocks a whole copy
 /// has.
-pub(crate) fn pipe_streams<'a, R: Files + Clock + AllocGlobal, I: Read, O: Write, E: Write>(
+pub(crate) fn pipe_streams<'a, R: Files + Clock + AllocGlobal, I: Read, O: Output, E: Write>(
     rt: &R,
     asked: &Piping<'a>,
     input: &mut I,
@@ -36,14 +35,14 @@ pub(crate) fn pipe_streams<'a, R: Files + Clock + AllocGlobal, I: Read, O: Write
     };
     if asked.is_counted {
         // If standard error fails, the copy is still whole.
-        let _ = print_counts(err, counts);
+        let _ = print_counts(&mut WriteOutput::new(err), counts);
     }
     Ok(Finding::Good)
 }
 
 /// Copies a container from a reader to a writer for a reader's schema, where there is one, and returns how many data and
 /// blocks it has.
-fn pipe_for<'a, I: Read, O: Write>(
+fn pipe_for<'a, I: Read, O: Output>(
     alloc: Global,
     reader: Option<&ReaderText>,
     sync: Option<[u8; 16]>,
@@ -57,7 +56,7 @@ fn pipe_for<'a, I: Read, O: Write>(
 }
 
 /// The same, with its progress reported.
-fn pipe_watched<'a, R: Files + Clock + AllocGlobal, I: Read, O: Write, E: Write>(
+fn pipe_watched<'a, R: Files + Clock + AllocGlobal, I: Read, O: Output, E: Write>(
     rt: &R,
     reader: Option<&ReaderText>,
     sync: Option<[u8; 16]>,
@@ -72,7 +71,7 @@ fn pipe_watched<'a, R: Files + Clock + AllocGlobal, I: Read, O: Write, E: Write>
 }
 
 /// The same for an input, and reports its progress.
-fn pipe_told<'a, R: Files + Clock + AllocGlobal, I: Input + Drop, O: Write, E: Write>(
+fn pipe_told<'a, R: Files + Clock + AllocGlobal, I: Input + Drop, O: Output, E: Write>(
     rt: &R,
     input: I,
     reader: Option<&ReaderText>,
@@ -88,14 +87,14 @@ fn pipe_told<'a, R: Files + Clock + AllocGlobal, I: Input + Drop, O: Write, E: W
 }
 
 /// The same for what is read.
-fn pipe_from<'a, I: Input, O: Write>(
+fn pipe_from<'a, I: Input, O: Output>(
     alloc: Global,
     input: &mut I,
     reader: Option<&ReaderText>,
     sync: Option<[u8; 16]>,
     out: &mut O,
 ) -> Result<Counts, Failure<'a>> {
-    match copy_into(alloc, input, out, reader, sync) {
+    match copy(alloc, input, out, reader, sync, &FileLimits::default()) {
         Ok(counts) => Ok(counts),
         Err(CopyError::OutputFailed) => Err(Failure::CannotPrint),
         Err(error) => Err(Failure::of_container(INPUT, error)),

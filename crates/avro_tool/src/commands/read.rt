@@ -8,12 +8,13 @@ use crate::printing::print_bytes;
 use crate::request::Reading;
 use avro_answer::read_schemas;
 use avro_binary::{Nothing, ReadError, read_own};
+use avro_device::Output;
 use avro_resolve::ReadResolveError;
 use avro_schema::{Limits, Memory, Schema};
 use avro_schema_json::ReaderText;
 use std::alloc::Global;
 use std::io;
-use std::io::{BufRead, Write};
+use std::io::BufRead;
 use std::rt::Files;
 
 /// The most bytes that one datum may take, as in a block of a container.
@@ -24,7 +25,7 @@ const FREE: usize = 1_048_576;
 
 /// Prints the first datum of the data in a file, after the bytes that are skipped, and its length in bytes; what follows
 /// it is ignored.
-pub(crate) fn read_file<'a, R: Files + AllocGlobal, O: Write>(
+pub(crate) fn read_file<'a, R: Files + AllocGlobal, O: Output>(
     rt: &R,
     asked: &Reading<'a>,
     out: &mut O,
@@ -34,7 +35,7 @@ pub(crate) fn read_file<'a, R: Files + AllocGlobal, O: Write>(
 }
 
 /// Reads the data of a writer's schema, for the reader's, which is read first.
-fn read_written<'a, R: Files + AllocGlobal, O: Write>(
+fn read_written<'a, R: Files + AllocGlobal, O: Output>(
     rt: &R,
     asked: &Reading<'a>,
     writer: &Schema,
@@ -45,7 +46,7 @@ fn read_written<'a, R: Files + AllocGlobal, O: Write>(
 }
 
 /// Reads the data of a writer's schema for a reader's, where there is one.
-fn read_for<'a, R: Files + AllocGlobal, O: Write>(
+fn read_for<'a, R: Files + AllocGlobal, O: Output>(
     rt: &R,
     asked: &Reading<'a>,
     writer: &Schema,

@@ -1,8 +1,14 @@
+ghost use Rattle.std.specs.Prelude.{◌≡◌, ℕ, List, IfOk, OnOk};
+ghost use Rattle.avro_schema.specs.SeenSchema.{schema_nodes};
+ghost use Rattle.avro_answer.specs.SchemaAnswer.{NodesAnswer};
+ghost use Rattle.avro_tool.specs.FoundStatus.{finding_status};
+
 use crate::Finding;
 use crate::failure::Failure;
 use crate::files::schema::{MAX_TEXT, bytes_of};
 use crate::printing::print_bytes;
 use avro_answer::{Shown, schema_refusal};
+use avro_device::Output;
 use avro_schema::Schema;
 use avro_schema_json::{SchemaError, read_schema};
 use avro_why::{Reason, Reasons, find_reasons};
@@ -15,7 +21,7 @@ const MAX_REASONS: usize = 100;
 
 /// Reads the schema of a file, and prints its number of nodes, its canonical form or its fingerprint. If it is refused,
 /// and the words ask for that, the places of its faults are reported.
-pub(crate) fn show_schema<'a, R: Files + AllocGlobal, O: Write, E: Write>(
+pub(crate) fn show_schema<'a, R: Files + AllocGlobal, O: Output, E: Write>(
     rt: &R,
     file: &'a str,
     shown: Shown,
@@ -34,12 +40,15 @@ pub(crate) fn show_schema<'a, R: Files + AllocGlobal, O: Write, E: Write>(
 }
 
 /// Prints what is shown of a schema.
-fn tell_schema<'a, O: Write>(
+fn tell_schema<'a, O: Output>(
     alloc: Global,
     schema: &Schema,
     shown: Shown,
     out: &mut O,
-) -> Result<Finding, Failure<'a>> {
+) -> Result<Finding, Failure<'a>>
+    ensures answered { OnOk result ((text : List ℕ) × NodesAnswer shown (schema_nodes schema.now) text × O.keeps out.old text out.new) }
+    ensures good { IfOk result (λ f. finding_status f ≡ 0) }
+{
     let line = avro_answer::show_schema(alloc, schema, shown)?;
     print_bytes(out, &line)?;
     Ok(Finding::Good)

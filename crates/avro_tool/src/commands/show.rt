@@ -5,7 +5,7 @@ use crate::failure::Failure;
 use crate::files::container::{ROOM, open_container};
 use crate::files::schema::read_reader;
 use avro_binary::{Nothing, decode};
-use avro_device::{Input, Output, WriteOutput, put_all};
+use avro_device::{Input, Output, put_all};
 use avro_display::{DisplayTable, PutError, Text, put_line};
 use avro_file::{Block, Blocks, CopyError, FileLimits, Header};
 use avro_resolve::Plan;
@@ -13,7 +13,6 @@ use avro_schema::{Datum, Memory, Schema};
 use avro_schema_json::ReaderText;
 use avro_show::{Resolved, Room, append_line, put_resolved_line};
 use std::alloc::Global;
-use std::io::Write;
 use std::rt::Files;
 
 /// The most text that is buffered.
@@ -36,12 +35,12 @@ struct Lines<'a, O> {
     table: DisplayTable<'a>,
     room: Room,
     text: Text,
-    out: WriteOutput<&'a mut O>,
+    out: &'a mut O,
 }
 
 /// Prints a line for each datum of the container in a file, resolved to a reader's schema if a file is
 /// named for it, and no more lines than the limit, if there is one.
-pub(crate) fn show_file<'a, R: Files + AllocGlobal, O: Write>(
+pub(crate) fn show_file<'a, R: Files + AllocGlobal, O: Output>(
     rt: &R,
     word: &'a str,
     reader: Option<&'a str>,
@@ -54,7 +53,7 @@ pub(crate) fn show_file<'a, R: Files + AllocGlobal, O: Write>(
 }
 
 /// Prints the data of the container in a file for a reader's schema, where there is one.
-fn show_for<'a, R: Files + AllocGlobal, O: Write>(
+fn show_for<'a, R: Files + AllocGlobal, O: Output>(
     rt: &R,
     word: &'a str,
     reader: Option<&ReaderText>,
@@ -66,7 +65,7 @@ fn show_for<'a, R: Files + AllocGlobal, O: Write>(
 }
 
 /// Prints the data of a container.
-fn show_data<'a, I: Input, O: Write>(
+fn show_data<'a, I: Input, O: Output>(
     alloc: Global,
     input: &mut I,
     word: &'a str,
@@ -82,7 +81,7 @@ fn show_data<'a, I: Input, O: Write>(
 }
 
 /// Prints the data after a header.
-fn show_after<'a, I: Input, O: Write>(
+fn show_after<'a, I: Input, O: Output>(
     alloc: Global,
     input: &mut I,
     word: &'a str,
@@ -96,7 +95,7 @@ fn show_after<'a, I: Input, O: Write>(
 }
 
 /// Prints the data after a header, which are read by a plan where there is one.
-fn show_planned<'a, I: Input, O: Write>(
+fn show_planned<'a, I: Input, O: Output>(
     alloc: Global,
     input: &mut I,
     word: &'a str,
@@ -110,14 +109,14 @@ fn show_planned<'a, I: Input, O: Write>(
         table,
         room: Room::new(alloc),
         text: Text::new(alloc),
-        out: WriteOutput::new(out),
+        out,
     };
     let shown = show_blocks(alloc, input, word, header, plan, limit, &mut lines);
     finished(&mut lines, shown)
 }
 
 /// What was shown, if all of it was put.
-fn finished<'a, O: Write>(
+fn finished<'a, O: Output>(
     lines: &mut Lines<'_, O>,
     shown: Result<Finding, Failure<'a>>,
 ) -> Result<Finding, Failure<'a>> {
@@ -126,8 +125,8 @@ fn finished<'a, O: Write>(
 }
 
 /// Puts the buffered text. No part of it is put again if the output fails.
-fn put_held<O: Write>(lines: &mut Lines<'_, O>) -> Result<(), PutError> {
-    let put = put_all(&mut lines.out, lines.text.as_slice());
+fn put_held<O: Output>(lines: &mut Lines<'_, O>) -> Result<(), PutError> {
+    let put = put_all(&mut *lines.out, lines.text.as_slice());
     lines.text.clear();
     put?;
     lines.out.flush()?;
@@ -135,7 +134,7 @@ fn put_held<O: Write>(lines: &mut Lines<'_, O>) -> Result<(), PutError> {
 }
 
 /// Prints the data of the blocks after a header, up to a number of lines. What follows is not read.
-fn show_blocks<'a, I: Input, O: Write>(
+fn show_blocks<'a, I: Input, O: Output>(
     alloc: Global,
     input: &mut I,
     word: &'a str,
@@ -177,7 +176,7 @@ fn plan_for<'a>(
 }
 
 /// Prints the first data of a block, up to a number. Nothing is printed of a block with a fault.
-fn show_block<'a, O: Write>(
+fn show_block<'a, O: Output>(
     alloc: Global,
     block: &Block<'_>,
     word: &'a str,
@@ -242,7 +241,7 @@ fn read_all(block: &Block<'_>, plan: &Option<Plan<'_>>) -> Result<(), CopyError>
 
 /// Prints the datum at the front of bytes of a block, and returns its length. Lines are buffered until the block is known to
 /// be valid: it was read to its end, or walked over since they are long.
-fn show_datum<'a, O: Write>(
+fn show_datum<'a, O: Output>(
     alloc: Global,
     shown: &mut Shown<'_, 'a>,
     plan: &Option<Plan<'_>>,
@@ -278,7 +277,7 @@ fn hold_line<O>(alloc: Global, bytes: &[u8], lines: &mut Lines<'_, O>) -> Option
 }
 
 /// Prints the datum at the front of bytes that were walked over, and returns its length.
-fn show_read<'a, O: Write>(
+fn show_read<'a, O: Output>(
     alloc: Global,
     schema: &Schema,
     plan: &Option<Plan<'_>>,
@@ -297,7 +296,7 @@ fn show_read<'a, O: Write>(
 }
 
 /// Puts the line of a datum, or buffers it. After an error the buffered text goes on where what was put ends.
-fn show_line<'a, O: Write>(
+fn show_line<'a, O: Output>(
     lines: &mut Lines<'_, O>,
     plan: &Option<Plan<'_>>,
     datum: &Datum,
@@ -317,7 +316,7 @@ fn show_line<'a, O: Write>(
 }
 
 /// Puts the line of a datum, or of what it is for the reader if there is one.
-fn put_line_by<O: Write>(
+fn put_line_by<O: Output>(
     lines: &mut Lines<'_, O>,
     plan: &Option<Plan<'_>>,
     datum: &Datum,
@@ -326,14 +325,14 @@ fn put_line_by<O: Write>(
         Some(plan) => {
             let plan = plan.by_ref();
             let resolved = Resolved::new(&plan, &lines.table);
-            put_resolved_line(&mut lines.out, &mut lines.text, &resolved, datum)
+            put_resolved_line(&mut *lines.out, &mut lines.text, &resolved, datum)
         }
-        None => put_line(&mut lines.out, &mut lines.text, &lines.table, datum),
+        None => put_line(&mut *lines.out, &mut lines.text, &lines.table, datum),
     }
 }
 
 /// Puts the buffered text if it is long.
-fn put_long<'a, O: Write>(lines: &mut Lines<'_, O>) -> Result<(), Failure<'a>> {
+fn put_long<'a, O: Output>(lines: &mut Lines<'_, O>) -> Result<(), Failure<'a>> {
     if ROOM <= lines.text.len() {
         put_held(lines)?;
     }

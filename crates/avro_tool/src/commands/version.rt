@@ -3,14 +3,14 @@
 use crate::Finding;
 use crate::failure::Failure;
 use crate::printing::print;
+use avro_device::Output;
 use std::alloc::Global;
-use std::io::Write;
 
 /// The version.
 pub(crate) const VERSION: &str = "1.0.0";
 
 /// Prints the version.
-pub(crate) fn tell_version<'a, O: Write>(
+pub(crate) fn tell_version<'a, O: Output>(
     alloc: Global,
     out: &mut O,
 ) -> Result<Finding, Failure<'a>> {

@@ -1,14 +1,14 @@
 use crate::Finding;
 use crate::failure::Failure;
-use crate::printing::print;
+use crate::printing::{print, print_bytes};
 use crate::progress::Watched;
 use avro_answer::{Form, counts_line};
 use avro_container::Counts;
-use avro_device::ReadInput;
+use avro_device::{Output, ReadInput};
 use std::alloc::Global;
+use std::fs;
 use std::io::{BufReader, Cursor, Write};
 use std::rt::{Clock, Files};
-use std::{fs, io};
 
 /// How many bytes are read or written at once.
 pub(crate) const ROOM: usize = 65_536;
@@ -57,19 +57,17 @@ pub(crate) fn length_of<R: Files>(rt: &R, word: &str) -> Option<u64> {
 }
 
 /// Prints how many data and blocks a container has.
-pub(crate) fn tell_counts<'a, O: Write>(
+pub(crate) fn tell_counts<'a, O: Output>(
     out: &mut O,
     counts: Counts,
 ) -> Result<Finding, Failure<'a>> {
-    match print_counts(out, counts) {
-        Ok(()) => Ok(Finding::Good),
-        Err(_) => Err(Failure::CannotPrint),
-    }
+    print_counts(out, counts)?;
+    Ok(Finding::Good)
 }
 
 /// Prints how many data and blocks the container in a file has, with the file's name if there are several
 /// files, or if the line is one of JSON.
-pub(crate) fn tell_file_counts<'a, O: Write>(
+pub(crate) fn tell_file_counts<'a, O: Output>(
     alloc: Global,
     out: &mut O,
     word: &str,
@@ -90,11 +88,12 @@ pub(crate) fn tell_file_counts<'a, O: Write>(
 }
 
 /// Prints the line of two counts by one write.
-pub(crate) fn print_counts<O: Write>(out: &mut O, counts: Counts) -> io::Result<()> {
+pub(crate) fn print_counts<'a, O: Output>(out: &mut O, counts: Counts) -> Result<(), Failure<'a>> {
     let Counts { items, blocks } = counts;
     let mut line = Cursor::new([0; ROOM_OF_COUNTS]);
-    writeln!(line, "data {items} blocks {blocks}")?;
+    if writeln!(line, "data {items} blocks {blocks}").is_err() {
+        return Err(Failure::CannotPrint);
+    }
     let len = (line.position() as usize).min(ROOM_OF_COUNTS);
-    out.write_all(&line.get_ref()[..len])?;
-    out.flush()
+    print_bytes(out, &line.get_ref()[..len])
 }

@@ -1,0 +1,34 @@
+-- The finding of a verdict has its status.
+use Rattle.std.proofs.Common.{◌≡◌, ℕ, ◌≤◌, ◌⊎◌, inl, inr, Bool, true, false, List, refl, sym, subst, arith}
+use Rattle.avro_schema.specs.Node.{Node}
+use Rattle.avro_compare.specs.Children.{Pair}
+use Rattle.avro_certificate.specs.Closed.{is_closed}
+use Rattle.avro_judge.specs.JudgeRanges.{JudgeLimitValues}
+use Rattle.avro_answer.specs.ConfirmAnswer.{SetsAnswer, SetsStatus}
+use Rattle.avro_answer.specs.JudgeAnswer.{SchemasAnswer, StatusAnswer}
+
+few : (s : ℕ) → (s ≡ 0) ⊎ (s ≡ 1) ⊎ (s ≡ 2) → s ≤ 2
+few s (inl e) = omega (arith, e)
+few s (inr (inl e)) = omega (arith, e)
+few s (inr (inr e)) = omega (arith, e)
+
+pub judged_status : (w r : List Node) (limits : JudgeLimitValues) (s t : ℕ) → StatusAnswer w r limits s → (s ≤ 2 → t ≡ s) → StatusAnswer w r limits t
+judged_status w r limits s t a same = subst (StatusAnswer w r limits) (sym (same (few s a.known))) a
+
+pub judged_answer : (w r : List Node) (limits : JudgeLimitValues) (text : List ℕ) (s t : ℕ) → SchemasAnswer w r limits text s → StatusAnswer w r limits s
+    → (s ≤ 2 → t ≡ s) → SchemasAnswer w r limits text t
+judged_answer w r limits text s t a told same = subst (SchemasAnswer w r limits text) (sym (same (few s told.known))) a
+
+sets_few : (w r : List Node) (dead : List ℕ) (pairs : List Pair) (s : ℕ) → SetsStatus w r dead pairs s → s ≤ 2
+sets_few w r dead pairs s a = go (is_closed w r dead pairs) refl
+  where
+    go : (closed : Bool) → is_closed w r dead pairs ≡ closed → s ≤ 2
+    go true e = let zero = a.confirmed.1 e in omega (arith, zero)
+    go false e = let one = a.refused.1 e in omega (arith, one)
+
+pub sets_status : (w r : List Node) (dead : List ℕ) (pairs : List Pair) (s t : ℕ) → SetsStatus w r dead pairs s → (s ≤ 2 → t ≡ s) → SetsStatus w r dead pairs t
+sets_status w r dead pairs s t a same = subst (SetsStatus w r dead pairs) (sym (same (sets_few w r dead pairs s a))) a
+
+pub sets_answer : (w r : List Node) (dead : List ℕ) (pairs : List Pair) (text : List ℕ) (s t : ℕ) → SetsAnswer w r dead pairs text s → SetsStatus w r dead pairs s
+    → (s ≤ 2 → t ≡ s) → SetsAnswer w r dead pairs text t
+sets_answer w r dead pairs text s t a told same = subst (SetsAnswer w r dead pairs text) (sym (same (sets_few w r dead pairs s told))) a

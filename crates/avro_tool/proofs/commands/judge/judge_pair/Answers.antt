@@ -1,0 +1,11 @@
+-- The verdict goes through.
+use Rattle.std.proofs.Common.{subst}
+use Rattle.avro_schema.specs.SeenSchema.{schema_nodes}
+use Rattle.avro_answer.specs.JudgeAnswer.{StatusAnswer}
+use Rattle.avro_tool.specs.FoundStatus.{finding_status}
+use Rattle.avro_tool.proofs.commands.judge.judge_pair.Goals as goal
+
+pub returns-clause-status : goal.returns-clause-status
+returns-clause-status g c =
+    subst (λ s. StatusAnswer (schema_nodes s) (schema_nodes c.args.reader.now) c.args.asked.now.limits (finding_status c.in_ok-verdict.finding)) c.schema.ensures.schema
+    c.in_ok-verdict.ensures.status
