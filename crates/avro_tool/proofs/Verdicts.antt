@@ -5,6 +5,7 @@ use Rattle.avro_compare.specs.Children.{Pair}
 use Rattle.avro_certificate.specs.Closed.{is_closed}
 use Rattle.avro_judge.specs.JudgeRanges.{JudgeLimitValues}
 use Rattle.avro_answer.specs.ConfirmAnswer.{SetsAnswer, SetsStatus}
+use Rattle.avro_answer.specs.HistoryAnswer.{LineAnswer}
 use Rattle.avro_answer.specs.JudgeAnswer.{SchemasAnswer, StatusAnswer}
 
 few : (s : ℕ) → (s ≡ 0) ⊎ (s ≡ 1) ⊎ (s ≡ 2) → s ≤ 2
@@ -18,6 +19,10 @@ judged_status w r limits s t a same = subst (StatusAnswer w r limits) (sym (same
 pub judged_answer : (w r : List Node) (limits : JudgeLimitValues) (text : List ℕ) (s t : ℕ) → SchemasAnswer w r limits text s → StatusAnswer w r limits s
     → (s ≤ 2 → t ≡ s) → SchemasAnswer w r limits text t
 judged_answer w r limits text s t a told same = subst (SchemasAnswer w r limits text) (sym (same (few s told.known))) a
+
+pub line_answer : (word : List ℕ) (w r : List Node) (limits : JudgeLimitValues) (text : List ℕ) (s t : ℕ) → LineAnswer word w r limits text s → StatusAnswer w r limits s
+    → (s ≤ 2 → t ≡ s) → LineAnswer word w r limits text t
+line_answer word w r limits text s t a told same = subst (LineAnswer word w r limits text) (sym (same (few s told.known))) a
 
 sets_few : (w r : List Node) (dead : List ℕ) (pairs : List Pair) (s : ℕ) → SetsStatus w r dead pairs s → s ≤ 2
 sets_few w r dead pairs s a = go (is_closed w r dead pairs) refl

@@ -2,3 +2,4 @@ pub mod ContainerText
 pub mod DefaultLimits
 pub mod FailureText
 pub mod FoundStatus
+pub mod ModeAnswer

@@ -1,3 +1,13 @@
+ghost use Rattle.std.specs.Prelude.{◌≡◌, ◌≤◌, ◌++◌, ℕ, List, IfOk, OnOk, option_copied, string_bytes, Some, None, codes};
+ghost use Rattle.avro_schema.specs.SeenSchema.{schema_nodes};
+ghost use Rattle.avro_judge.specs.Answered.{IsRight};
+ghost use Rattle.avro_answer.specs.HistoryAnswer.{LineAnswer};
+ghost use Rattle.avro_answer.specs.JsonAnswer.{IsHistoryLine};
+ghost use Rattle.avro_answer.specs.JudgeAnswer.{StatusAnswer};
+ghost use Rattle.avro_answer.specs.declared.form.Form.{Form};
+ghost use Rattle.avro_tool.specs.FoundStatus.{finding_status, IsVerdict};
+ghost use Rattle.avro_tool.specs.ModeAnswer.{line_word, ModeAnswer};
+
 use crate::Finding;
 use crate::failure::Failure;
 use crate::files::certificate::{read_history_file, write_history_file};
@@ -21,7 +31,9 @@ struct Line<'a> {
 
 impl Line<'_> {
     /// What the line begins with.
-    fn word(&self, alloc: Global) -> Result<String, AllocError> {
+    fn word(&self, alloc: Global) -> Result<String, AllocError>
+        ensures { IfOk result (λ word. string_bytes word ≡ line_word self.now.file.now (option_copied self.now.mode)) }
+    {
         let mut word = String::from_str(alloc, self.file)?;
         if let Some(mode) = self.mode {
             word.push(' ')?;
@@ -167,7 +179,11 @@ fn judge_modes<'a, O: Output>(
     earlier: &Schema,
     later: &Schema,
     out: &mut O,
-) -> Result<Finding, Failure<'a>> {
+) -> Result<Finding, Failure<'a>>
+    ensures answered { IfOk result (λ f. history.now.form ≡ Form.Text → (text : List ℕ)
+        × ModeAnswer history.now.mode file.now (schema_nodes earlier.now) (schema_nodes later.now) history.now.limits text (finding_status f) × O.keeps out.old text out.new) }
+    ensures verdict { IfOk result IsVerdict }
+{
     let line = Line { file, mode: None };
     match history.mode {
         Mode::Backward => judge_one(alloc, history, line, earlier, later, out),
@@ -196,9 +212,16 @@ fn judge_one<'a, O: Output>(
     writer: &Schema,
     reader: &Schema,
     out: &mut O,
-) -> Result<Finding, Failure<'a>> {
+) -> Result<Finding, Failure<'a>>
+    ensures answered { IfOk result (λ f. history.now.form ≡ Form.Text → (text : List ℕ)
+        × LineAnswer (line_word line.entry.file.now (option_copied line.entry.mode)) (schema_nodes writer.now) (schema_nodes reader.now) history.now.limits text (finding_status f)
+        × O.keeps out.old text out.new) }
+    ensures status { IfOk result (λ f. StatusAnswer (schema_nodes writer.now) (schema_nodes reader.now) history.now.limits (finding_status f)) }
+    ensures verdict { IfOk result IsVerdict }
+{
     let judged = judge_as(alloc, history, line, writer, reader)?;
-    tell_judged(&judged, out)
+    let finding = tell_judged(&judged, out)?;
+    Ok(finding)
 }
 
 /// Judges a writer's schema and a reader's, and answers a line in the form that is asked for.
@@ -208,7 +231,14 @@ fn judge_as<'s>(
     line: Line<'_>,
     writer: &'s Schema,
     reader: &'s Schema,
-) -> Result<Judged<'s>, Memory> {
+) -> Result<Judged<'s>, Memory>
+    ensures right { IfOk result (λ j. IsRight writer.now reader.now history.now.limits j.verdict) }
+    ensures answered { IfOk result (λ j. history.now.form ≡ Form.Text
+        → LineAnswer (line_word line.entry.file.now (option_copied line.entry.mode)) (schema_nodes writer.now) (schema_nodes reader.now) history.now.limits j.answer.text.items j.answer.status) }
+    ensures json { IfOk result (λ j. history.now.form ≡ Form.Json
+        → IsHistoryLine line.entry.file.now (option_copied line.entry.mode) j.verdict j.answer.text.items j.answer.status) }
+    ensures status { IfOk result (λ j. StatusAnswer (schema_nodes writer.now) (schema_nodes reader.now) history.now.limits j.answer.status) }
+{
     let limits = &history.limits;
     match history.form {
         Form::Text => judge_line(alloc, &line.word(alloc)?, writer, reader, limits),
@@ -252,7 +282,11 @@ fn certify_one<'a, O: Output>(
 }
 
 /// Prints the line of a verdict.
-fn tell_judged<'a, O: Output>(judged: &Judged<'_>, out: &mut O) -> Result<Finding, Failure<'a>> {
+fn tell_judged<'a, O: Output>(judged: &Judged<'_>, out: &mut O) -> Result<Finding, Failure<'a>>
+    ensures put { OnOk result (O.keeps out.old judged.now.answer.text.items out.new) }
+    ensures verdict { IfOk result IsVerdict }
+    ensures status { IfOk result (λ f. judged.now.answer.status ≤ 2 → finding_status f ≡ judged.now.answer.status) }
+{
     print_bytes(out, &judged.answer.text)?;
     Ok(Finding::of_verdict(judged.answer.status))
 }

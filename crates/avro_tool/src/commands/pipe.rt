@@ -1,5 +1,15 @@
 //! A container from one stream to another.
 
+ghost use Rattle.std.specs.Prelude.{◌≡◌, List, ℕ, IfOk, OnOk, OnErr, Err, Some};
+ghost use denote.Ref.{Bor};
+ghost use Rattle.avro_file.specs.FileFault.{FileFault};
+ghost use Rattle.avro_file.specs.FileSeen.{file_fault};
+ghost use Rattle.avro_file.specs.declared.error.CopyError.{CopyError};
+ghost use Rattle.avro_container.specs.Copying.{CopiesFile, CopiesFront, CopiesUpTo};
+ghost use Rattle.avro_container.specs.TaskSeen.{job_from};
+ghost use Rattle.avro_tool.specs.DefaultLimits.{default_limits};
+ghost use Rattle.avro_tool.specs.declared.failure.Failure.{Failure};
+
 use crate::Finding;
 use crate::failure::Failure;
 use crate::files::container::{ROOM, length_of, print_counts};
@@ -93,7 +103,14 @@ fn pipe_from<'a, I: Input, O: Output>(
     reader: Option<&ReaderText>,
     sync: Option<[u8; 16]>,
     out: &mut O,
-) -> Result<Counts, Failure<'a>> {
+) -> Result<Counts, Failure<'a>>
+    ensures whole { IfOk result (λ counts. CopiesFile I.gives O.keeps input.old input.new out.old out.new
+        (job_from reader.entry sync) default_limits (I.ended input.new) counts.items counts.blocks) }
+    ensures flushed { OnOk result (O.flushed out.new) }
+    ensures front { OnErr result (CopiesFront I.gives O.keeps input.old input.new out.old out.new (job_from reader.entry sync) default_limits) }
+    ensures refused { (word : Bor (List ℕ)) (e : CopyError) (f : FileFault) → result ≡ Err (Failure.Container word e) → file_fault e ≡ Some f
+        → CopiesUpTo I.gives O.keeps input.old input.new out.old out.new (job_from reader.entry sync) default_limits (I.ended input.new) f }
+{
     match copy(alloc, input, out, reader, sync, &FileLimits::default()) {
         Ok(counts) => Ok(counts),
         Err(CopyError::OutputFailed) => Err(Failure::CannotPrint),

@@ -1,5 +1,14 @@
 //! The first datum of encoded data.
 
+ghost use Rattle.std.specs.Prelude.{◌≡◌, ℕ, List, OnOk, IfOk, option_copied, option_map};
+ghost use Rattle.std.specs.Option.{IfSome};
+ghost use Rattle.std.specs.Result.{IfErr};
+ghost use Rattle.avro_schema.specs.SeenSchema.{schema_nodes};
+ghost use Rattle.avro_answer.specs.DataRead.{IsDatumTold, fault_found};
+ghost use Rattle.avro_answer.specs.ReadAnswer.{IsAllFound};
+ghost use Rattle.avro_tool.specs.DefaultLimits.{datum_limits};
+ghost use Rattle.avro_tool.specs.FoundStatus.{finding_status};
+
 use crate::Finding;
 use crate::failure::Failure;
 use crate::files::container::open_file;
@@ -57,11 +66,30 @@ fn read_for<'a, R: Files + AllocGlobal, O: Output>(
     let bytes = take_datum(rt, asked, writer, most)?;
     let is_cut = bytes.len() > most;
     let data = &bytes[..bytes.len().min(most)];
-    match text_of(rt.alloc(), asked, writer, reader, data) {
-        Ok(text) => print_bytes(out, &text)?,
-        Err(error) => return Err(Failure::of_data(asked.data, told_of(error, is_cut))),
+    tell_datum(rt.alloc(), asked, writer, reader, data, is_cut, out)
+}
+
+/// Prints the datum that data begin with, which may have been cut.
+fn tell_datum<'a, O: Output>(
+    alloc: Global,
+    asked: &Reading<'a>,
+    writer: &Schema,
+    reader: Option<&ReaderText>,
+    data: &[u8],
+    is_cut: bool,
+    out: &mut O,
+) -> Result<Finding, Failure<'a>>
+    ensures told { OnOk result ((text : List ℕ) × IsDatumTold (schema_nodes writer.now) (option_map (λ t. schema_nodes t.1) (option_copied reader.entry)) datum_limits
+        asked.now.form asked.now.skip data.now text × O.keeps out.old text out.new) }
+    ensures good { IfOk result (λ f. finding_status f ≡ 0) }
+{
+    match text_of(alloc, asked, writer, reader, data) {
+        Ok(text) => {
+            print_bytes(out, &text)?;
+            Ok(Finding::Good)
+        }
+        Err(error) => Err(Failure::of_data(asked.data, told_of(error, is_cut))),
     }
-    Ok(Finding::Good)
 }
 
 /// The bytes of a file up to the end of its datum at least, or up to its end, or more than some. They are walked over after each
@@ -134,7 +162,12 @@ fn text_of(
     writer: &Schema,
     reader: Option<&ReaderText>,
     data: &[u8],
-) -> Result<Vec<u8>, ReadResolveError> {
+) -> Result<Vec<u8>, ReadResolveError>
+    ensures read { IfOk result (λ text. IsDatumTold (schema_nodes writer.now) (option_map (λ t. schema_nodes t.1) (option_copied reader.entry)) datum_limits
+        asked.now.form asked.now.skip data.now text.items) }
+    ensures refused { IfErr result (λ e. IfSome (fault_found e) (IsAllFound (schema_nodes writer.now) (option_map (λ t. schema_nodes t.1) (option_copied reader.entry))
+        datum_limits asked.now.skip data.now)) }
+{
     let reader = match reader {
         Some(reader) => Some(reader.schema()),
         None => None,

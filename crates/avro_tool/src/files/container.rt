@@ -1,3 +1,8 @@
+ghost use Rattle.std.specs.Prelude.{◌≡◌, IfOk, OnOk};
+ghost use Rattle.avro_answer.specs.JsonAnswer.{json_line, counts_tree};
+ghost use Rattle.avro_answer.specs.declared.form.Form.{Form};
+ghost use Rattle.avro_tool.specs.FoundStatus.{finding_status};
+
 use crate::Finding;
 use crate::failure::Failure;
 use crate::printing::{print, print_bytes};
@@ -60,7 +65,9 @@ pub(crate) fn length_of<R: Files>(rt: &R, word: &str) -> Option<u64> {
 pub(crate) fn tell_counts<'a, O: Output>(
     out: &mut O,
     counts: Counts,
-) -> Result<Finding, Failure<'a>> {
+) -> Result<Finding, Failure<'a>>
+    ensures { IfOk result (λ f. finding_status f ≡ 0) }
+{
     print_counts(out, counts)?;
     Ok(Finding::Good)
 }
@@ -74,7 +81,10 @@ pub(crate) fn tell_file_counts<'a, O: Output>(
     is_named: bool,
     form: Form,
     counts: Counts,
-) -> Result<Finding, Failure<'a>> {
+) -> Result<Finding, Failure<'a>>
+    ensures json { form ≡ Form.Json → OnOk result (O.keeps out.old (json_line (counts_tree word.now counts.items counts.blocks)) out.new) }
+    ensures good { IfOk result (λ f. finding_status f ≡ 0) }
+{
     let Counts { items, blocks } = counts;
     match form {
         Form::Json => print(out, &counts_line(alloc, word, items, blocks)?)?,

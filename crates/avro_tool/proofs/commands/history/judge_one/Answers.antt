@@ -1,0 +1,21 @@
+-- The line of the two schemas, in this order.
+use Rattle.std.specs.Prelude.{option_copied}
+use Rattle.avro_schema.specs.SeenSchema.{schema_nodes}
+use Rattle.avro_tool.specs.FoundStatus.{finding_status}
+use Rattle.avro_tool.specs.ModeAnswer.{line_word}
+use Rattle.avro_tool.proofs.Verdicts.{judged_status, line_answer}
+use Rattle.avro_tool.proofs.commands.history.judge_one.Goals as goal
+
+pub returns-clause-answered : goal.returns-clause-answered
+returns-clause-answered g c = λ is_text. (
+  c.in_ok-judged.judged.answer.text.items,
+  line_answer (line_word c.args.line.file.now (option_copied c.args.line.mode)) (schema_nodes c.args.writer.now) (schema_nodes c.args.reader.now) c.args.history.now.limits
+      c.in_ok-judged.judged.answer.text.items c.in_ok-judged.judged.answer.status (finding_status c.in_ok-finding.finding)
+      (c.in_ok-judged.ensures.answered is_text) c.in_ok-judged.ensures.status c.in_ok-finding.ensures.status,
+  c.in_ok-finding.ensures.put,
+)
+
+pub returns-clause-status : goal.returns-clause-status
+returns-clause-status g c =
+    judged_status (schema_nodes c.args.writer.now) (schema_nodes c.args.reader.now) c.args.history.now.limits c.in_ok-judged.judged.answer.status
+    (finding_status c.in_ok-finding.finding) c.in_ok-judged.ensures.status c.in_ok-finding.ensures.status
