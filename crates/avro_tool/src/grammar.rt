@@ -286,9 +286,9 @@ const COMMANDS: [Words; 11] = [
     ),
 ];
 
-/// The commands, and the arguments of those that the words name: only these can be asked for.
+/// The commands that can be asked for: the one that the first word names, or else all, with the arguments of those that the words name.
 pub(crate) fn program<'a>(alloc: Global, words: &[String]) -> Result<Command<'a>, AllocError> {
-    let commands = all_commands(alloc, words)?;
+    let commands = commands_of(alloc, commands_for(words), words)?;
     Command::new(alloc, "avro")
         .about("Check Avro schemas and container files")
         .version(VERSION)
@@ -303,10 +303,25 @@ pub(crate) fn history_command<'a>(alloc: Global) -> Result<Command<'a>, AllocErr
     command_of(alloc, &OF_HISTORY, true)
 }
 
-/// Each command.
-fn all_commands<'a>(alloc: Global, words: &[String]) -> Result<Vec<Command<'a>>, AllocError> {
+/// The command that the first word names, or else all.
+fn commands_for(words: &[String]) -> &'static [Words] {
+    let Some(first) = words.first() else {
+        return &COMMANDS[..];
+    };
+    match COMMANDS.iter().position(|command| first.as_str() == command.0) {
+        Some(index) => &COMMANDS[index..index + 1],
+        None => &COMMANDS[..],
+    }
+}
+
+/// These commands, with the arguments of those that the words name.
+fn commands_of<'a>(
+    alloc: Global,
+    of: &[Words],
+    words: &[String],
+) -> Result<Vec<Command<'a>>, AllocError> {
     let mut commands = Vec::new(alloc);
-    for command in &COMMANDS[..] {
+    for command in of {
         let is_named = words.iter().any(|word| word.as_str() == command.0);
         commands.push(command_of(alloc, command, is_named)?)?;
     }
