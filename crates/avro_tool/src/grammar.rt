@@ -240,7 +240,7 @@ const OF_HISTORY: Words = (
 );
 
 /// The commands, in the order of the help.
-const COMMANDS: [Words; 11] = [
+static COMMANDS: [Words; 11] = [
     (
         "judge",
         "Check that one schema reads all data written with another",
@@ -308,7 +308,10 @@ fn commands_for(words: &[String]) -> &'static [Words] {
     let Some(first) = words.first() else {
         return &COMMANDS[..];
     };
-    match COMMANDS.iter().position(|command| first.as_str() == command.0) {
+    match COMMANDS
+        .iter()
+        .position(|command| first.as_str() == command.0)
+    {
         Some(index) => &COMMANDS[index..index + 1],
         None => &COMMANDS[..],
     }

@@ -1,6 +1,6 @@
 ghost use Rattle.std.specs.Prelude.{◌≡◌, ◌≤◌, ◌++◌, ℕ, List, IfOk, OnOk, option_copied, string_bytes, Some, None, codes};
 ghost use Rattle.avro_schema.specs.SeenSchema.{schema_nodes};
-ghost use Rattle.avro_judge.specs.Answered.{IsRight};
+ghost use Rattle.avro_judge.specs.Headline.{IsRight};
 ghost use Rattle.avro_answer.specs.HistoryAnswer.{LineAnswer};
 ghost use Rattle.avro_answer.specs.JsonAnswer.{IsHistoryLine};
 ghost use Rattle.avro_answer.specs.JudgeAnswer.{StatusAnswer};
