@@ -6,7 +6,9 @@ use Rattle.avro_certificate.specs.Closed.{is_closed}
 use Rattle.avro_judge.specs.JudgeRanges.{JudgeLimitValues}
 use Rattle.avro_answer.specs.ConfirmAnswer.{SetsAnswer, SetsStatus}
 use Rattle.avro_answer.specs.HistoryAnswer.{LineAnswer}
+use Rattle.avro_answer.specs.JsonAnswer.{IsJudgedLine}
 use Rattle.avro_answer.specs.JudgeAnswer.{SchemasAnswer, StatusAnswer}
+use Rattle.avro_judge.specs.declared.verdict.Verdict.{Verdict}
 
 few : (s : ℕ) → (s ≡ 0) ⊎ (s ≡ 1) ⊎ (s ≡ 2) → s ≤ 2
 few s (inl e) = omega (arith, e)
@@ -19,6 +21,10 @@ judged_status w r limits s t a same = subst (StatusAnswer w r limits) (sym (same
 pub judged_answer : (w r : List Node) (limits : JudgeLimitValues) (text : List ℕ) (s t : ℕ) → SchemasAnswer w r limits text s → StatusAnswer w r limits s
     → (s ≤ 2 → t ≡ s) → SchemasAnswer w r limits text t
 judged_answer w r limits text s t a told same = subst (SchemasAnswer w r limits text) (sym (same (few s told.known))) a
+
+pub judged_line : (w r : List Node) (limits : JudgeLimitValues) (verdict : Verdict) (line : List ℕ) (s t : ℕ) → IsJudgedLine w verdict line s → StatusAnswer w r limits s
+    → (s ≤ 2 → t ≡ s) → IsJudgedLine w verdict line t
+judged_line w r limits verdict line s t a told same = subst (IsJudgedLine w verdict line) (sym (same (few s told.known))) a
 
 pub line_answer : (word : List ℕ) (w r : List Node) (limits : JudgeLimitValues) (text : List ℕ) (s t : ℕ) → LineAnswer word w r limits text s → StatusAnswer w r limits s
     → (s ≤ 2 → t ≡ s) → LineAnswer word w r limits text t

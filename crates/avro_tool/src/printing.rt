@@ -1,15 +1,17 @@
 //! Answers, each printed by one write.
 
-ghost use Rattle.std.specs.Prelude.{◌≡◌, OnOk};
+ghost use Rattle.std.specs.Prelude.{◌≡◌, OnOk, OnErr};
 ghost use Rattle.std.specs.Result.{IfErr};
+ghost use Rattle.avro_device.specs.PutFront.{PutsFrontOf};
 ghost use Rattle.avro_tool.specs.declared.failure.Failure.TheVariants.{CannotPrint};
 
 use crate::failure::Failure;
 use avro_device::{DeviceFault, Output, put_all};
 
-/// Prints an answer.
+/// Prints an answer. Where that fails, a prefix of it was put.
 pub(crate) fn print<'a, O: Output>(out: &mut O, answer: &str) -> Result<(), Failure<'a>>
     ensures put { OnOk result (O.keeps out.old answer.now out.new) }
+    ensures front { OnErr result (PutsFrontOf O.keeps out.old out.new answer.now) }
     ensures flushed { OnOk result (O.flushed out.new) }
     ensures fails { IfErr result (λ f. f ≡ CannotPrint) }
 {
@@ -19,6 +21,7 @@ pub(crate) fn print<'a, O: Output>(out: &mut O, answer: &str) -> Result<(), Fail
 /// Prints an answer that need not be a text.
 pub(crate) fn print_bytes<'a, O: Output>(out: &mut O, answer: &[u8]) -> Result<(), Failure<'a>>
     ensures put { OnOk result (O.keeps out.old answer.now out.new) }
+    ensures front { OnErr result (PutsFrontOf O.keeps out.old out.new answer.now) }
     ensures flushed { OnOk result (O.flushed out.new) }
     ensures fails { IfErr result (λ f. f ≡ CannotPrint) }
 {
@@ -31,6 +34,7 @@ pub(crate) fn print_bytes<'a, O: Output>(out: &mut O, answer: &[u8]) -> Result<(
 /// Puts an answer, and flushes.
 fn put_answer<O: Output>(out: &mut O, answer: &[u8]) -> Result<(), DeviceFault>
     ensures put { OnOk result (O.keeps out.old answer.now out.new) }
+    ensures front { OnErr result (PutsFrontOf O.keeps out.old out.new answer.now) }
     ensures flushed { OnOk result (O.flushed out.new) }
 {
     put_all(&mut *out, answer)?;

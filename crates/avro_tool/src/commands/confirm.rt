@@ -2,6 +2,7 @@ ghost use Rattle.std.specs.Prelude.{◌≡◌, ℕ, List, IfOk};
 ghost use Rattle.avro_schema.specs.SeenSchema.{schema_nodes};
 ghost use Rattle.avro_certificate.specs.SeenCertificate.{dead_of, pairs_in};
 ghost use Rattle.avro_answer.specs.ConfirmAnswer.{SetsAnswer, SetsStatus};
+ghost use Rattle.avro_answer.specs.JsonAnswer.{SetsJson};
 ghost use Rattle.avro_answer.specs.declared.form.Form.{Form};
 ghost use Rattle.avro_tool.specs.FoundStatus.{finding_status};
 
@@ -68,6 +69,8 @@ fn tell_confirmed<'a, O: Output>(
     ensures answered { IfOk result (λ f. form ≡ Form.Text → (text : List ℕ)
         × SetsAnswer (schema_nodes writer.now) (schema_nodes reader.now) (dead_of certificate.now) (pairs_in certificate.now) text (finding_status f)
         × O.keeps out.old text out.new) }
+    ensures json { IfOk result (λ f. form ≡ Form.Json → (line : List ℕ)
+        × SetsJson (schema_nodes writer.now) (schema_nodes reader.now) (dead_of certificate.now) (pairs_in certificate.now) line × O.keeps out.old line out.new) }
     ensures status { IfOk result (λ f. SetsStatus (schema_nodes writer.now) (schema_nodes reader.now) (dead_of certificate.now) (pairs_in certificate.now) (finding_status f)) }
 {
     let answer = confirm_schemas(alloc, writer, reader, certificate, form)?;

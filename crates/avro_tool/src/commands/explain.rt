@@ -2,7 +2,7 @@
 
 ghost use Rattle.std.specs.Prelude.{◌≡◌, ℕ, List, IfOk};
 ghost use Rattle.avro_schema.specs.SeenSchema.{schema_nodes};
-ghost use Rattle.avro_answer.specs.ExplainAnswer.{FaultsAnswer, FaultsStatus};
+ghost use Rattle.avro_answer.specs.ExplainAnswer.{FaultsAnswer, FaultsJson, FaultsStatus};
 ghost use Rattle.avro_answer.specs.declared.form.Form.{Form};
 ghost use Rattle.avro_tool.specs.FoundStatus.{finding_status};
 
@@ -49,6 +49,8 @@ fn explain_pair<'a, O: Output>(
 ) -> Result<Finding, Failure<'a>>
     ensures answered { IfOk result (λ f. asked.now.form ≡ Form.Text → (text : List ℕ)
         × FaultsAnswer (schema_nodes writer.now) (schema_nodes reader.now) asked.now.max_pairs text (finding_status f) × O.keeps out.old text out.new) }
+    ensures json { IfOk result (λ f. asked.now.form ≡ Form.Json → (line : List ℕ)
+        × FaultsJson (schema_nodes writer.now) (schema_nodes reader.now) asked.now.max_pairs line (finding_status f) × O.keeps out.old line out.new) }
     ensures status { IfOk result (λ f. FaultsStatus (schema_nodes writer.now) (schema_nodes reader.now) asked.now.max_pairs (finding_status f)) }
 {
     match explain(alloc, writer, reader, asked.max_pairs as usize) {

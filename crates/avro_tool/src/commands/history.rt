@@ -7,6 +7,7 @@ ghost use Rattle.avro_answer.specs.JudgeAnswer.{StatusAnswer};
 ghost use Rattle.avro_answer.specs.declared.form.Form.{Form};
 ghost use Rattle.avro_tool.specs.FoundStatus.{finding_status, IsVerdict};
 ghost use Rattle.avro_tool.specs.ModeAnswer.{line_word, ModeAnswer};
+ghost use Rattle.avro_tool.specs.declared.request.Mode.{Mode};
 
 use crate::Finding;
 use crate::failure::Failure;
@@ -188,20 +189,34 @@ fn judge_modes<'a, O: Output>(
     match history.mode {
         Mode::Backward => judge_one(alloc, history, line, earlier, later, out),
         Mode::Forward => judge_one(alloc, history, line, later, earlier, out),
-        Mode::Full => {
-            let line = Line {
-                file,
-                mode: Some("backward"),
-            };
-            let backward = judge_one(alloc, history, line, earlier, later, out)?;
-            let line = Line {
-                file,
-                mode: Some("forward"),
-            };
-            let forward = judge_one(alloc, history, line, later, earlier, out)?;
-            Ok(backward.and(forward))
-        }
+        Mode::Full => judge_both(alloc, history, file, earlier, later, out),
     }
+}
+
+/// Judges whether each of two schemas reads the data of the other, and prints the two lines of it.
+fn judge_both<'a, O: Output>(
+    alloc: Global,
+    history: &History<'a>,
+    file: &str,
+    earlier: &Schema,
+    later: &Schema,
+    out: &mut O,
+) -> Result<Finding, Failure<'a>>
+    ensures answered { IfOk result (λ f. history.now.form ≡ Form.Text → (text : List ℕ)
+        × ModeAnswer Mode.Full file.now (schema_nodes earlier.now) (schema_nodes later.now) history.now.limits text (finding_status f) × O.keeps out.old text out.new) }
+    ensures verdict { IfOk result IsVerdict }
+{
+    let line = Line {
+        file,
+        mode: Some("backward"),
+    };
+    let backward = judge_one(alloc, history, line, earlier, later, &mut *out)?;
+    let line = Line {
+        file,
+        mode: Some("forward"),
+    };
+    let forward = judge_one(alloc, history, line, later, earlier, out)?;
+    Ok(backward.and(forward))
 }
 
 /// Judges a writer's schema and a reader's, and prints a line of it.

@@ -1,6 +1,8 @@
-ghost use Rattle.std.specs.Prelude.{◌≡◌, ℕ, List, IfOk};
+ghost use Rattle.std.specs.Prelude.{◌≡◌, ◌⊎◌, ℕ, List, [], IfOk, OnErr};
+ghost use Rattle.avro_device.specs.PutFront.{PutsFrontOf};
 ghost use Rattle.avro_schema.specs.SeenSchema.{schema_nodes};
 ghost use Rattle.avro_answer.specs.JudgeAnswer.{SchemasAnswer, StatusAnswer};
+ghost use Rattle.avro_answer.specs.JsonAnswer.{IsJudgedLine};
 ghost use Rattle.avro_answer.specs.declared.form.Form.{Form};
 ghost use Rattle.avro_tool.specs.FoundStatus.{finding_status};
 
@@ -64,7 +66,7 @@ fn judge_pair<'a, R: Files + AllocGlobal, O: Output>(
     Ok(finding)
 }
 
-/// Judges two schemas, and prints the verdict.
+/// Judges two schemas, and prints the verdict. Where that fails, a prefix of an answer was put, or nothing.
 fn tell_verdict<'a, 's, O: Output>(
     alloc: Global,
     writer: &'s Schema,
@@ -75,6 +77,9 @@ fn tell_verdict<'a, 's, O: Output>(
 ) -> Result<(Verdict<'s>, Finding), Failure<'a>>
     ensures answered { IfOk result (λ v. form ≡ Form.Text → (text : List ℕ)
         × SchemasAnswer (schema_nodes writer.now) (schema_nodes reader.now) limits.now text (finding_status v.1) × O.keeps out.old text out.new) }
+    ensures json { IfOk result (λ v. form ≡ Form.Json → (line : List ℕ) × IsJudgedLine (schema_nodes writer.now) v.0 line (finding_status v.1) × O.keeps out.old line out.new) }
+    ensures front { form ≡ Form.Text → OnErr result (O.keeps out.old [] out.new ⊎ (text : List ℕ) × (status : ℕ)
+        × SchemasAnswer (schema_nodes writer.now) (schema_nodes reader.now) limits.now text status × PutsFrontOf O.keeps out.old out.new text) }
     ensures status { IfOk result (λ v. StatusAnswer (schema_nodes writer.now) (schema_nodes reader.now) limits.now (finding_status v.1)) }
 {
     let (verdict, status) = judge_schemas(out, alloc, writer, reader, limits, form)?;

@@ -27,7 +27,7 @@ returns-in_ok-print-in-Ok-clause-answered g c = λ is_text.
           (within_limit writer reader (marked found.dead.items) found.places.items c.args.asked.now.max_pairs c.in-Ok.ensures.dead c.in-Ok.ensures.visited c.in-Ok.ensures.limit)
           (c.in-Ok.ensures.compatible (no_member found.faults.items found.faults.len c.is_empty.result found.faults.ok.0 c.is_empty.ensures c.if-is_empty.true)))
           (λ h. refl) (λ h. absurd (omega (arith, h))) (λ h. absurd (omega (arith, h))),
-      subst (λ bytes. g.O.Output.keeps c.args.out.now bytes c.print.new.out) (c.no_fault.ensures is_text) c.in_ok-print-in-Ok.ensures.put,
+      subst (λ bytes. g.O.Output.keeps c.args.out.now bytes c.print.new.out) (c.no_fault.ensures.text is_text) c.in_ok-print-in-Ok.ensures.put,
     )
 
 pub returns-in_ok-put_faults-in-Ok-2-clause-status : goal.returns-in_ok-put_faults-in-Ok-2-clause-status
@@ -64,5 +64,43 @@ returns-in_ok-put_faults-in-Ok-2-clause-answered g c = λ is_text.
             exact = c.in-Ok.ensures.faults;
             told = told.1;
           }),
+      told.2,
+    )
+
+pub returns-in_ok-print-in-Ok-clause-json : goal.returns-in_ok-print-in-Ok-clause-json
+returns-in_ok-print-in-Ok-clause-json g c = λ is_json. (
+  c.no_fault.result.now,
+  record {
+    known = returns-in_ok-print-in-Ok-clause-status g c;
+    yes = λ _. c.no_fault.ensures.json is_json;
+    faults = λ h. absurd (omega (arith, h));
+    undecided = λ h. absurd (omega (arith, h));
+  },
+  c.in_ok-print-in-Ok.ensures.put,
+)
+
+pub returns-in_ok-put_faults-in-Ok-2-clause-json : goal.returns-in_ok-put_faults-in-Ok-2-clause-json
+returns-in_ok-put_faults-in-Ok-2-clause-json g c = λ is_json.
+    let found = c.in-Ok.found in
+    let told = c.in_ok-put_faults-in-Ok-2.ensures.json is_json c.in-Ok.ensures.faults in (
+      told.0,
+      record {
+        known = returns-in_ok-put_faults-in-Ok-2-clause-status g c;
+        yes = λ h. absurd (omega (arith, h));
+        faults = λ h. record {
+            dead = marked found.dead.items;
+            greatest = c.in-Ok.ensures.dead;
+            places = found.places.items;
+            reached = c.in-Ok.ensures.visited;
+            placed = c.in-Ok.ensures.placed;
+            breadth = c.in-Ok.ensures.breadth;
+            followed = c.in-Ok.ensures.followed;
+            searched = c.in-Ok.ensures.searched;
+            faults = found.faults.items;
+            exact = c.in-Ok.ensures.faults;
+            told = told.1;
+          };
+        undecided = λ h. absurd (omega (arith, h));
+      },
       told.2,
     )

@@ -1,0 +1,5 @@
+-- As the mode asks.
+use Rattle.avro_tool.proofs.commands.history.judge_modes.Goals as goal
+
+pub returns-in-Backward-clause-answered : goal.returns-in-Backward-clause-answered
+returns-in-Backward-clause-answered g c = rw c.in-Backward.is c.judge_one.ensures.answered
