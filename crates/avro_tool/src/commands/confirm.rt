@@ -1,8 +1,7 @@
 ghost use Rattle.std.specs.Prelude.{◌≡◌, ℕ, List, IfOk};
 ghost use Rattle.avro_schema.specs.SeenSchema.{schema_nodes};
 ghost use Rattle.avro_certificate.specs.SeenCertificate.{dead_of, pairs_in};
-ghost use Rattle.avro_answer.specs.ConfirmAnswer.{SetsAnswer, SetsStatus};
-ghost use Rattle.avro_answer.specs.JsonAnswer.{SetsJson};
+ghost use Rattle.avro_answer.specs.ConfirmAnswer.{SetsAnswer, SetsJson, SetsStatus};
 ghost use Rattle.avro_answer.specs.declared.form.Form.{Form};
 ghost use Rattle.avro_tool.specs.FoundStatus.{finding_status};
 

@@ -88,18 +88,18 @@ returns-in_ok-put_faults-in-Ok-2-clause-json g c = λ is_json.
         known = returns-in_ok-put_faults-in-Ok-2-clause-status g c;
         yes = λ h. absurd (omega (arith, h));
         faults = λ h. record {
-            dead = marked found.dead.items;
-            greatest = c.in-Ok.ensures.dead;
-            places = found.places.items;
-            reached = c.in-Ok.ensures.visited;
-            placed = c.in-Ok.ensures.placed;
-            breadth = c.in-Ok.ensures.breadth;
-            followed = c.in-Ok.ensures.followed;
-            searched = c.in-Ok.ensures.searched;
-            faults = found.faults.items;
-            exact = c.in-Ok.ensures.faults;
-            told = told.1;
-          };
+          dead = marked found.dead.items;
+          greatest = c.in-Ok.ensures.dead;
+          places = found.places.items;
+          reached = c.in-Ok.ensures.visited;
+          placed = c.in-Ok.ensures.placed;
+          breadth = c.in-Ok.ensures.breadth;
+          followed = c.in-Ok.ensures.followed;
+          searched = c.in-Ok.ensures.searched;
+          faults = found.faults.items;
+          exact = c.in-Ok.ensures.faults;
+          told = told.1;
+        };
         undecided = λ h. absurd (omega (arith, h));
       },
       told.2,
