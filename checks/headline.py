@@ -1,8 +1,8 @@
 #!/usr/bin/env python3
 """Lists the definitions that the headline rests on, file by file, those that a `confirmed` alone rests on, those that
 the answer of `avro judge` to two texts rests on besides, those that the answer of `avro read` after a yes rests on
-besides these, and those that a migration rests on besides the first and the third. It compares them with the tables of
-docs/HEADLINE.md.
+besides these, those that a migration rests on besides the first and the third, and those that the program's commands rest on
+besides all of these. It compares them with the tables of docs/HEADLINE.md.
 
 usage: checks/headline.py [--print]
 
@@ -33,10 +33,29 @@ MIGRATED: Roots = (
     ("Rattle.avro_migration.specs.Migrates", "IsOfOther"),
     ("Rattle.avro_migration.specs.Migrates", "IsNoneWithin"),
 )
+# What the functions of the program that are given schemas, a certificate or an input ensure of the output and the status.
+PROGRAM: Roots = (
+    ("Rattle.avro_tool.specs.FoundStatus", "finding_status"),
+    ("Rattle.avro_tool.specs.FoundStatus", "worse"),
+    ("Rattle.avro_tool.specs.ModeAnswer", "ModeAnswer"),
+    ("Rattle.avro_tool.specs.DefaultLimits", "default_limits"),
+    ("Rattle.avro_answer.specs.JudgeAnswer", "StatusAnswer"),
+    ("Rattle.avro_answer.specs.JsonAnswer", "IsJudgedLine"),
+    ("Rattle.avro_answer.specs.ExplainAnswer", "FaultsAnswer"),
+    ("Rattle.avro_answer.specs.ExplainAnswer", "FaultsJson"),
+    ("Rattle.avro_answer.specs.ConfirmAnswer", "SetsAnswer"),
+    ("Rattle.avro_answer.specs.ConfirmAnswer", "SetsJson"),
+    ("Rattle.avro_answer.specs.SchemaAnswer", "NodesAnswer"),
+    ("Rattle.avro_answer.specs.DataRead", "IsDatumTold"),
+    ("Rattle.avro_container.specs.Checking", "IsWhole"),
+    ("Rattle.avro_container.specs.Checking", "IsFaulty"),
+    ("Rattle.avro_container.specs.Copying", "CopiesFile"),
+    ("Rattle.avro_container.specs.Copying", "CopiesUpTo"),
+)
 # The crates and their files in the order in which each rests on those before it.
 CRATES = (
-    "name", "schema", "zigzag", "cursor", "binary", "compare", "resolve", "certificate", "judge", "schema_json", "display", "answer", "file", "container",
-    "migration",
+    "name", "schema", "zigzag", "device", "cursor", "binary", "compare", "resolve", "certificate", "least", "explain", "judge", "schema_json", "display",
+    "canonical", "answer", "file", "container", "migration", "tool",
 )
 WORD = re.compile(r"[A-Za-z_][\w\-]*")
 HEAD = re.compile(r"(?:abbrev )?(?:pub )?(?:abbrev )?(?:record |data |type )?(?:pub )?([A-Za-z_][\w\-]*)")
@@ -173,6 +192,7 @@ def tables() -> list[str]:
         table(ANSWERED, HEADLINE, named=False),
         table(READ, HEADLINE + ANSWERED),
         table(MIGRATED, HEADLINE + ANSWERED),
+        table(PROGRAM, HEADLINE + ANSWERED + READ + MIGRATED, named=False),
     ]
 
 
