@@ -1,6 +1,8 @@
 ghost use Rattle.std.specs.Prelude.{◌≡◌, ◌⊎◌, ℕ, List, [], IfOk, OnErr};
 ghost use Rattle.avro_device.specs.PutFront.{PutsFrontOf};
 ghost use Rattle.avro_schema.specs.SeenSchema.{schema_nodes};
+ghost use Rattle.avro_judge.specs.Headline.{IsRight};
+ghost use Rattle.avro_judge.specs.declared.verdict.Verdict.{Verdict};
 ghost use Rattle.avro_answer.specs.JudgeAnswer.{SchemasAnswer, StatusAnswer};
 ghost use Rattle.avro_answer.specs.JsonAnswer.{IsJudgedLine};
 ghost use Rattle.avro_answer.specs.declared.form.Form.{Form};
@@ -52,6 +54,8 @@ fn judge_pair<'a, R: Files + AllocGlobal, O: Output>(
 ) -> Result<Finding, Failure<'a>>
     ensures answered { IfOk result (λ f. asked.now.form ≡ Form.Text → (text : List ℕ)
         × SchemasAnswer (schema_nodes writer.now.1) (schema_nodes reader.now) asked.now.limits text (finding_status f) × O.keeps out.old text out.new) }
+    ensures json { IfOk result (λ f. asked.now.form ≡ Form.Json → (verdict : Verdict) × (line : List ℕ)
+        × IsJudgedLine (schema_nodes writer.now.1) verdict line (finding_status f) × O.keeps out.old line out.new) }
     ensures status { IfOk result (λ f. StatusAnswer (schema_nodes writer.now.1) (schema_nodes reader.now) asked.now.limits (finding_status f)) }
 {
     let (verdict, finding) = tell_verdict(
@@ -75,6 +79,7 @@ fn tell_verdict<'a, 's, O: Output>(
     form: Form,
     out: &mut O,
 ) -> Result<(Verdict<'s>, Finding), Failure<'a>>
+    ensures right { IfOk result (λ v. IsRight writer.now reader.now limits.now v.0) }
     ensures answered { IfOk result (λ v. form ≡ Form.Text → (text : List ℕ)
         × SchemasAnswer (schema_nodes writer.now) (schema_nodes reader.now) limits.now text (finding_status v.1) × O.keeps out.old text out.new) }
     ensures json { IfOk result (λ v. form ≡ Form.Json → (line : List ℕ) × IsJudgedLine (schema_nodes writer.now) v.0 line (finding_status v.1) × O.keeps out.old line out.new) }

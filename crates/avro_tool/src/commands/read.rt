@@ -75,15 +75,15 @@ fn tell_datum<'a, O: Output>(
     asked: &Reading<'a>,
     writer: &Schema,
     reader: Option<&ReaderText>,
-    data: &[u8],
+    bytes: &[u8],
     is_cut: bool,
     out: &mut O,
 ) -> Result<Finding, Failure<'a>>
     ensures told { OnOk result ((text : List ℕ) × IsDatumTold (schema_nodes writer.now) (option_map (λ t. schema_nodes t.1) (option_copied reader.entry)) datum_limits
-        asked.now.form asked.now.skip data.now text × O.keeps out.old text out.new) }
+        asked.now.form asked.now.skip bytes.now text × O.keeps out.old text out.new) }
     ensures good { IfOk result (λ f. finding_status f ≡ 0) }
 {
-    match text_of(alloc, asked, writer, reader, data) {
+    match text_of(alloc, asked, writer, reader, bytes) {
         Ok(text) => {
             print_bytes(out, &text)?;
             Ok(Finding::Good)
@@ -161,12 +161,12 @@ fn text_of(
     asked: &Reading<'_>,
     writer: &Schema,
     reader: Option<&ReaderText>,
-    data: &[u8],
+    bytes: &[u8],
 ) -> Result<Vec<u8>, ReadResolveError>
     ensures read { IfOk result (λ text. IsDatumTold (schema_nodes writer.now) (option_map (λ t. schema_nodes t.1) (option_copied reader.entry)) datum_limits
-        asked.now.form asked.now.skip data.now text.items) }
+        asked.now.form asked.now.skip bytes.now text.items) }
     ensures refused { IfErr result (λ e. IfSome (fault_found e) (IsAllFound (schema_nodes writer.now) (option_map (λ t. schema_nodes t.1) (option_copied reader.entry))
-        datum_limits asked.now.skip data.now)) }
+        datum_limits asked.now.skip bytes.now)) }
 {
     let reader = match reader {
         Some(reader) => Some(reader.schema()),
@@ -177,7 +177,7 @@ fn text_of(
         alloc,
         writer,
         reader,
-        data,
+        bytes,
         skip,
         &Limits::default(),
         asked.form,
