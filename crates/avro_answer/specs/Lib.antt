@@ -16,3 +16,4 @@ pub mod DataRead
 pub mod ReadHeadline
 pub mod ReadsAnswer
 pub mod inside
+pub mod DataPut

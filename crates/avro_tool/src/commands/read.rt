@@ -4,10 +4,10 @@ use crate::Finding;
 use crate::failure::Failure;
 use crate::files::container::open_file;
 use crate::files::schema::{read_reader, read_schema_file};
-use crate::printing::print_bytes;
 use crate::request::Reading;
-use avro_answer::read_schemas;
+use avro_answer::{DataError, DataPlan};
 use avro_binary::{Nothing, ReadError, read_own};
+use avro_device::WriteOutput;
 use avro_resolve::ReadResolveError;
 use avro_schema::{Limits, Memory, Schema};
 use avro_schema_json::ReaderText;
@@ -56,11 +56,31 @@ fn read_for<'a, R: Files + AllocGlobal, O: Write>(
     let bytes = take_datum(rt, asked, writer, most)?;
     let is_cut = bytes.len() > most;
     let data = &bytes[..bytes.len().min(most)];
-    match text_of(rt.alloc(), asked, writer, reader, data) {
-        Ok(text) => print_bytes(out, &text)?,
-        Err(error) => return Err(Failure::of_data(asked.data, told_of(error, is_cut))),
+    let reader = match reader {
+        Some(reader) => Some(reader.schema()),
+        None => None,
+    };
+    let plan = DataPlan::new(rt.alloc(), writer, reader)?;
+    match put_datum(rt.alloc(), asked, &plan, data, out) {
+        Ok(()) => Ok(Finding::Good),
+        Err(DataError::Refused(error)) => {
+            Err(Failure::of_data(asked.data, told_of(error, is_cut)))
+        }
+        Err(DataError::Put(error)) => Err(Failure::from(error)),
     }
-    Ok(Finding::Good)
+}
+
+/// Puts the text of the datum in data.
+fn put_datum<O: Write>(
+    alloc: Global,
+    asked: &Reading<'_>,
+    plan: &DataPlan<'_>,
+    data: &[u8],
+    out: &mut O,
+) -> Result<(), DataError> {
+    let mut out = WriteOutput::new(out);
+    let skip = asked.skip as usize;
+    plan.put(&mut out, alloc, data, skip, &Limits::default(), asked.form)
 }
 
 /// The bytes of a file up to the end of its datum at least, or up to its end, or more than some. They are walked over after each
@@ -124,30 +144,6 @@ fn is_whole(
         Err(ReadError::OutOfMemory) => Err(Memory),
         _ => Ok(true),
     }
-}
-
-/// The text of the datum in data.
-fn text_of(
-    alloc: Global,
-    asked: &Reading<'_>,
-    writer: &Schema,
-    reader: Option<&ReaderText>,
-    data: &[u8],
-) -> Result<Vec<u8>, ReadResolveError> {
-    let reader = match reader {
-        Some(reader) => Some(reader.schema()),
-        None => None,
-    };
-    let skip = asked.skip as usize;
-    read_schemas(
-        alloc,
-        writer,
-        reader,
-        data,
-        skip,
-        &Limits::default(),
-        asked.form,
-    )
 }
 
 /// The error of data that may have been cut: where these end in the datum, a limit is exceeded.
