@@ -5,12 +5,13 @@ use crate::failure::Failure;
 use crate::files::container::open_file;
 use crate::files::schema::{read_reader, read_schema_file};
 use crate::request::Reading;
-use avro_answer::{DataError, DataPlan};
+use avro_answer::{DataError, DataPlan, behind};
 use avro_binary::{Nothing, ReadError, read_own};
 use avro_device::WriteOutput;
 use avro_resolve::ReadResolveError;
 use avro_schema::{Limits, Memory, Schema};
 use avro_schema_json::ReaderText;
+use avro_show::Room;
 use std::alloc::Global;
 use std::io;
 use std::io::{BufRead, Write};
@@ -78,9 +79,9 @@ fn put_datum<O: Write>(
     data: &[u8],
     out: &mut O,
 ) -> Result<(), DataError> {
-    let mut out = WriteOutput::new(out);
-    let skip = asked.skip as usize;
-    plan.put(&mut out, alloc, data, skip, &Limits::default(), asked.form)
+    let data = behind(data, asked.skip as usize)?;
+    let (mut out, mut room) = (WriteOutput::new(out), Room::new(alloc));
+    plan.put(&mut out, alloc, data, &Limits::default(), asked.form, &mut room)
 }
 
 /// The bytes of a file up to the end of its datum at least, or up to its end, or more than some. They are walked over after each
