@@ -27,7 +27,7 @@ HELP = "help"
 # What stands for the program without a command.
 NONE = ""
 
-CONSTANT = re.compile(r"^const (\w+): [^=]*=\s(.*?);$", re.MULTILINE | re.DOTALL)
+CONSTANT = re.compile(r"^(?:const|static) (\w+): [^=]*=\s(.*?);$", re.MULTILINE | re.DOTALL)
 # An argument or a command where it is written, or the name of the constant that has it.
 ARGUMENT = re.compile(r'\(\s*"([\w-]+)",\s*Takes::(\w+)(?:\("([^"]*)"\))?,\s*"[^"]*",?\s*\)|\b([A-Z_]+)\b')
 COMMAND = re.compile(r'\(\s*"(\w+)",\s*"([^"]*)",\s*&(\w+),?\s*\)|\b([A-Z_]+)\b')
@@ -61,7 +61,7 @@ class Source:
         self.text = text
         self.items = dict(CONSTANT.findall(text))
         self.values = dict(TAKEN.findall(text))
-        known = len(re.findall(r"^const ", text, re.MULTILINE))
+        known = len(re.findall(r"^(?:const|static) ", text, re.MULTILINE))
         if known != len(self.items):
             sys.exit(f"{GRAMMAR}: {len(self.items)} of {known} constants can be read")
 
