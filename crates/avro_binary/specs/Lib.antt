@@ -1,6 +1,7 @@
 pub mod Encoded
 pub mod Growing
 pub mod IntoBranch
+pub mod LeafValue
 pub mod Making
 pub mod Outputs
 pub mod Pieces

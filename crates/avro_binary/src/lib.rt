@@ -35,6 +35,7 @@
 mod build;
 mod encode_error;
 pub mod laws;
+mod leaf;
 mod leaves;
 mod make;
 mod nothing;
@@ -51,6 +52,7 @@ mod write;
 pub use avro_cursor::{Block, Cursor, Keys, ReadError};
 pub use build::Build;
 pub use encode_error::EncodeError;
+pub use leaf::Leaf;
 pub use make::Make;
 pub use nothing::Nothing;
 pub use pieces::{Pieces, piece_of};

@@ -5,8 +5,10 @@ ghost use Rattle.avro_schema.specs.Fits.{fields_fit, fits};
 ghost use Rattle.avro_schema.specs.Node.{Node, FieldNode, node_at, field_ids};
 ghost use Rattle.avro_schema.specs.Seen.{values_from, entries_from};
 ghost use Rattle.avro_schema.specs.Value.{Value};
+ghost use Rattle.avro_binary.specs.LeafValue.{leaf_value};
 ghost use Rattle.avro_binary.specs.Pieces.{ArePieces};
 
+use crate::leaf::Leaf;
 use std::alloc::{AllocError, Global};
 
 /// What is made from a datum of a node that is read, and from each of its parts, where the maker says what each part is for.
@@ -84,63 +86,16 @@ pub trait Make {
         ensures stands { (nodes : List Node) (name : Name) (aliases : List Name) (fs : List FieldNode) (vs : List Value) → ArePieces vs bytes.now ends.items
             → fields_fit nodes (field_ids fs) (values_from vs) ≡ true → IfOk result (λ o. IfSome o (λ out. stands_for self.new nodes (Node.record_of name aliases fs) at out (Value.record_of (values_from vs)))) };
 
-    /// Makes null.
-    fn null(&mut self, alloc: Global, at: Self::At) -> Result<Self::Out, AllocError>
-        ensures kept { OnOk result (keeps self.old self.new) }
-        ensures stays { (front : List ℕ) → begins self.old front → begins self.new front }
-        ensures stands { (nodes : List Node) → IfOk result (λ out. stands_for self.new nodes Node.null at out Value.null) };
-
-    /// Makes a boolean.
-    fn boolean(&mut self, alloc: Global, at: Self::At, value: bool) -> Result<Self::Out, AllocError>
-        ensures kept { OnOk result (keeps self.old self.new) }
-        ensures stays { (front : List ℕ) → begins self.old front → begins self.new front }
-        ensures stands { (nodes : List Node) → IfOk result (λ out. stands_for self.new nodes Node.boolean at out (Value.boolean value)) };
-
-    /// Makes an int.
-    fn int(&mut self, alloc: Global, at: Self::At, value: i32) -> Result<Self::Out, AllocError>
-        ensures kept { OnOk result (keeps self.old self.new) }
-        ensures stays { (front : List ℕ) → begins self.old front → begins self.new front }
-        ensures stands { (nodes : List Node) → IfOk result (λ out. stands_for self.new nodes Node.int at out (Value.int value)) };
-
-    /// Makes a long.
-    fn long(&mut self, alloc: Global, at: Self::At, value: i64) -> Result<Self::Out, AllocError>
-        ensures kept { OnOk result (keeps self.old self.new) }
-        ensures stays { (front : List ℕ) → begins self.old front → begins self.new front }
-        ensures stands { (nodes : List Node) → IfOk result (λ out. stands_for self.new nodes Node.long at out (Value.long value)) };
-
-    /// Makes bytes.
-    fn bytes(
+    /// Makes a datum without parts.
+    fn leaf(
         &mut self,
         alloc: Global,
         at: Self::At,
-        content: &[u8],
+        leaf: Leaf<'_>,
     ) -> Result<Self::Out, AllocError>
         ensures kept { OnOk result (keeps self.old self.new) }
         ensures stays { (front : List ℕ) → begins self.old front → begins self.new front }
-        ensures stands { (nodes : List Node) → IfOk result (λ out. stands_for self.new nodes Node.bytes at out (Value.bytes content.now)) };
-
-    /// Makes a string.
-    fn string(&mut self, alloc: Global, at: Self::At, text: &str) -> Result<Self::Out, AllocError>
-        ensures kept { OnOk result (keeps self.old self.new) }
-        ensures stays { (front : List ℕ) → begins self.old front → begins self.new front }
-        ensures stands { (nodes : List Node) → IfOk result (λ out. stands_for self.new nodes Node.string at out (Value.string text.now)) };
-
-    /// Makes a fixed.
-    fn fixed(
-        &mut self,
-        alloc: Global,
-        at: Self::At,
-        content: &[u8],
-    ) -> Result<Self::Out, AllocError>
-        ensures kept { OnOk result (keeps self.old self.new) }
-        ensures stays { (front : List ℕ) → begins self.old front → begins self.new front }
-        ensures stands { (nodes : List Node) (name : Name) (aliases : List Name) (size : ℕ) → IfOk result (λ out. stands_for self.new nodes (Node.fixed name aliases size) at out (Value.fixed content.now)) };
-
-    /// Makes an enum from the index of its symbol.
-    fn symbol(&mut self, alloc: Global, at: Self::At, index: u32) -> Result<Self::Out, AllocError>
-        ensures kept { OnOk result (keeps self.old self.new) }
-        ensures stays { (front : List ℕ) → begins self.old front → begins self.new front }
-        ensures stands { (nodes : List Node) (name : Name) (aliases : List Name) (texts : List (List ℕ)) (default : Option ℕ) → index < length texts → IfOk result (λ out. stands_for self.new nodes (Node.enum name aliases texts default) at out (Value.enum index)) };
+        ensures stands { (nodes : List Node) (n : Node) → fits nodes n (leaf_value leaf.entry) ≡ true → IfOk result (λ out. stands_for self.new nodes n at out (leaf_value leaf.entry)) };
 
     /// What the value of a branch is for.
     fn branch_at(&self, at: Self::At, branch: u32) -> Self::At

@@ -4,7 +4,9 @@ ghost use Rattle.avro_schema.specs.Seen.{values_from, entries_from, value_of};
 ghost use Rattle.avro_schema.specs.Value.{Value};
 ghost use Rattle.avro_cursor.specs.Encoding.{plain};
 ghost use Rattle.avro_binary.specs.IntoBranch.{in_branch};
+ghost use Rattle.avro_binary.specs.LeafValue.{leaf_value};
 
+use crate::leaf::Leaf;
 use avro_schema::Datum;
 use std::alloc::{AllocError, Global};
 
@@ -50,83 +52,16 @@ pub trait Put {
         ensures stays { (front : List ℕ) → begins self.old front → begins self.new front }
         ensures stands { (v : Value) → is_empty v ≡ true → IfOk result (λ o. IfSome o (λ out. stands_for self.new out (in_branch into v))) };
 
-    /// Makes null.
-    fn null(&mut self, alloc: Global, into: Option<u32>) -> Result<Self::Out, AllocError>
-        ensures kept { OnOk result (keeps self.old self.new) }
-        ensures stays { (front : List ℕ) → begins self.old front → begins self.new front }
-        ensures stands { IfOk result (λ out. stands_for self.new out (in_branch into Value.null)) };
-
-    /// Makes a boolean.
-    fn boolean(
+    /// Makes a datum without parts.
+    fn leaf(
         &mut self,
         alloc: Global,
         into: Option<u32>,
-        value: bool,
+        leaf: Leaf<'_>,
     ) -> Result<Self::Out, AllocError>
         ensures kept { OnOk result (keeps self.old self.new) }
         ensures stays { (front : List ℕ) → begins self.old front → begins self.new front }
-        ensures stands { IfOk result (λ out. stands_for self.new out (in_branch into (Value.boolean value))) };
-
-    /// Makes an int.
-    fn int(&mut self, alloc: Global, into: Option<u32>, value: i32) -> Result<Self::Out, AllocError>
-        ensures kept { OnOk result (keeps self.old self.new) }
-        ensures stays { (front : List ℕ) → begins self.old front → begins self.new front }
-        ensures stands { IfOk result (λ out. stands_for self.new out (in_branch into (Value.int value))) };
-
-    /// Makes a long.
-    fn long(
-        &mut self,
-        alloc: Global,
-        into: Option<u32>,
-        value: i64,
-    ) -> Result<Self::Out, AllocError>
-        ensures kept { OnOk result (keeps self.old self.new) }
-        ensures stays { (front : List ℕ) → begins self.old front → begins self.new front }
-        ensures stands { IfOk result (λ out. stands_for self.new out (in_branch into (Value.long value))) };
-
-    /// Makes bytes.
-    fn bytes(
-        &mut self,
-        alloc: Global,
-        into: Option<u32>,
-        content: &[u8],
-    ) -> Result<Self::Out, AllocError>
-        ensures kept { OnOk result (keeps self.old self.new) }
-        ensures stays { (front : List ℕ) → begins self.old front → begins self.new front }
-        ensures stands { IfOk result (λ out. stands_for self.new out (in_branch into (Value.bytes content.now))) };
-
-    /// Makes a string.
-    fn string(
-        &mut self,
-        alloc: Global,
-        into: Option<u32>,
-        text: &str,
-    ) -> Result<Self::Out, AllocError>
-        ensures kept { OnOk result (keeps self.old self.new) }
-        ensures stays { (front : List ℕ) → begins self.old front → begins self.new front }
-        ensures stands { IfOk result (λ out. stands_for self.new out (in_branch into (Value.string text.now))) };
-
-    /// Makes a fixed.
-    fn fixed(
-        &mut self,
-        alloc: Global,
-        into: Option<u32>,
-        content: &[u8],
-    ) -> Result<Self::Out, AllocError>
-        ensures kept { OnOk result (keeps self.old self.new) }
-        ensures stays { (front : List ℕ) → begins self.old front → begins self.new front }
-        ensures stands { IfOk result (λ out. stands_for self.new out (in_branch into (Value.fixed content.now))) };
-
-    /// Makes an enum from the index of its symbol.
-    fn symbol(
-        &mut self,
-        alloc: Global,
-        into: Option<u32>,
-        index: u32,
-    ) -> Result<Self::Out, AllocError>
-        ensures kept { OnOk result (keeps self.old self.new) }
-        ensures stays { (front : List ℕ) → begins self.old front → begins self.new front }
-        ensures stands { IfOk result (λ out. stands_for self.new out (in_branch into (Value.enum index))) };
+        ensures stands { IfOk result (λ out. stands_for self.new out (in_branch into (leaf_value leaf.entry))) };
 
     /// Makes a union from the index of its branch and what was made of its value.
     fn branch(

@@ -1,5 +1,6 @@
 //! Whatever puts data makes them as they are read.
 
+use crate::leaf::Leaf;
 use crate::make::Make;
 use crate::put::Put;
 use std::alloc::{AllocError, Global};
@@ -81,58 +82,13 @@ impl<P: Put> Make for P {
     }
 
     #[inline(always)]
-    fn null(&mut self, alloc: Global, at: Option<u32>) -> Result<P::Out, AllocError> {
-        Put::null(self, alloc, at)
-    }
-
-    #[inline(always)]
-    fn boolean(
+    fn leaf(
         &mut self,
         alloc: Global,
         at: Option<u32>,
-        value: bool,
+        leaf: Leaf<'_>,
     ) -> Result<P::Out, AllocError> {
-        Put::boolean(self, alloc, at, value)
-    }
-
-    #[inline(always)]
-    fn int(&mut self, alloc: Global, at: Option<u32>, value: i32) -> Result<P::Out, AllocError> {
-        Put::int(self, alloc, at, value)
-    }
-
-    #[inline(always)]
-    fn long(&mut self, alloc: Global, at: Option<u32>, value: i64) -> Result<P::Out, AllocError> {
-        Put::long(self, alloc, at, value)
-    }
-
-    #[inline(always)]
-    fn bytes(
-        &mut self,
-        alloc: Global,
-        at: Option<u32>,
-        content: &[u8],
-    ) -> Result<P::Out, AllocError> {
-        Put::bytes(self, alloc, at, content)
-    }
-
-    #[inline(always)]
-    fn string(&mut self, alloc: Global, at: Option<u32>, text: &str) -> Result<P::Out, AllocError> {
-        Put::string(self, alloc, at, text)
-    }
-
-    #[inline(always)]
-    fn fixed(
-        &mut self,
-        alloc: Global,
-        at: Option<u32>,
-        content: &[u8],
-    ) -> Result<P::Out, AllocError> {
-        Put::fixed(self, alloc, at, content)
-    }
-
-    #[inline(always)]
-    fn symbol(&mut self, alloc: Global, at: Option<u32>, index: u32) -> Result<P::Out, AllocError> {
-        Put::symbol(self, alloc, at, index)
+        Put::leaf(self, alloc, at, leaf)
     }
 
     #[inline(always)]

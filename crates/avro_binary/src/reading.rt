@@ -13,9 +13,7 @@ mod maps;
 mod pieces;
 mod records;
 
-use crate::leaves::{
-    read_boolean, read_bytes, read_fixed, read_int, read_long, read_null, read_symbol, read_text,
-};
+use crate::leaves::read_leaf;
 use crate::make::Make;
 use crate::reading::fields::read_parts;
 use crate::reading::maps::read_map;
@@ -43,22 +41,15 @@ pub fn read_at<M: Make>(
     ensures reads { ReadsNode (Made M.keeps (λ m. M.stands_for m (schema_nodes schema.now) (node_at (schema_nodes schema.now) id.0) at) maker.old maker.new) (schema_nodes schema.now) (node_at (schema_nodes schema.now) id.0) cursor.old cursor.new result }
     ensures stays { (front : List ℕ) → M.begins maker.old front → M.begins maker.new front }
 {
-    if !schema.has(id) {
-        return read_null(alloc, cursor, maker, at);
-    }
-    match schema.node(id) {
-        Node::Null => read_null(alloc, cursor, maker, at),
-        Node::Boolean => read_boolean(alloc, cursor, maker, at),
-        Node::Int => read_int(alloc, cursor, maker, at),
-        Node::Long => read_long(alloc, cursor, maker, at),
-        Node::Bytes => read_bytes(alloc, cursor, maker, at),
-        Node::Str => read_text(alloc, cursor, maker, at),
+    match schema.get(id) {
         Node::Array(items) => read_array(alloc, schema, *items, cursor, maker, at),
         Node::Map(values) => read_map(alloc, schema, *values, cursor, maker, at),
         Node::Union(branches) => read_union(alloc, schema, branches, cursor, maker, at),
         Node::Record(record) => read_record(alloc, schema, id, &record.fields, cursor, maker, at),
-        Node::Enum(enumeration) => read_symbol(alloc, enumeration.symbols.len(), cursor, maker, at),
-        Node::Fixed(fixed) => read_fixed(alloc, fixed.size, cursor, maker, at),
+        node => {
+            let leaf = read_leaf(node, cursor)?;
+            Ok(maker.leaf(alloc, at, leaf)?)
+        }
     }
 }
 

@@ -1,4 +1,8 @@
+ghost use Rattle.std.specs.Prelude.{IfOk};
+ghost use Rattle.avro_binary.specs.LeafValue.{leaf_value};
+
 use crate::build::Build;
+use crate::leaf::Leaf;
 use crate::put::Put;
 use avro_schema::Datum;
 use std::alloc::{AllocError, Global};
@@ -30,6 +34,27 @@ impl<'b, B: Build> Wrapping<'b, B> {
             None => Ok(out),
             Some(branch) => self.builder.branch(alloc, branch, out),
         }
+    }
+}
+
+/// Builds a datum without parts.
+#[inline(always)]
+fn build_leaf<B: Build>(
+    alloc: Global,
+    builder: &mut B,
+    leaf: Leaf<'_>,
+) -> Result<B::Out, AllocError>
+    ensures { IfOk result (λ out. B.stands_for out (leaf_value leaf.entry)) }
+{
+    match leaf {
+        Leaf::Null => builder.null(alloc),
+        Leaf::Boolean(value) => builder.boolean(alloc, value),
+        Leaf::Int(value) => builder.int(alloc, value),
+        Leaf::Long(value) => builder.long(alloc, value),
+        Leaf::Bytes(content) => builder.bytes(alloc, content),
+        Leaf::Text(text) => builder.string(alloc, text),
+        Leaf::Fixed(content) => builder.fixed(alloc, content),
+        Leaf::Symbol(index) => builder.symbol(alloc, index),
     }
 }
 
@@ -76,68 +101,14 @@ impl<'b, B: Build> Put for Wrapping<'b, B> {
         Ok(None)
     }
 
-    fn null(&mut self, alloc: Global, into: Option<u32>) -> Result<B::Out, AllocError> {
-        let out = self.builder.null(alloc)?;
-        self.wrap(alloc, into, out)
-    }
-
-    fn boolean(
+    #[inline(always)]
+    fn leaf(
         &mut self,
         alloc: Global,
         into: Option<u32>,
-        value: bool,
+        leaf: Leaf<'_>,
     ) -> Result<B::Out, AllocError> {
-        let out = self.builder.boolean(alloc, value)?;
-        self.wrap(alloc, into, out)
-    }
-
-    fn int(&mut self, alloc: Global, into: Option<u32>, value: i32) -> Result<B::Out, AllocError> {
-        let out = self.builder.int(alloc, value)?;
-        self.wrap(alloc, into, out)
-    }
-
-    fn long(&mut self, alloc: Global, into: Option<u32>, value: i64) -> Result<B::Out, AllocError> {
-        let out = self.builder.long(alloc, value)?;
-        self.wrap(alloc, into, out)
-    }
-
-    fn bytes(
-        &mut self,
-        alloc: Global,
-        into: Option<u32>,
-        content: &[u8],
-    ) -> Result<B::Out, AllocError> {
-        let out = self.builder.bytes(alloc, content)?;
-        self.wrap(alloc, into, out)
-    }
-
-    fn string(
-        &mut self,
-        alloc: Global,
-        into: Option<u32>,
-        text: &str,
-    ) -> Result<B::Out, AllocError> {
-        let out = self.builder.string(alloc, text)?;
-        self.wrap(alloc, into, out)
-    }
-
-    fn fixed(
-        &mut self,
-        alloc: Global,
-        into: Option<u32>,
-        content: &[u8],
-    ) -> Result<B::Out, AllocError> {
-        let out = self.builder.fixed(alloc, content)?;
-        self.wrap(alloc, into, out)
-    }
-
-    fn symbol(
-        &mut self,
-        alloc: Global,
-        into: Option<u32>,
-        index: u32,
-    ) -> Result<B::Out, AllocError> {
-        let out = self.builder.symbol(alloc, index)?;
+        let out = build_leaf(alloc, self.builder, leaf)?;
         self.wrap(alloc, into, out)
     }
 

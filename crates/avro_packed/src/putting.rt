@@ -3,19 +3,19 @@
 use crate::appending::Appending;
 use crate::gathered::Gathered;
 use crate::moving::{is_nothing, join, join_key, join_near};
-use crate::numbers::append_byte;
 use crate::spares::{ends, give_ends, give_slots, slots};
 use crate::written::Written;
-use avro_binary::{Put, append_plain};
+use avro_binary::{Leaf, Put, append_plain};
 use avro_schema::Datum;
 use std::alloc::{AllocError, Global};
 
 impl Appending {
-    ghost use Rattle.std.specs.Prelude.{IfOk, OnOk};
+    ghost use Rattle.std.specs.Prelude.{◌++◌, ℕ, List, IfOk, OnOk};
     ghost use Rattle.avro_schema.specs.Seen.{value_of};
     ghost use Rattle.avro_cursor.specs.Encoding.{plain};
     ghost use Rattle.avro_zigzag.specs.Number.{number_bytes};
-    ghost use Rattle.avro_packed.specs.Appended.{Holds, Keeps};
+    ghost use Rattle.avro_binary.specs.Outputs.{Grows};
+    ghost use Rattle.avro_packed.specs.Appended.{Holds, Keeps, branch_bytes};
 
     /// Writes an int at hand.
     #[inline(always)]
@@ -47,11 +47,12 @@ impl Appending {
 
     /// Writes bytes at hand.
     #[inline(always)]
-    fn copy_of(&mut self, content: &[u8]) -> Result<Written, AllocError>
+    fn copy_of(&mut self, branch: Option<u32>, content: &[u8]) -> Result<Written, AllocError>
         ensures kept { OnOk result (Keeps self.old self.new) }
-        ensures holds { IfOk result (λ out. Holds self.new.bytes out content.now) }
+        ensures holds { IfOk result (λ out. Holds self.new.bytes out (branch_bytes branch ++ content.now)) }
+        ensures stays { (front : List ℕ) → Grows front self.old.bytes → Grows front self.new.bytes }
     {
-        let start = self.out.len();
+        let start = self.begin(branch)?;
         self.out.extend_from_slice(content)?;
         Ok(self.since(start))
     }
@@ -105,90 +106,22 @@ impl Put for Appending {
 
     #[inline(always)]
     #[tactic(auto, using(crate::proofs::IntoBranches::holds_in))]
-    fn null(&mut self, _alloc: Global, into: Option<u32>) -> Result<Written, AllocError> {
-        let start = self.begin(into)?;
-        Ok(self.since(start))
-    }
-
-    #[inline(always)]
-    #[tactic(auto, using(crate::proofs::IntoBranches::holds_in))]
-    fn boolean(
+    fn leaf(
         &mut self,
         _alloc: Global,
         into: Option<u32>,
-        value: bool,
+        leaf: Leaf<'_>,
     ) -> Result<Written, AllocError> {
-        let start = self.begin(into)?;
-        append_byte(u8::from(value), &mut self.out)?;
-        Ok(self.since(start))
-    }
-
-    #[inline(always)]
-    #[tactic(auto, using(crate::proofs::IntoBranches::holds_in))]
-    fn int(
-        &mut self,
-        _alloc: Global,
-        into: Option<u32>,
-        value: i32,
-    ) -> Result<Written, AllocError> {
-        self.number(into, i64::from(value))
-    }
-
-    #[inline(always)]
-    #[tactic(auto, using(crate::proofs::IntoBranches::holds_in))]
-    fn long(
-        &mut self,
-        _alloc: Global,
-        into: Option<u32>,
-        value: i64,
-    ) -> Result<Written, AllocError> {
-        self.number(into, value)
-    }
-
-    #[inline(always)]
-    #[tactic(auto, using(crate::proofs::IntoBranches::holds_in))]
-    fn bytes(
-        &mut self,
-        _alloc: Global,
-        into: Option<u32>,
-        content: &[u8],
-    ) -> Result<Written, AllocError> {
-        self.measured(into, content)
-    }
-
-    #[inline(always)]
-    #[tactic(auto, using(crate::proofs::IntoBranches::holds_in))]
-    fn string(
-        &mut self,
-        _alloc: Global,
-        into: Option<u32>,
-        text: &str,
-    ) -> Result<Written, AllocError> {
-        self.measured(into, text.as_bytes())
-    }
-
-    #[inline(always)]
-    #[tactic(auto, using(crate::proofs::IntoBranches::holds_in))]
-    fn fixed(
-        &mut self,
-        _alloc: Global,
-        into: Option<u32>,
-        content: &[u8],
-    ) -> Result<Written, AllocError> {
-        let start = self.begin(into)?;
-        self.out.extend_from_slice(content)?;
-        Ok(self.since(start))
-    }
-
-    #[inline(always)]
-    #[tactic(auto, using(crate::proofs::IntoBranches::holds_in))]
-    fn symbol(
-        &mut self,
-        _alloc: Global,
-        into: Option<u32>,
-        index: u32,
-    ) -> Result<Written, AllocError> {
-        self.number(into, i64::from(index))
+        match leaf {
+            Leaf::Null => self.copy_of(into, &[]),
+            Leaf::Boolean(value) => self.copy_of(into, &[u8::from(value)]),
+            Leaf::Int(value) => self.number(into, i64::from(value)),
+            Leaf::Long(value) => self.number(into, value),
+            Leaf::Bytes(content) => self.measured(into, content),
+            Leaf::Text(text) => self.measured(into, text.as_bytes()),
+            Leaf::Fixed(content) => self.copy_of(into, content),
+            Leaf::Symbol(index) => self.number(into, i64::from(index)),
+        }
     }
 
     #[inline(always)]
@@ -210,7 +143,7 @@ impl Put for Appending {
 
     #[inline(always)]
     fn copied(&mut self, _alloc: Global, content: &[u8]) -> Result<Option<Written>, AllocError> {
-        let copied = self.copy_of(content)?;
+        let copied = self.copy_of(None, content)?;
         Ok(Some(copied))
     }
 
@@ -293,10 +226,10 @@ impl Put for Appending {
     }
 
     #[inline(always)]
-    fn fields(&mut self, alloc: Global, into: Option<u32>) -> Result<Written, AllocError> {
+    fn fields(&mut self, _alloc: Global, into: Option<u32>) -> Result<Written, AllocError> {
         match into {
             None => Ok(self.here()),
-            Some(_) => self.null(alloc, into),
+            Some(_) => self.copy_of(into, &[]),
         }
     }
 

@@ -6,7 +6,7 @@ ghost use Rattle.avro_schema.specs.Node.{Node};
 ghost use Rattle.avro_schema.specs.Seen.{value_of, values_of as values_seen, entries_of as entries_seen};
 ghost use Rattle.avro_schema.specs.Value.{Value};
 
-use avro_binary::Make;
+use avro_binary::{Leaf, Make};
 use avro_schema::Datum;
 use std::alloc::{AllocError, Global};
 
@@ -23,12 +23,12 @@ pub(crate) fn give<M: Make>(
         → IfOk result (λ out. M.stands_for maker.new nodes n at out (value_of datum.now)) }
 {
     match datum {
-        Datum::Null => maker.null(alloc, at),
-        Datum::Bool(value) => maker.boolean(alloc, at, *value),
-        Datum::Int(value) => maker.int(alloc, at, *value),
-        Datum::Long(value) => maker.long(alloc, at, *value),
-        Datum::Bytes(content) => maker.bytes(alloc, at, content),
-        Datum::Str(text) => maker.string(alloc, at, text),
+        Datum::Null => maker.leaf(alloc, at, Leaf::Null),
+        Datum::Bool(value) => maker.leaf(alloc, at, Leaf::Boolean(*value)),
+        Datum::Int(value) => maker.leaf(alloc, at, Leaf::Int(*value)),
+        Datum::Long(value) => maker.leaf(alloc, at, Leaf::Long(*value)),
+        Datum::Bytes(content) => maker.leaf(alloc, at, Leaf::Bytes(content)),
+        Datum::Str(text) => maker.leaf(alloc, at, Leaf::Text(text)),
         Datum::Array(items) => give_items(alloc, items, maker, at),
         Datum::Map(entries) => give_entries(alloc, entries, maker, at),
         Datum::Union(branch, value) => {
@@ -37,8 +37,8 @@ pub(crate) fn give<M: Make>(
             maker.branch(alloc, at, *branch, made)
         }
         Datum::Record(values) => give_fields(alloc, values, maker, at),
-        Datum::Enum(symbol) => maker.symbol(alloc, at, *symbol),
-        Datum::Fixed(content) => maker.fixed(alloc, at, content),
+        Datum::Enum(symbol) => maker.leaf(alloc, at, Leaf::Symbol(*symbol)),
+        Datum::Fixed(content) => maker.leaf(alloc, at, Leaf::Fixed(content)),
     }
 }
 

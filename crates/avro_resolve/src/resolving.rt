@@ -8,17 +8,17 @@ pub(crate) mod running;
 
 use crate::plan::plan_ref::PlanRef;
 use crate::resolving::copying::copy_record;
-use crate::resolving::failing::{fault_apart, step_apart};
+use crate::resolving::failing::step_apart;
 use crate::resolving::guided::{Filling, Made, Part, Run};
-use crate::resolving::making::{make_bytes, make_int, make_string, make_symbol};
+use crate::resolving::making::make_leaf;
 use crate::resolving::recording::{
     fill_next, make_record, next_field_part, skip_fields, start_filling,
 };
 use crate::resolving::running::{
     make_array, make_map, next_part, put_entry, put_item, repeat_item, start_entries, start_items,
 };
-use avro_binary::{Make, Put};
-use avro_compare::{Aim, At};
+use avro_binary::{Leaf, Make, Put};
+use avro_compare::At;
 use std::alloc::{AllocError, Global};
 
 /// Makes each part of a writer's datum as what it is for a reader, by a plan and a builder. A part
@@ -135,128 +135,13 @@ impl<'p, 'a, 'b, P: Put> Make for Resolving<'p, 'a, 'b, P> {
     }
 
     #[inline(never)]
-    fn null(&mut self, alloc: Global, at: Part) -> Result<Made<P::Out>, AllocError> {
-        match at.at {
-            At::Ignored => Ok(Made::Nothing),
-            At::Pair(w, r) => match self.plan.aim(self.plan.index_of(at), w, r) {
-                Aim::Fault(kind) => Ok(Made::Faulty(fault_apart(alloc, kind)?)),
-                Aim::To(branch, _) => {
-                    let out = self.builder.null(alloc, branch)?;
-                    Ok(Made::Good(out))
-                }
-            },
-        }
-    }
-
-    #[inline(never)]
-    fn boolean(
+    fn leaf(
         &mut self,
         alloc: Global,
         at: Part,
-        value: bool,
+        leaf: Leaf<'_>,
     ) -> Result<Made<P::Out>, AllocError> {
-        match at.at {
-            At::Ignored => Ok(Made::Nothing),
-            At::Pair(w, r) => match self.plan.aim(self.plan.index_of(at), w, r) {
-                Aim::Fault(kind) => Ok(Made::Faulty(fault_apart(alloc, kind)?)),
-                Aim::To(branch, _) => {
-                    let out = self.builder.boolean(alloc, branch, value)?;
-                    Ok(Made::Good(out))
-                }
-            },
-        }
-    }
-
-    #[inline(never)]
-    fn int(&mut self, alloc: Global, at: Part, value: i32) -> Result<Made<P::Out>, AllocError> {
-        match at.at {
-            At::Ignored => Ok(Made::Nothing),
-            At::Pair(w, r) => match self.plan.aim(self.plan.index_of(at), w, r) {
-                Aim::Fault(kind) => Ok(Made::Faulty(fault_apart(alloc, kind)?)),
-                Aim::To(branch, q) => {
-                    make_int(alloc, self.builder, self.plan.reader(), branch, q, value)
-                }
-            },
-        }
-    }
-
-    #[inline(always)]
-    fn long(&mut self, alloc: Global, at: Part, value: i64) -> Result<Made<P::Out>, AllocError> {
-        match at.at {
-            At::Ignored => Ok(Made::Nothing),
-            At::Pair(w, r) => match self.plan.aim(self.plan.index_of(at), w, r) {
-                Aim::Fault(kind) => Ok(Made::Faulty(fault_apart(alloc, kind)?)),
-                Aim::To(branch, _) => {
-                    let out = self.builder.long(alloc, branch, value)?;
-                    Ok(Made::Good(out))
-                }
-            },
-        }
-    }
-
-    #[inline(never)]
-    fn bytes(
-        &mut self,
-        alloc: Global,
-        at: Part,
-        content: &[u8],
-    ) -> Result<Made<P::Out>, AllocError> {
-        match at.at {
-            At::Ignored => Ok(Made::Nothing),
-            At::Pair(w, r) => match self.plan.aim(self.plan.index_of(at), w, r) {
-                Aim::Fault(kind) => Ok(Made::Faulty(fault_apart(alloc, kind)?)),
-                Aim::To(branch, q) => {
-                    make_bytes(alloc, self.builder, self.plan.reader(), branch, q, content)
-                }
-            },
-        }
-    }
-
-    #[inline(never)]
-    fn string(&mut self, alloc: Global, at: Part, text: &str) -> Result<Made<P::Out>, AllocError> {
-        match at.at {
-            At::Ignored => Ok(Made::Nothing),
-            At::Pair(w, r) => match self.plan.aim(self.plan.index_of(at), w, r) {
-                Aim::Fault(kind) => Ok(Made::Faulty(fault_apart(alloc, kind)?)),
-                Aim::To(branch, q) => {
-                    make_string(alloc, self.builder, self.plan.reader(), branch, q, text)
-                }
-            },
-        }
-    }
-
-    #[inline(never)]
-    fn fixed(
-        &mut self,
-        alloc: Global,
-        at: Part,
-        content: &[u8],
-    ) -> Result<Made<P::Out>, AllocError> {
-        match at.at {
-            At::Ignored => Ok(Made::Nothing),
-            At::Pair(w, r) => match self.plan.aim(self.plan.index_of(at), w, r) {
-                Aim::Fault(kind) => Ok(Made::Faulty(fault_apart(alloc, kind)?)),
-                Aim::To(branch, _) => {
-                    let out = self.builder.fixed(alloc, branch, content)?;
-                    Ok(Made::Good(out))
-                }
-            },
-        }
-    }
-
-    #[inline(never)]
-    fn symbol(&mut self, alloc: Global, at: Part, symbol: u32) -> Result<Made<P::Out>, AllocError> {
-        match at.at {
-            At::Ignored => Ok(Made::Nothing),
-            At::Pair(w, r) => match self.plan.aim(self.plan.index_of(at), w, r) {
-                Aim::Fault(kind) => Ok(Made::Faulty(fault_apart(alloc, kind)?)),
-                Aim::To(branch, q) => {
-                    let kept = self.plan.index_to(self.plan.index_of(at), branch);
-                    let symbol = self.plan.symbol(kept, w, symbol, q);
-                    make_symbol(alloc, self.builder, symbol, branch)
-                }
-            },
-        }
+        make_leaf(alloc, self.builder, self.plan, at, leaf)
     }
 
     fn branch_at(&self, at: Part, branch: u32) -> Part {

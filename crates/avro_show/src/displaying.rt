@@ -5,7 +5,7 @@ ghost use Rattle.avro_schema.specs.Seen.{seen_fields};
 
 use crate::room::Room;
 use crate::spans::{KeyedSpans, Span, Spans};
-use avro_binary::{Make, Pieces};
+use avro_binary::{Leaf, Make, Pieces};
 use avro_display::{DisplayTable, bool_text, node_fields, symbol_text};
 use avro_schema::{Field, NodeId};
 use std::alloc::{AllocError, Global};
@@ -133,52 +133,26 @@ impl<'a> Make for Displaying<'a> {
         Ok(Some(span))
     }
 
-    fn null(&mut self, _alloc: Global, _at: Option<u32>) -> Result<Span, AllocError> {
-        self.room.plain(b"null")
-    }
-
-    fn boolean(
+    #[inline(always)]
+    fn leaf(
         &mut self,
         _alloc: Global,
-        _at: Option<u32>,
-        value: bool,
+        at: Option<u32>,
+        leaf: Leaf<'_>,
     ) -> Result<Span, AllocError> {
-        self.room.plain(bool_text(value))
-    }
-
-    fn int(&mut self, _alloc: Global, _at: Option<u32>, value: i32) -> Result<Span, AllocError> {
-        self.room.number(i64::from(value))
-    }
-
-    fn long(&mut self, _alloc: Global, _at: Option<u32>, value: i64) -> Result<Span, AllocError> {
-        self.room.number(value)
-    }
-
-    fn bytes(
-        &mut self,
-        _alloc: Global,
-        _at: Option<u32>,
-        content: &[u8],
-    ) -> Result<Span, AllocError> {
-        self.room.characters(content)
-    }
-
-    fn string(&mut self, _alloc: Global, _at: Option<u32>, text: &str) -> Result<Span, AllocError> {
-        self.room.quoted(text)
-    }
-
-    fn fixed(
-        &mut self,
-        _alloc: Global,
-        _at: Option<u32>,
-        content: &[u8],
-    ) -> Result<Span, AllocError> {
-        self.room.characters(content)
-    }
-
-    fn symbol(&mut self, _alloc: Global, at: Option<u32>, index: u32) -> Result<Span, AllocError> {
         let table = self.table;
-        self.room.quoted(symbol_text(table.node(id_of(at)), index))
+        match leaf {
+            Leaf::Null => self.room.plain(b"null"),
+            Leaf::Boolean(value) => self.room.plain(bool_text(value)),
+            Leaf::Int(value) => self.room.number(i64::from(value)),
+            Leaf::Long(value) => self.room.number(value),
+            Leaf::Bytes(content) => self.room.characters(content),
+            Leaf::Text(text) => self.room.quoted(text),
+            Leaf::Fixed(content) => self.room.characters(content),
+            Leaf::Symbol(index) => {
+                self.room.quoted(symbol_text(table.node(id_of(at)), index))
+            }
+        }
     }
 
     fn branch_at(&self, at: Option<u32>, branch: u32) -> Option<u32> {

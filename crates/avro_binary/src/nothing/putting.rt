@@ -1,5 +1,6 @@
 //! What puts nothing.
 
+use crate::leaf::Leaf;
 use crate::nothing::Nothing;
 use crate::put::Put;
 use avro_schema::Datum;
@@ -46,59 +47,11 @@ impl Put for Nothing {
         Ok(Some(()))
     }
 
-    fn null(&mut self, _alloc: Global, _into: Option<u32>) -> Result<(), AllocError> {
-        Ok(())
-    }
-
-    fn boolean(
+    fn leaf(
         &mut self,
         _alloc: Global,
         _into: Option<u32>,
-        _value: bool,
-    ) -> Result<(), AllocError> {
-        Ok(())
-    }
-
-    fn int(&mut self, _alloc: Global, _into: Option<u32>, _value: i32) -> Result<(), AllocError> {
-        Ok(())
-    }
-
-    fn long(&mut self, _alloc: Global, _into: Option<u32>, _value: i64) -> Result<(), AllocError> {
-        Ok(())
-    }
-
-    fn bytes(
-        &mut self,
-        _alloc: Global,
-        _into: Option<u32>,
-        _content: &[u8],
-    ) -> Result<(), AllocError> {
-        Ok(())
-    }
-
-    fn string(
-        &mut self,
-        _alloc: Global,
-        _into: Option<u32>,
-        _text: &str,
-    ) -> Result<(), AllocError> {
-        Ok(())
-    }
-
-    fn fixed(
-        &mut self,
-        _alloc: Global,
-        _into: Option<u32>,
-        _content: &[u8],
-    ) -> Result<(), AllocError> {
-        Ok(())
-    }
-
-    fn symbol(
-        &mut self,
-        _alloc: Global,
-        _into: Option<u32>,
-        _index: u32,
+        _leaf: Leaf<'_>,
     ) -> Result<(), AllocError> {
         Ok(())
     }

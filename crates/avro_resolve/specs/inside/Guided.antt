@@ -4,13 +4,17 @@ use Rattle.avro_schema.specs.Value.{Value}
 use Rattle.avro_schema.specs.Node.{Node, FieldNode, node_at}
 use Rattle.avro_schema.specs.Seen.{values_from, entries_from}
 use Rattle.avro_schema.specs.declared.schema.NodeId.{NodeId}
-use Rattle.avro_compare.specs.Fault.{ResolutionFault}
+use Rattle.avro_binary.specs.LeafValue.{leaf_value}
+use Rattle.avro_binary.specs.declared.leaf.Leaf.{Leaf}
+use Rattle.avro_compare.specs.Fault.{ResolutionFault, fault_here}
+use Rattle.avro_compare.specs.Seen.{cause_of}
+use Rattle.avro_compare.specs.declared.error.FaultKind.{FaultKind}
 use Rattle.avro_resolve.specs.Ends.{turned, SlotsAre, AllBelow, values_before, entries_before, before}
 use denote.Ref.{Bor}
 use Rattle.avro_compare.specs.Entries.{first_entry}
 use Rattle.avro_compare.specs.Planned.{AreFor, AreForFrom, part_or_none}
 use Rattle.avro_compare.specs.Pairs.{IsAim, wrapped, item_id, value_id, branch_id, field_for}
-use Rattle.avro_compare.specs.Resolve.{Resolved, Sourced, resolve, resolve_items, resolve_entries, resolve_sources, fields_at, result_map, through}
+use Rattle.avro_compare.specs.Resolve.{Resolved, Sourced, bytes_as, enum_as, fields_at, int_as, resolve, resolve_entries, resolve_items, resolve_sources, result_map, string_as, symbol_at, through}
 use Rattle.avro_compare.specs.Source.{missing_field}
 use Rattle.avro_compare.specs.declared.comparison.Aim.TheVariants.{To}
 use Rattle.avro_compare.specs.declared.comparison.At.{At}
@@ -209,3 +213,18 @@ FillsAs S T writer reader nodes fs at fields vs =
 -- what was made is kept, and the two schemas are the same
 abbrev pub AreKept : Type 0 → List Node → List Node → List Node → List Node → Type 0
 AreKept kept a b c d = kept × ◌≡◌ {A = List Node × List Node} (a, b) (c, d)
+
+-- ---- Leaves
+
+-- what a writer's leaf is for a reader's node that its own node leads to
+abbrev pub leaf_as : Node → Value → Node → Resolved
+leaf_as w (Value.int i) q = int_as i q
+leaf_as w (Value.bytes b) q = bytes_as b q
+leaf_as w (Value.string t) q = string_as t q
+leaf_as w (Value.enum k) q = enum_as (symbol_at w k) q
+leaf_as w v q = Ok v
+
+-- a leaf is what resolution gives, or a fault is
+abbrev pub IsLeafFor : Resolved → Result Leaf FaultKind → Type 0
+IsLeafFor resolved (Ok leaf) = resolved ≡ Ok (leaf_value leaf)
+IsLeafFor resolved (Err kind) = resolved ≡ Err (fault_here (cause_of kind))

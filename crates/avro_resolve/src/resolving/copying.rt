@@ -17,7 +17,7 @@ ghost use Rattle.avro_resolve.specs.inside.Guided.{StandsAs};
 
 use crate::plan::plan_ref::PlanRef;
 use crate::resolving::guided::{Made, Part};
-use avro_binary::{Pieces, Put, piece_of};
+use avro_binary::{Leaf, Pieces, Put, piece_of};
 use avro_compare::{At, fields_of, first_entry, rest_entries};
 use avro_schema::{Field, Node, NodeId, Schema};
 use avro_zigzag::starts_shortest;
@@ -129,7 +129,7 @@ fn put_default<P: Put>(alloc: Global, builder: &mut P, f: &Field) -> Result<P::O
 {
     match &f.default {
         Some(datum) => builder.default(alloc, datum),
-        None => builder.null(alloc, None),
+        None => builder.leaf(alloc, None, Leaf::Null),
     }
 }
 

@@ -9,7 +9,7 @@ ghost use Rattle.avro_compare.specs.Planned.{AreSources, AreSourcesFrom};
 ghost use Rattle.avro_compare.specs.Source.{source_of};
 ghost use Rattle.avro_resolve.specs.Ends.{SlotsAre, SlotsFor, slot_out};
 
-use avro_binary::Put;
+use avro_binary::{Leaf, Put};
 use avro_compare::{first_entry, rest_entries, source_among};
 use avro_schema::Field;
 use std::alloc::{AllocError, Global};
@@ -92,11 +92,11 @@ fn value_of_field<P: Put>(
     match source {
         Some(index) => match taken(slots, index) {
             Some(out) => Ok(out),
-            None => builder.null(alloc, None),
+            None => builder.leaf(alloc, None, Leaf::Null),
         },
         None => match &f.default {
             Some(datum) => builder.default(alloc, datum),
-            None => builder.null(alloc, None),
+            None => builder.leaf(alloc, None, Leaf::Null),
         },
     }
 }

@@ -1,105 +1,72 @@
-ghost use Rattle.std.specs.Prelude.{IfOk, OnOk};
+//! What leaves are for a reader.
+
+ghost use Rattle.std.specs.Prelude.{◌≡◌, IfOk, List, OnOk, true};
+ghost use Rattle.avro_schema.specs.Fits.{fits};
 ghost use Rattle.avro_schema.specs.Node.{Node as SeenNode, node_at};
 ghost use Rattle.avro_schema.specs.SeenSchema.{schema_nodes};
-ghost use Rattle.avro_resolve.specs.inside.Guided.{MadeAs};
-ghost use Rattle.avro_compare.specs.Pairs.{IsSymbol, Tells, wrapped as in_branch};
-ghost use Rattle.avro_compare.specs.Resolve.{Resolved, bytes_as as kept_bytes, int_as as kept_int, string_as as kept_string};
+ghost use Rattle.avro_binary.specs.LeafValue.{leaf_value};
+ghost use Rattle.avro_resolve.specs.inside.Guided.{IsLeafFor, StandsAs, leaf_as};
+ghost use Rattle.avro_compare.specs.Pairs.{Tells};
 
+use crate::plan::plan_ref::PlanRef;
 use crate::resolving::failing::fault_apart;
-use crate::resolving::guided::Made;
-use avro_binary::Put;
-use avro_compare::FaultKind;
+use crate::resolving::guided::{Made, Part};
+use avro_binary::{Leaf, Put};
+use avro_compare::{Aim, At, FaultKind};
 use avro_cursor::text_of;
 use avro_schema::{Node, NodeId, Schema};
 use std::alloc::{AllocError, Global};
 
-/// What a reader's node takes of an int: a long where it is one.
+/// What is made of a writer's leaf.
 #[inline(always)]
-pub(crate) fn make_int<P: Put>(
+pub(crate) fn make_leaf<P: Put>(
     alloc: Global,
     builder: &mut P,
-    reader: &Schema,
-    branch: Option<u32>,
-    q: NodeId,
-    value: i32,
+    plan: &PlanRef<'_>,
+    part: Part,
+    leaf: Leaf<'_>,
 ) -> Result<Made<P::Out>, AllocError>
     ensures kept { OnOk result (P.keeps builder.old builder.new) }
-    ensures stands { IfOk result (λ made. MadeAs (P.stands_for builder.new) made (in_branch branch (kept_int value (node_at (schema_nodes reader.now) q.0)))) }
+    ensures stands { (nodes : List SeenNode) (n : SeenNode) → fits nodes n (leaf_value leaf.entry) ≡ true
+        → IfOk result (λ made. StandsAs (P.stands_for builder.new) (schema_nodes plan.now.0) (schema_nodes plan.now.1) nodes n part.at made (leaf_value leaf.entry)) }
 {
-    if is_long(reader, q) {
-        let wide = builder.long(alloc, branch, i64::from(value))?;
-        Ok(Made::Good(wide))
-    } else {
-        let out = builder.int(alloc, branch, value)?;
-        Ok(Made::Good(out))
+    let At::Pair(w, r) = part.at else {
+        return Ok(Made::Nothing);
+    };
+    let index = plan.index_of(part);
+    match plan.aim(index, w, r) {
+        Aim::Fault(kind) => Ok(Made::Faulty(fault_apart(alloc, kind)?)),
+        Aim::To(branch, q) => match leaf_for(plan, plan.index_to(index, branch), w, q, leaf) {
+            Ok(leaf) => Ok(Made::Good(builder.leaf(alloc, branch, leaf)?)),
+            Err(kind) => Ok(Made::Faulty(fault_apart(alloc, kind)?)),
+        },
     }
 }
 
-/// What a reader's node takes of bytes: the text whose UTF-8 they are where it is a string.
+/// What a writer's leaf is for a reader's node that its own leads to: a long for an int, bytes for a text or the text whose
+/// UTF-8 bytes are, and the reader's symbol. The pair of the two nodes may be kept at an index.
 #[inline(always)]
-pub(crate) fn make_bytes<P: Put>(
-    alloc: Global,
-    builder: &mut P,
-    reader: &Schema,
-    branch: Option<u32>,
+fn leaf_for<'d>(
+    plan: &PlanRef<'_>,
+    index: u32,
+    w: NodeId,
     q: NodeId,
-    content: &[u8],
-) -> Result<Made<P::Out>, AllocError>
-    ensures kept { OnOk result (P.keeps builder.old builder.new) }
-    ensures stands { IfOk result (λ made. MadeAs (P.stands_for builder.new) made (in_branch branch (kept_bytes content.now (node_at (schema_nodes reader.now) q.0)))) }
+    leaf: Leaf<'d>,
+) -> Result<Leaf<'d>, FaultKind>
+    ensures { IsLeafFor (leaf_as (node_at (schema_nodes plan.now.0) w.0) (leaf_value leaf.entry) (node_at (schema_nodes plan.now.1) q.0)) result }
 {
-    if !is_text(reader, q) {
-        let out = builder.bytes(alloc, branch, content)?;
-        return Ok(Made::Good(out));
-    }
-    match text_of(content) {
-        Ok(text) => {
-            let read = builder.string(alloc, branch, text)?;
-            Ok(Made::Good(read))
-        }
-        Err(_) => Ok(Made::Faulty(fault_apart(alloc, FaultKind::NotUtf8)?)),
-    }
-}
-
-/// What a reader's node takes of a text: its UTF-8 where it is bytes.
-#[inline(always)]
-pub(crate) fn make_string<P: Put>(
-    alloc: Global,
-    builder: &mut P,
-    reader: &Schema,
-    branch: Option<u32>,
-    q: NodeId,
-    text: &str,
-) -> Result<Made<P::Out>, AllocError>
-    ensures kept { OnOk result (P.keeps builder.old builder.new) }
-    ensures stands { IfOk result (λ made. MadeAs (P.stands_for builder.new) made (in_branch branch (kept_string text.now (node_at (schema_nodes reader.now) q.0)))) }
-{
-    if is_bytes(reader, q) {
-        let kept = builder.bytes(alloc, branch, text.as_bytes())?;
-        Ok(Made::Good(kept))
-    } else {
-        let out = builder.string(alloc, branch, text)?;
-        Ok(Made::Good(out))
-    }
-}
-
-/// The reader's symbol, or the fault that there is none.
-#[inline(always)]
-pub(crate) fn make_symbol<P: Put>(
-    alloc: Global,
-    builder: &mut P,
-    symbol: Option<u32>,
-    branch: Option<u32>,
-) -> Result<Made<P::Out>, AllocError>
-    ensures kept { OnOk result (P.keeps builder.old builder.new) }
-    ensures stands { (resolved : Resolved) → IsSymbol resolved symbol → IfOk result (λ made. MadeAs (P.stands_for builder.new) made (in_branch branch resolved)) }
-{
-    match symbol {
-        Some(symbol) => {
-            let out = builder.symbol(alloc, branch, symbol)?;
-            Ok(Made::Good(out))
-        }
-        None => Ok(Made::Faulty(fault_apart(alloc, FaultKind::NoSymbol)?)),
+    match leaf {
+        Leaf::Int(value) if is_long(plan.reader(), q) => Ok(Leaf::Long(i64::from(value))),
+        Leaf::Bytes(content) if is_text(plan.reader(), q) => match text_of(content) {
+            Ok(text) => Ok(Leaf::Text(text)),
+            Err(_) => Err(FaultKind::NotUtf8),
+        },
+        Leaf::Text(text) if is_bytes(plan.reader(), q) => Ok(Leaf::Bytes(text.as_bytes())),
+        Leaf::Symbol(symbol) => match plan.symbol(index, w, symbol, q) {
+            Some(symbol) => Ok(Leaf::Symbol(symbol)),
+            None => Err(FaultKind::NoSymbol),
+        },
+        other => Ok(other),
     }
 }
 
@@ -108,10 +75,7 @@ pub(crate) fn make_symbol<P: Put>(
 fn is_long(schema: &Schema, id: NodeId) -> bool
     ensures { Tells result (node_at (schema_nodes schema.now) id.0) SeenNode.long }
 {
-    if !schema.has(id) {
-        return false;
-    }
-    matches!(schema.node(id), Node::Long)
+    matches!(schema.get(id), Node::Long)
 }
 
 /// Whether a node is a string.
@@ -119,10 +83,7 @@ fn is_long(schema: &Schema, id: NodeId) -> bool
 fn is_text(schema: &Schema, id: NodeId) -> bool
     ensures { Tells result (node_at (schema_nodes schema.now) id.0) SeenNode.string }
 {
-    if !schema.has(id) {
-        return false;
-    }
-    matches!(schema.node(id), Node::Str)
+    matches!(schema.get(id), Node::Str)
 }
 
 /// Whether a node is bytes.
@@ -130,8 +91,5 @@ fn is_text(schema: &Schema, id: NodeId) -> bool
 fn is_bytes(schema: &Schema, id: NodeId) -> bool
     ensures { Tells result (node_at (schema_nodes schema.now) id.0) SeenNode.bytes }
 {
-    if !schema.has(id) {
-        return false;
-    }
-    matches!(schema.node(id), Node::Bytes)
+    matches!(schema.get(id), Node::Bytes)
 }
