@@ -1,6 +1,6 @@
 pub mod Encoded
 pub mod Growing
-pub mod IntoBranch
+pub mod Places
 pub mod LeafValue
 pub mod Making
 pub mod Outputs

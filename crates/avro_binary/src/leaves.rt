@@ -1,4 +1,7 @@
-ghost use Rattle.std.specs.Prelude.{◌≡◌, List, true};
+ghost use Rattle.std.specs.Prelude.{◌≡◌, IfSome, List, true};
+ghost use Rattle.avro_schema.specs.Fits.{fits};
+ghost use Rattle.avro_schema.specs.Value.{Value};
+ghost use Rattle.avro_cursor.specs.Encoding.{Spells};
 ghost use Rattle.avro_schema.specs.Node.{Node as SeenNode};
 ghost use Rattle.avro_schema.specs.Seen.{node_of};
 ghost use Rattle.avro_binary.specs.CursorReads.{ReadsNode};
@@ -6,7 +9,7 @@ ghost use Rattle.avro_binary.specs.LeafValue.{has_no_parts, leaf_value};
 
 use crate::leaf::Leaf;
 use avro_cursor::{Cursor, ReadError, drop_content};
-use avro_schema::Node;
+use avro_schema::{Limits, Node};
 
 /// Reads the datum of a node without parts. That of a node with parts is null, and is not asked for.
 #[inline(always)]
@@ -34,5 +37,19 @@ pub(crate) fn read_leaf<'c>(node: &Node, cursor: &mut Cursor<'c>) -> Result<Leaf
             Ok(Leaf::Fixed(content))
         }
         _ => Ok(Leaf::Null),
+    }
+}
+
+/// The datum without parts of a node that these bytes begin with; `None` where they begin with none, or the node has parts. No clause
+/// says that there is one.
+#[inline(always)]
+pub fn leaf_of<'b>(node: &Node, bytes: &'b [u8]) -> Option<Leaf<'b>>
+    ensures { (nodes : List SeenNode) (v : Value) → fits nodes (node_of node.now) v ≡ true → Spells v bytes.now → IfSome result (λ leaf. leaf_value leaf ≡ v) }
+{
+    let limits = Limits::default();
+    let mut cursor = Cursor::new(bytes, &limits);
+    match node {
+        Node::Array(_) | Node::Map(_) | Node::Union(_) | Node::Record(_) => None,
+        _ => read_leaf(node, &mut cursor).ok(),
     }
 }

@@ -8,9 +8,9 @@
 //! # How bytes are read
 //!
 //! One cycle of functions (`read_at`) goes down a schema's nodes, reads elements in place with a [`Cursor`], and passes
-//! each part to a [`Make`], which also learns what the part is for. Each [`Put`] is one: [`Nothing`], and [`Wrapping`], which
-//! makes what a [`Build`] builds, as [`Tree`] builds the datum, and puts it into its branch. Each call of a [`Put`] is told the branch of
-//! the union that its datum goes into, so that an output gets the index of the branch before the datum. Makers have an order `keeps`, so
+//! each part to a [`Make`], which also learns what the part is for, by the part's node. [`Nothing`] is one, and [`Wrapping`], which
+//! makes what a [`Build`] builds, as [`Tree`] builds the datum. Most are told a [`Place`]: the node of a part, and the branch of the union
+//! that its datum goes into, so that an output gets the index of the branch before the datum. Makers have an order `keeps`, so
 //! that one may append to its own buffer as it goes.
 //!
 //! The cycle is proved sound, and nothing more (`ReadsNode`): a result stands for a datum whose encoding was passed, and an error is a
@@ -40,8 +40,7 @@ mod leaves;
 mod make;
 mod nothing;
 mod pieces;
-mod put;
-mod putting;
+mod place;
 mod read;
 mod reading;
 mod tree;
@@ -53,10 +52,11 @@ pub use avro_cursor::{Block, Cursor, Keys, ReadError};
 pub use build::Build;
 pub use encode_error::EncodeError;
 pub use leaf::Leaf;
+pub use leaves::leaf_of;
 pub use make::Make;
 pub use nothing::Nothing;
 pub use pieces::{Pieces, piece_of};
-pub use put::Put;
+pub use place::Place;
 pub use read::{decode, read_made, read_own};
 pub use reading::read_at;
 pub use tree::Tree;

@@ -1,7 +1,8 @@
-mod putting;
-
 use crate::build::Build;
-use avro_schema::Datum;
+use crate::leaf::Leaf;
+use crate::make::Make;
+use crate::place::Place;
+use avro_schema::{Datum, NodeId};
 use std::alloc::{AllocError, Global};
 
 /// Builds nothing: its result stands for any datum.
@@ -100,4 +101,153 @@ impl Build for Nothing {
     fn default(&mut self, _alloc: Global, _datum: &Datum) -> Result<(), AllocError> {
         Ok(())
     }
+}
+
+/// Makes nothing, and takes no memory for the fields of records either.
+impl Make for Nothing {
+    ghost use Rattle.std.specs.Prelude.{List, ℕ, refl};
+    ghost use Rattle.avro_schema.specs.Node.{Node, FieldNode};
+    ghost use Rattle.avro_schema.specs.Value.{Value};
+    ghost use Rattle.avro_binary.specs.Places.{alone, branch_place};
+
+    type At = Place;
+
+    type Out = ();
+
+    type Items = ();
+
+    type Entries = ();
+
+    type Fields = ();
+
+    ghost keeps = { λ _ _. Unit {0} };
+
+    ghost begins = { λ _ _. Unit {0} };
+
+    ghost stands_for = { λ _ nodes n at out v. Unit {0} };
+
+    ghost items_stand_for = { λ _ nodes id at items vs. Unit {0} };
+
+    ghost entries_stand_for = { λ _ nodes id at entries es. Unit {0} };
+
+    ghost fields_stand_for = { λ _ nodes fs at fields vs. Unit {0} };
+
+    ghost branch_at = { λ _ at branch id. branch_place branch id };
+
+    ghost item_at = { λ _ items id. alone id };
+
+    ghost entry_at = { λ _ entries id. alone id };
+
+    ghost field_at = { λ _ fields id. alone id };
+
+    ghost keeps_itself = { λ s. tt };
+
+    ghost keeps_on = { λ s t u before after. tt };
+
+    ghost items_kept = { λ s t nodes id at items vs kept stand. tt };
+
+    ghost entries_kept = { λ s t nodes id at entries es kept stand. tt };
+
+    ghost fields_kept = { λ s t nodes fs at fields vs kept stand. tt };
+
+    ghost still_stands = { λ s t nodes n at out v kept stand. tt };
+
+    ghost branch_at_kept = { λ s t at branch id kept. refl };
+
+    ghost item_at_kept = { λ s t items id kept. refl };
+
+    ghost entry_at_kept = { λ s t entries id kept. refl };
+
+    ghost field_at_kept = { λ s t fields id kept. refl };
+
+    fn empty(&mut self, _alloc: Global, _at: Place) -> Result<Option<()>, AllocError> {
+        Ok(Some(()))
+    }
+
+    fn default(
+        &mut self,
+        _alloc: Global,
+        _at: Place,
+        _datum: &Datum,
+    ) -> Result<Option<()>, AllocError> {
+        Ok(Some(()))
+    }
+
+    fn leaf(&mut self, _alloc: Global, _at: Place, _leaf: Leaf<'_>) -> Result<(), AllocError> {
+        Ok(())
+    }
+
+    fn branch_at(&self, _at: Place, branch: u32, node: NodeId) -> Place {
+        Place::in_branch(branch, node)
+    }
+
+    fn branch(&mut self, _alloc: Global, _branch: u32, _value: ()) -> Result<(), AllocError> {
+        Ok(())
+    }
+
+    fn items(&mut self, _alloc: Global, _at: Place) -> Result<(), AllocError> {
+        Ok(())
+    }
+
+    fn item_at(&self, _items: &(), node: NodeId) -> Place {
+        Place::of(node)
+    }
+
+    fn item(&mut self, _alloc: Global, _items: &mut (), _value: ()) -> Result<(), AllocError> {
+        Ok(())
+    }
+
+    fn repeat(&self, _items: &mut (), _value: &(), _count: u32) -> bool {
+        true
+    }
+
+    fn array(&mut self, _alloc: Global, _items: ()) -> Result<(), AllocError> {
+        Ok(())
+    }
+
+    fn entries(&mut self, _alloc: Global, _at: Place) -> Result<(), AllocError> {
+        Ok(())
+    }
+
+    fn entry_at(&self, _entries: &(), node: NodeId) -> Place {
+        Place::of(node)
+    }
+
+    fn entry(
+        &mut self,
+        _alloc: Global,
+        _entries: &mut (),
+        _key: &str,
+        _value: (),
+    ) -> Result<(), AllocError> {
+        Ok(())
+    }
+
+    fn map(&mut self, _alloc: Global, _entries: ()) -> Result<(), AllocError> {
+        Ok(())
+    }
+
+    fn fields(&mut self, _alloc: Global, _at: Place) -> Result<(), AllocError> {
+        Ok(())
+    }
+
+    fn field_at(&self, _fields: &(), node: NodeId) -> Place {
+        Place::of(node)
+    }
+
+    fn field(&mut self, _alloc: Global, _fields: &mut (), _value: ()) -> Result<(), AllocError> {
+        Ok(())
+    }
+
+    fn empty_fields(&self, _fields: &mut (), _count: u32) -> bool {
+        true
+    }
+
+    fn record(&mut self, _alloc: Global, _fields: ()) -> Result<(), AllocError> {
+        Ok(())
+    }
+
+    fn keep_slots(&mut self, _slots: Vec<Option<()>>)
+        ensures kept { Unit {0} }
+    {}
 }

@@ -6,6 +6,7 @@ ghost use Rattle.avro_binary.specs.Reading.{BuildsExactly, ReadsExactly};
 
 use crate::build::Build;
 use crate::make::Make;
+use crate::place::Place;
 use crate::reading::read_at;
 use crate::tree::Tree;
 use crate::wrapping::Wrapping;
@@ -63,7 +64,7 @@ pub(crate) fn read_node<B: Build>(
     ensures { BuildsExactly B.stands_for (schema_nodes schema.now) (node_at (schema_nodes schema.now) node.0) limits.now bytes.now result }
 {
     let mut maker = Wrapping::new(builder);
-    read_made(alloc, schema, node, bytes, limits, &mut maker, None)
+    read_made(alloc, schema, node, bytes, limits, &mut maker, Place::of(node))
 }
 
 /// Reads what [`decode`] reads, for any maker and by what the datum is for: what is returned stands, at the maker as it then is, for

@@ -118,7 +118,7 @@ fn read_items<M: Make>(
     for done in 0..count {
         let left = cursor.left();
         let nodes = cursor.nodes();
-        let at = maker.item_at(items);
+        let at = maker.item_at(items, id);
         let value = read_at(alloc, schema, id, cursor, maker, at)?;
         let is_empty = cursor.left() == left;
         let size = nodes - cursor.nodes();
@@ -143,9 +143,9 @@ fn add_others<M: Make>(
 ) -> bool
     ensures empty { result ≡ true → is_empty ≡ true }
     ensures added { (nodes : List SeenNode) (id : ℕ) (at : M.At) (vs : List Value) (v : Value) → result ≡ true → M.items_stand_for maker.now nodes id at items.old vs
-        → M.stands_for maker.now nodes (node_at nodes id) (M.item_at maker.now items.old) value.now v
+        → M.stands_for maker.now nodes (node_at nodes id) (M.item_at maker.now items.old id) value.now v
         → M.items_stand_for maker.now nodes id at items.new (vs ++ replicate others v) }
-    ensures next { M.item_at maker.now items.new ≡ M.item_at maker.now items.old }
+    ensures next { (id : ℕ) → M.item_at maker.now items.new id ≡ M.item_at maker.now items.old id }
     ensures none { result ≡ false → items.new ≡ items.old }
 {
     if is_empty {
@@ -189,9 +189,10 @@ fn read_branch<M: Make>(
     ensures stays { (front : List ℕ) → M.begins maker.old front → M.begins maker.new front }
 {
     let index = cursor.index(branches.len())?;
-    let part = maker.branch_at(at, index as u32);
-    let value = read_at(alloc, schema, branches[index], cursor, maker, part)?;
-    Ok(maker.branch(alloc, at, index as u32, value)?)
+    let node = branches[index];
+    let part = maker.branch_at(at, index as u32, node);
+    let value = read_at(alloc, schema, node, cursor, maker, part)?;
+    Ok(maker.branch(alloc, index as u32, value)?)
 }
 
 /// Enters a record, reads a datum for each field, and leaves it.

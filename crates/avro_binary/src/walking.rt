@@ -4,6 +4,7 @@ ghost use Rattle.avro_schema.specs.SeenSchema.{schema_nodes};
 ghost use Rattle.avro_binary.specs.Reading.{WalksExactly};
 
 use crate::nothing::Nothing;
+use crate::place::Place;
 use crate::reading::read_at;
 use avro_cursor::{Cursor, ReadError};
 use avro_schema::{Limits, NodeId, Schema};
@@ -29,6 +30,6 @@ pub fn walk(
     let _count = schema.len();
     let mut cursor = Cursor::new(bytes, limits);
     let mut nothing = Nothing;
-    read_at(alloc, schema, node, &mut cursor, &mut nothing, None)?;
+    read_at(alloc, schema, node, &mut cursor, &mut nothing, Place::of(node))?;
     Ok(cursor.offset())
 }

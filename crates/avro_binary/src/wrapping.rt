@@ -3,11 +3,12 @@ ghost use Rattle.avro_binary.specs.LeafValue.{leaf_value};
 
 use crate::build::Build;
 use crate::leaf::Leaf;
-use crate::put::Put;
-use avro_schema::Datum;
+use crate::make::Make;
+use crate::place::Place;
+use avro_schema::{Datum, NodeId};
 use std::alloc::{AllocError, Global};
 
-/// Makes what a builder builds, in a branch of a union where there is one.
+/// Makes what a builder builds.
 #[derive(Drop)]
 pub struct Wrapping<'b, B> {
     builder: &'b mut B,
@@ -17,23 +18,6 @@ impl<'b, B> Wrapping<'b, B> {
     /// A maker of what the builder builds.
     pub fn new(builder: &'b mut B) -> Self {
         Wrapping { builder }
-    }
-}
-
-impl<'b, B: Build> Wrapping<'b, B> {
-    ghost use Rattle.std.specs.Prelude.{IfOk};
-    ghost use Rattle.avro_schema.specs.Value.{Value};
-    ghost use Rattle.avro_binary.specs.IntoBranch.{in_branch};
-
-    /// What was built, in a branch where there is one.
-    #[inline(always)]
-    fn wrap(&mut self, alloc: Global, into: Option<u32>, out: B::Out) -> Result<B::Out, AllocError>
-        ensures { (v : Value) → B.stands_for out v → IfOk result (λ whole. B.stands_for whole (in_branch into v)) }
-    {
-        match into {
-            None => Ok(out),
-            Some(branch) => self.builder.branch(alloc, branch, out),
-        }
     }
 }
 
@@ -58,12 +42,12 @@ fn build_leaf<B: Build>(
     }
 }
 
-impl<'b, B: Build> Put for Wrapping<'b, B> {
-    ghost use Rattle.std.specs.Prelude.{◌≡◌, [], ◌∷◌, ◌++◌, List, ℕ, Option, IfOk, OnOk};
+impl<'b, B: Build> Make for Wrapping<'b, B> {
+    ghost use Rattle.std.specs.Prelude.{refl};
     ghost use Rattle.std.specs.List.{AllZip};
-    ghost use Rattle.avro_schema.specs.Seen.{values_from};
-    ghost use Rattle.avro_schema.specs.Value.{Value};
-    ghost use Rattle.avro_binary.specs.IntoBranch.{in_branch};
+    ghost use Rattle.avro_binary.specs.Places.{alone, branch_place};
+
+    type At = Place;
 
     type Out = B::Out;
 
@@ -71,61 +55,77 @@ impl<'b, B: Build> Put for Wrapping<'b, B> {
 
     type Entries = B::Entries;
 
-    type Fields = (Vec<B::Out>, Option<u32>);
+    type Fields = Vec<B::Out>;
 
     ghost keeps = { λ _ _. Unit {0} };
 
     ghost begins = { λ _ _. Unit {0} };
 
-    ghost stands_for = { λ _ out v. B.stands_for out v };
+    ghost stands_for = { λ _ nodes n at out v. B.stands_for out v };
 
-    ghost items_stand_for = { λ _ items vs. B.items_stand_for items vs };
+    ghost items_stand_for = { λ _ nodes id at items vs. B.items_stand_for items vs };
 
-    ghost entries_stand_for = { λ _ entries es. B.entries_stand_for entries es };
+    ghost entries_stand_for = { λ _ nodes id at entries es. B.entries_stand_for entries es };
 
-    ghost fields_stand_for = { λ _ into fields vs. (fields.1 ≡ into) × AllZip B.stands_for fields.0.items vs };
+    ghost fields_stand_for = { λ _ nodes fs at fields vs. AllZip B.stands_for fields.items vs };
+
+    ghost branch_at = { λ _ at branch id. branch_place branch id };
+
+    ghost item_at = { λ _ items id. alone id };
+
+    ghost entry_at = { λ _ entries id. alone id };
+
+    ghost field_at = { λ _ fields id. alone id };
 
     ghost keeps_itself = { λ s. tt };
 
     ghost keeps_on = { λ s t u before after. tt };
 
-    ghost still_stands = { λ s t out v kept stand. stand };
+    ghost items_kept = { λ s t nodes id at items vs kept stand. stand };
 
-    ghost items_kept = { λ s t items vs kept stand. stand };
+    ghost entries_kept = { λ s t nodes id at entries es kept stand. stand };
 
-    ghost entries_kept = { λ s t entries es kept stand. stand };
+    ghost fields_kept = { λ s t nodes fs at fields vs kept stand. stand };
 
-    ghost fields_kept = { λ s t into fields vs kept stand. stand };
+    ghost still_stands = { λ s t nodes n at out v kept stand. stand };
 
-    fn empty(&mut self, _alloc: Global, _into: Option<u32>) -> Result<Option<B::Out>, AllocError> {
-        Ok(None)
+    ghost branch_at_kept = { λ s t at branch id kept. refl };
+
+    ghost item_at_kept = { λ s t items id kept. refl };
+
+    ghost entry_at_kept = { λ s t entries id kept. refl };
+
+    ghost field_at_kept = { λ s t fields id kept. refl };
+
+    fn default(
+        &mut self,
+        alloc: Global,
+        _at: Place,
+        datum: &Datum,
+    ) -> Result<Option<B::Out>, AllocError> {
+        let out = self.builder.default(alloc, datum)?;
+        Ok(Some(out))
     }
 
     #[inline(always)]
-    fn leaf(
-        &mut self,
-        alloc: Global,
-        into: Option<u32>,
-        leaf: Leaf<'_>,
-    ) -> Result<B::Out, AllocError> {
-        let out = build_leaf(alloc, self.builder, leaf)?;
-        self.wrap(alloc, into, out)
+    fn leaf(&mut self, alloc: Global, _at: Place, leaf: Leaf<'_>) -> Result<B::Out, AllocError> {
+        build_leaf(alloc, self.builder, leaf)
     }
 
-    fn branch(&mut self, alloc: Global, index: u32, value: B::Out) -> Result<B::Out, AllocError> {
-        self.builder.branch(alloc, index, value)
+    fn branch_at(&self, _at: Place, branch: u32, node: NodeId) -> Place {
+        Place::in_branch(branch, node)
     }
 
-    fn default(&mut self, alloc: Global, datum: &Datum) -> Result<B::Out, AllocError> {
-        self.builder.default(alloc, datum)
+    fn branch(&mut self, alloc: Global, branch: u32, value: B::Out) -> Result<B::Out, AllocError> {
+        self.builder.branch(alloc, branch, value)
     }
 
-    fn copied(&mut self, _alloc: Global, _content: &[u8]) -> Result<Option<B::Out>, AllocError> {
-        Ok(None)
-    }
-
-    fn items(&mut self, alloc: Global) -> Result<B::Items, AllocError> {
+    fn items(&mut self, alloc: Global, _at: Place) -> Result<B::Items, AllocError> {
         self.builder.items(alloc)
+    }
+
+    fn item_at(&self, _items: &B::Items, node: NodeId) -> Place {
+        Place::of(node)
     }
 
     fn item(
@@ -137,22 +137,16 @@ impl<'b, B: Build> Put for Wrapping<'b, B> {
         self.builder.item(alloc, items, value)
     }
 
-    fn repeat(&self, _items: &mut B::Items, _value: &B::Out, _count: u32) -> bool {
-        false
+    fn array(&mut self, alloc: Global, items: B::Items) -> Result<B::Out, AllocError> {
+        self.builder.array(alloc, items)
     }
 
-    fn array(
-        &mut self,
-        alloc: Global,
-        into: Option<u32>,
-        items: B::Items,
-    ) -> Result<B::Out, AllocError> {
-        let out = self.builder.array(alloc, items)?;
-        self.wrap(alloc, into, out)
-    }
-
-    fn entries(&mut self, alloc: Global) -> Result<B::Entries, AllocError> {
+    fn entries(&mut self, alloc: Global, _at: Place) -> Result<B::Entries, AllocError> {
         self.builder.entries(alloc)
+    }
+
+    fn entry_at(&self, _entries: &B::Entries, node: NodeId) -> Place {
+        Place::of(node)
     }
 
     fn entry(
@@ -165,61 +159,33 @@ impl<'b, B: Build> Put for Wrapping<'b, B> {
         self.builder.entry(alloc, entries, key, value)
     }
 
-    fn map(
-        &mut self,
-        alloc: Global,
-        into: Option<u32>,
-        entries: B::Entries,
-    ) -> Result<B::Out, AllocError> {
-        let out = self.builder.map(alloc, entries)?;
-        self.wrap(alloc, into, out)
+    fn map(&mut self, alloc: Global, entries: B::Entries) -> Result<B::Out, AllocError> {
+        self.builder.map(alloc, entries)
     }
 
-    fn fields(
-        &mut self,
-        alloc: Global,
-        into: Option<u32>,
-    ) -> Result<(Vec<B::Out>, Option<u32>), AllocError> {
-        Ok((Vec::new(alloc), into))
+    fn fields(&mut self, alloc: Global, _at: Place) -> Result<Vec<B::Out>, AllocError> {
+        Ok(Vec::new(alloc))
+    }
+
+    fn field_at(&self, _fields: &Vec<B::Out>, node: NodeId) -> Place {
+        Place::of(node)
     }
 
     fn field(
         &mut self,
         _alloc: Global,
-        fields: &mut (Vec<B::Out>, Option<u32>),
+        fields: &mut Vec<B::Out>,
         value: B::Out,
     ) -> Result<(), AllocError> {
-        fields.0.push(value)?;
+        fields.push(value)?;
         Ok(())
     }
 
-    fn empty_fields(&self, _fields: &mut (Vec<B::Out>, Option<u32>), _count: u32) -> bool {
-        false
-    }
-
-    fn record(
-        &mut self,
-        alloc: Global,
-        fields: (Vec<B::Out>, Option<u32>),
-    ) -> Result<B::Out, AllocError> {
-        let out = self.builder.fields(alloc, fields.0)?;
-        self.wrap(alloc, fields.1, out)
-    }
-
-    fn slots(&mut self, alloc: Global) -> Vec<Option<B::Out>>
-        ensures kept { Unit {0} }
-        ensures none { result.items ≡ [] }
-    {
-        Vec::new(alloc)
+    fn record(&mut self, alloc: Global, fields: Vec<B::Out>) -> Result<B::Out, AllocError> {
+        self.builder.fields(alloc, fields)
     }
 
     fn keep_slots(&mut self, _slots: Vec<Option<B::Out>>)
         ensures kept { Unit {0} }
     {}
-
-    fn ends(&mut self, _alloc: Global) -> Option<Vec<usize>> {
-        None
-    }
-
-    fn keep_ends(&mut self, _ends: Vec<usize>) {}
 }

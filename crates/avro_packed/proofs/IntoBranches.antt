@@ -5,7 +5,7 @@ use Rattle.avro_schema.specs.Value.{Value}
 use Rattle.avro_cursor.specs.Encoding.{plain}
 use Rattle.avro_packed.specs.Appended.{Holds, branch_bytes}
 use Rattle.avro_packed.specs.declared.written.Written.{Written}
-use Rattle.avro_binary.specs.IntoBranch.{in_branch}
+use Rattle.avro_binary.specs.Places.{in_branch}
 
 pub plain_in : (into : Option ℕ) (v : Value) → branch_bytes into ++ plain v ≡ plain (in_branch into v)
 plain_in None v = refl

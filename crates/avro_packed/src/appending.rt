@@ -175,13 +175,15 @@ impl Appending {
         Written::Range(end, end)
     }
 
-    /// No items or entries.
+    /// No items or entries, for a branch of a union, if there is one.
     #[inline(always)]
-    pub(crate) fn gather(&self) -> Gathered
+    pub(crate) fn gather(&self, into: Option<u32>) -> Gathered
+        ensures into { result.into ≡ into }
         ensures count { result.count ≡ 0 }
         ensures written { Holds self.now.bytes result.written [] }
     {
         Gathered {
+            into,
             count: 0,
             written: self.here(),
         }
@@ -191,22 +193,21 @@ impl Appending {
     pub(crate) fn block(
         &mut self,
         alloc: Global,
-        branch: Option<u32>,
         gathered: Gathered,
     ) -> Result<Written, AllocError>
         ensures kept { OnOk result (Keeps self.old self.new) }
         ensures holds { (bytes : List ℕ) → Holds self.old.bytes gathered.written bytes
-            → IfOk result (λ out. Holds self.new.bytes out (branch_bytes branch ++ plain_blocks gathered.count bytes)) }
+            → IfOk result (λ out. Holds self.new.bytes out (branch_bytes gathered.into ++ plain_blocks gathered.count bytes)) }
         ensures stays { (front : List ℕ) → Grows front self.old.bytes → Grows front self.new.bytes }
     {
         if gathered.count == 0 {
-            let start = self.begin(branch)?;
+            let start = self.begin(gathered.into)?;
             append_byte(0, &mut self.out)?;
             return Ok(self.since(start));
         }
         match i64::try_from(gathered.count) {
             Ok(count) => {
-                let head = self.number(branch, count)?;
+                let head = self.number(gathered.into, count)?;
                 closed(alloc, &self.out, &mut self.spares, head, gathered.written)
             }
             Err(_) => Err(AllocError),

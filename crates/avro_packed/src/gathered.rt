@@ -4,6 +4,8 @@ use std::alloc::AllocError;
 /// Items or entries one after another, and how many they are.
 #[derive(Debug, Drop)]
 pub struct Gathered {
+    // the branch of a union that all of them go into
+    pub(crate) into: Option<u32>,
     pub(crate) count: u64,
     pub(crate) written: Written,
 }
@@ -16,6 +18,7 @@ impl Gathered {
     pub(crate) fn count_one(&mut self) -> Result<(), AllocError>
         ensures count { OnOk result (self.new.count ≡ self.old.count + 1) }
         ensures written { self.new.written ≡ self.old.written }
+        ensures into { self.new.into ≡ self.old.into }
     {
         match self.count.checked_add(1) {
             Some(count) => {
@@ -30,6 +33,7 @@ impl Gathered {
     pub(crate) fn count_more(&mut self, more: u32) -> bool
         ensures count { result ≡ true → self.new.count ≡ self.old.count + more }
         ensures written { self.new.written ≡ self.old.written }
+        ensures into { self.new.into ≡ self.old.into }
         ensures none { result ≡ false → self.new ≡ self.old }
     {
         match self.count.checked_add(u64::from(more)) {

@@ -5,42 +5,24 @@ use crate::gathered::Gathered;
 use crate::moving::{is_nothing, join, join_key, join_near};
 use crate::spares::{ends, give_ends, give_slots, slots};
 use crate::written::Written;
-use avro_binary::{Leaf, Put, append_plain};
-use avro_schema::Datum;
+use avro_binary::{Leaf, Make, Place, append_plain};
+use avro_schema::{Datum, NodeId};
 use std::alloc::{AllocError, Global};
 
 impl Appending {
     ghost use Rattle.std.specs.Prelude.{◌++◌, ℕ, List, IfOk, OnOk};
     ghost use Rattle.avro_schema.specs.Seen.{value_of};
     ghost use Rattle.avro_cursor.specs.Encoding.{plain};
-    ghost use Rattle.avro_zigzag.specs.Number.{number_bytes};
     ghost use Rattle.avro_binary.specs.Outputs.{Grows};
     ghost use Rattle.avro_packed.specs.Appended.{Holds, Keeps, branch_bytes};
 
-    /// Writes an int at hand.
-    #[inline(always)]
-    fn int_at(&mut self, value: &i32) -> Result<Written, AllocError>
-        ensures kept { OnOk result (Keeps self.old self.new) }
-        ensures holds { IfOk result (λ out. Holds self.new.bytes out (number_bytes value.now)) }
-    {
-        self.number(None, i64::from(*value))
-    }
-
-    /// Writes a long at hand.
-    #[inline(always)]
-    fn long_at(&mut self, value: &i64) -> Result<Written, AllocError>
-        ensures kept { OnOk result (Keeps self.old self.new) }
-        ensures holds { IfOk result (λ out. Holds self.new.bytes out (number_bytes value.now)) }
-    {
-        self.number(None, *value)
-    }
-
     /// Writes a datum at hand.
-    fn whole(&mut self, datum: &Datum) -> Result<Written, AllocError>
+    fn whole(&mut self, branch: Option<u32>, datum: &Datum) -> Result<Written, AllocError>
         ensures kept { OnOk result (Keeps self.old self.new) }
-        ensures holds { IfOk result (λ out. Holds self.new.bytes out (plain (value_of datum.now))) }
+        ensures holds { IfOk result (λ out. Holds self.new.bytes out (branch_bytes branch ++ plain (value_of datum.now))) }
+        ensures stays { (front : List ℕ) → Grows front self.old.bytes → Grows front self.new.bytes }
     {
-        let start = self.out.len();
+        let start = self.begin(branch)?;
         append_plain(datum, &mut self.out)?;
         Ok(self.since(start))
     }
@@ -58,13 +40,16 @@ impl Appending {
     }
 }
 
-impl Put for Appending {
-    ghost use Rattle.std.specs.Prelude.{◌≡◌, ◌++◌, []};
+impl Make for Appending {
+    ghost use Rattle.std.specs.Prelude.{◌≡◌, ◌++◌, [], refl};
     ghost use Rattle.avro_schema.specs.Seen.{values_from, entries_from};
     ghost use Rattle.avro_cursor.specs.Encoding.{plain, plain_values, plain_entries};
     ghost use Rattle.avro_binary.specs.Outputs.{Grows};
+    ghost use Rattle.avro_binary.specs.Places.{MayBeAt, alone, branch_place, in_branch};
     ghost use Rattle.avro_packed.specs.Appended.{Holds, Keeps, branch_bytes, AreItems, AreEntries};
     ghost use Rattle.avro_packed.specs.inside.Outputs.{keeps_none, keeps_on, still_holds};
+
+    type At = Place;
 
     type Out = Written;
 
@@ -78,40 +63,56 @@ impl Put for Appending {
 
     ghost begins = { λ m front. Grows front m.bytes };
 
-    ghost stands_for = { λ m out v. Holds m.bytes out (plain v) };
+    ghost stands_for = { λ m nodes n at out v. MayBeAt n at → Holds m.bytes out (plain (in_branch at.branch v)) };
 
-    ghost items_stand_for = { λ m items vs. AreItems m.bytes items vs };
+    ghost items_stand_for = { λ m nodes id at items vs. (items.into ≡ at.branch) × AreItems m.bytes items vs };
 
-    ghost entries_stand_for = { λ m entries es. AreEntries m.bytes entries es };
+    ghost entries_stand_for = { λ m nodes id at entries es. (entries.into ≡ at.branch) × AreEntries m.bytes entries es };
 
-    ghost fields_stand_for = { λ m into fields vs. Holds m.bytes fields (branch_bytes into ++ plain_values (values_from vs)) };
+    ghost fields_stand_for = { λ m nodes fs at fields vs. Holds m.bytes fields (branch_bytes at.branch ++ plain_values (values_from vs)) };
+
+    ghost branch_at = { λ _ at branch id. branch_place branch id };
+
+    ghost item_at = { λ _ items id. alone id };
+
+    ghost entry_at = { λ _ entries id. alone id };
+
+    ghost field_at = { λ _ fields id. alone id };
 
     ghost keeps_itself = { keeps_none };
 
     ghost keeps_on = { keeps_on };
 
-    ghost still_stands = { λ s t out v kept stand. still_holds s.bytes t.bytes out (plain v) kept.1 stand };
+    ghost still_stands = { λ s t nodes n at out v kept stand may. still_holds s.bytes t.bytes out (plain (in_branch at.branch v)) kept.1 (stand may) };
 
-    ghost items_kept = { λ s t items vs kept stand. (stand.0, still_holds s.bytes t.bytes items.written (plain_values (values_from vs)) kept.1 stand.1) };
+    ghost items_kept = { λ s t nodes id at items vs kept stand. (stand.0, stand.1.0, still_holds s.bytes t.bytes items.written (plain_values (values_from vs)) kept.1 stand.1.1) };
 
-    ghost entries_kept = { λ s t entries es kept stand. (stand.0, still_holds s.bytes t.bytes entries.written (plain_entries (entries_from es)) kept.1 stand.1) };
+    ghost entries_kept = { λ s t nodes id at entries es kept stand. (stand.0, stand.1.0, still_holds s.bytes t.bytes entries.written (plain_entries (entries_from es)) kept.1 stand.1.1) };
 
-    ghost fields_kept = { λ s t into fields vs kept stand. still_holds s.bytes t.bytes fields (branch_bytes into ++ plain_values (values_from vs)) kept.1 stand };
+    ghost fields_kept = { λ s t nodes fs at fields vs kept stand. still_holds s.bytes t.bytes fields (branch_bytes at.branch ++ plain_values (values_from vs)) kept.1 stand };
+
+    ghost branch_at_kept = { λ s t at branch id kept. refl };
+
+    ghost item_at_kept = { λ s t items id kept. refl };
+
+    ghost entry_at_kept = { λ s t entries id kept. refl };
+
+    ghost field_at_kept = { λ s t fields id kept. refl };
 
     #[inline(always)]
-    fn empty(&mut self, _alloc: Global, into: Option<u32>) -> Result<Option<Written>, AllocError> {
-        let start = self.begin(into)?;
+    fn empty(&mut self, _alloc: Global, at: Place) -> Result<Option<Written>, AllocError> {
+        let start = self.begin(at.branch)?;
         Ok(Some(self.since(start)))
     }
 
     #[inline(always)]
-    #[tactic(auto, using(crate::proofs::IntoBranches::holds_in))]
     fn leaf(
         &mut self,
         _alloc: Global,
-        into: Option<u32>,
+        at: Place,
         leaf: Leaf<'_>,
     ) -> Result<Written, AllocError> {
+        let into = at.branch;
         match leaf {
             Leaf::Null => self.copy_of(into, &[]),
             Leaf::Boolean(value) => self.copy_of(into, &[u8::from(value)]),
@@ -125,31 +126,55 @@ impl Put for Appending {
     }
 
     #[inline(always)]
-    fn branch(&mut self, alloc: Global, index: u32, value: Written) -> Result<Written, AllocError> {
-        let mut out = self.number(None, i64::from(index))?;
-        join(alloc, &self.out, &mut self.spares, &mut out, value)?;
-        Ok(out)
+    fn branch_at(&self, _at: Place, branch: u32, node: NodeId) -> Place {
+        Place::in_branch(branch, node)
     }
 
     #[inline(always)]
-    fn default(&mut self, _alloc: Global, datum: &Datum) -> Result<Written, AllocError> {
-        match datum {
-            Datum::Int(value) => self.int_at(value),
-            Datum::Long(value) => self.long_at(value),
-            Datum::Str(text) => self.measured(None, text.as_bytes()),
-            _ => self.whole(datum),
-        }
+    fn branch(
+        &mut self,
+        _alloc: Global,
+        _branch: u32,
+        value: Written,
+    ) -> Result<Written, AllocError> {
+        Ok(value)
     }
 
     #[inline(always)]
-    fn copied(&mut self, _alloc: Global, content: &[u8]) -> Result<Option<Written>, AllocError> {
-        let copied = self.copy_of(None, content)?;
+    fn default(
+        &mut self,
+        _alloc: Global,
+        at: Place,
+        datum: &Datum,
+    ) -> Result<Option<Written>, AllocError> {
+        let written = match datum {
+            Datum::Int(value) => self.number(at.branch, i64::from(*value))?,
+            Datum::Long(value) => self.number(at.branch, *value)?,
+            Datum::Str(text) => self.measured(at.branch, text.as_bytes())?,
+            _ => self.whole(at.branch, datum)?,
+        };
+        Ok(Some(written))
+    }
+
+    #[inline(always)]
+    fn copied(
+        &mut self,
+        _alloc: Global,
+        at: Place,
+        content: &[u8],
+    ) -> Result<Option<Written>, AllocError> {
+        let copied = self.copy_of(at.branch, content)?;
         Ok(Some(copied))
     }
 
     #[inline(always)]
-    fn items(&mut self, _alloc: Global) -> Result<Gathered, AllocError> {
-        Ok(self.gather())
+    fn items(&mut self, _alloc: Global, at: Place) -> Result<Gathered, AllocError> {
+        Ok(self.gather(at.branch))
+    }
+
+    #[inline(always)]
+    fn item_at(&self, _items: &Gathered, node: NodeId) -> Place {
+        Place::of(node)
     }
 
     #[inline(always)]
@@ -177,18 +202,18 @@ impl Put for Appending {
     }
 
     #[inline(always)]
-    fn array(
-        &mut self,
-        alloc: Global,
-        into: Option<u32>,
-        items: Gathered,
-    ) -> Result<Written, AllocError> {
-        self.block(alloc, into, items)
+    fn array(&mut self, alloc: Global, items: Gathered) -> Result<Written, AllocError> {
+        self.block(alloc, items)
     }
 
     #[inline(always)]
-    fn entries(&mut self, _alloc: Global) -> Result<Gathered, AllocError> {
-        Ok(self.gather())
+    fn entries(&mut self, _alloc: Global, at: Place) -> Result<Gathered, AllocError> {
+        Ok(self.gather(at.branch))
+    }
+
+    #[inline(always)]
+    fn entry_at(&self, _entries: &Gathered, node: NodeId) -> Place {
+        Place::of(node)
     }
 
     #[inline(always)]
@@ -216,21 +241,21 @@ impl Put for Appending {
     }
 
     #[inline(always)]
-    fn map(
-        &mut self,
-        alloc: Global,
-        into: Option<u32>,
-        entries: Gathered,
-    ) -> Result<Written, AllocError> {
-        self.block(alloc, into, entries)
+    fn map(&mut self, alloc: Global, entries: Gathered) -> Result<Written, AllocError> {
+        self.block(alloc, entries)
     }
 
     #[inline(always)]
-    fn fields(&mut self, _alloc: Global, into: Option<u32>) -> Result<Written, AllocError> {
-        match into {
+    fn fields(&mut self, _alloc: Global, at: Place) -> Result<Written, AllocError> {
+        match at.branch {
             None => Ok(self.here()),
-            Some(_) => self.copy_of(into, &[]),
+            Some(_) => self.copy_of(at.branch, &[]),
         }
+    }
+
+    #[inline(always)]
+    fn field_at(&self, _fields: &Written, node: NodeId) -> Place {
+        Place::of(node)
     }
 
     #[inline(always)]
@@ -275,7 +300,7 @@ impl Put for Appending {
     }
 
     #[inline(always)]
-    fn ends(&mut self, alloc: Global) -> Option<Vec<usize>> {
+    fn ends(&mut self, alloc: Global, _at: Place) -> Option<Vec<usize>> {
         if self.limit.sparing {
             return None;
         }

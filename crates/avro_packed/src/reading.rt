@@ -14,7 +14,7 @@ ghost use Rattle.avro_packed.specs.Appended.{AppendsWithin};
 
 use crate::appending::Appending;
 use crate::settling::settle;
-use avro_binary::{ReadError, read_made};
+use avro_binary::{Place, ReadError, read_made};
 use avro_schema::{Limits, Schema};
 use std::alloc::Global;
 
@@ -42,7 +42,8 @@ pub fn append_read(
     let end = out.len();
     room.keep_at_most(most);
     room.exchange(out);
-    let read = read_made(alloc, schema, schema.root(), bytes, limits, room, None);
+    let root = schema.root();
+    let read = read_made(alloc, schema, root, bytes, limits, room, Place::of(root));
     room.exchange(out);
     match read {
         Ok((written, len)) => {

@@ -7,7 +7,10 @@ use Rattle.avro_schema.specs.declared.datum.Datum.{Datum}
 use Rattle.avro_compare.specs.Fields.{IsField}
 use Rattle.avro_compare.specs.Fault.{ResolutionFault}
 use Rattle.avro_compare.specs.Resolve.{Sourced, sourced_at}
+use Rattle.avro_compare.specs.Pairs.{field_for}
 use Rattle.avro_compare.specs.Source.{source_of}
+use Rattle.avro_compare.specs.declared.comparison.At.TheVariants.{Pair}
+use Rattle.avro_schema.specs.declared.schema.NodeId.{NodeId}
 use Rattle.avro_compare.specs.Seen.{cause_of}
 use Rattle.avro_compare.specs.declared.error.Fault.{Fault}
 
@@ -21,13 +24,13 @@ Slotted S (Some (Some out)) v = S out v
 Slotted S (Some None) v = v ≡ Value.null
 Slotted S None v = v ≡ Value.null
 
--- each slot holds what was found for its index
-abbrev pub SlotsAre : {O : Type 0} → (O → Value → Type 0) → Sourced → List (Option O) → Type 0
-SlotsAre S found slots = (k : ℕ) → Slotted S (slice_get slots k) (sourced_at found k)
+-- the slot of each field that a reader's takes holds what was found for its index, as data of the reader's node
+abbrev pub SlotsAre : {O : Type 0} → (ℕ → O → Value → Type 0) → List FieldNode → List FieldNode → Sourced → List (Option O) → Type 0
+SlotsAre S ws rs found slots = (k : ℕ) (w r : NodeId) → field_for ws rs k ≡ Pair w r → Slotted (S r.0) (slice_get slots k) (sourced_at found k)
 
 -- each slot that is the source of one of some fields holds what was found for it
-abbrev pub SlotsFor : {O : Type 0} → (O → Value → Type 0) → List FieldNode → List FieldNode → Sourced → List (Option O) → Type 0
-SlotsFor S ws rest found slots = (g : FieldNode) → IsField g rest → (k : ℕ) → source_of ws g ≡ Some k → Slotted S (slice_get slots k) (sourced_at found k)
+abbrev pub SlotsFor : {O : Type 0} → (ℕ → O → Value → Type 0) → List FieldNode → List FieldNode → Sourced → List (Option O) → Type 0
+SlotsFor S ws rest found slots = (g : FieldNode) → IsField g rest → (k : ℕ) → source_of ws g ≡ Some k → Slotted (S g.node) (slice_get slots k) (sourced_at found k)
 
 -- what a slot holds, if there is one, which is moved from there
 abbrev pub slot_out : {O : Type 0} → Option (Option O) → Option O

@@ -1,26 +1,31 @@
 //! A datum that is given to a maker part by part, as reading gives what bytes begin with.
 
-ghost use Rattle.std.specs.Prelude.{◌≡◌, List, true, IfOk, OnOk};
+ghost use Rattle.std.specs.Prelude.{◌≡◌, true, IfOk, OnOk};
 ghost use Rattle.avro_schema.specs.Fits.{fits};
-ghost use Rattle.avro_schema.specs.Node.{Node};
+ghost use Rattle.avro_schema.specs.Node.{Node, node_at};
+ghost use Rattle.avro_schema.specs.SeenSchema.{schema_nodes};
 ghost use Rattle.avro_schema.specs.Seen.{value_of, values_of as values_seen, entries_of as entries_seen};
 ghost use Rattle.avro_schema.specs.Value.{Value};
 
+use crate::plan::parts::{branch_of, items_of, values_of};
 use avro_binary::{Leaf, Make};
-use avro_schema::Datum;
+use avro_compare::fields_of;
+use avro_schema::{Datum, NodeId, Schema};
 use std::alloc::{AllocError, Global};
 
-/// What a maker makes of a datum, whatever node it is of. It fails only where memory runs out.
+/// What a maker makes of a datum of a node. It fails only where memory runs out.
 #[cycle(giving)]
-pub(crate) fn give<M: Make>(
+pub fn give<M: Make>(
     alloc: Global,
+    schema: &Schema,
+    id: NodeId,
     datum: &Datum,
     maker: &mut M,
     at: M::At,
 ) -> Result<M::Out, AllocError>
     ensures kept { OnOk result (M.keeps maker.old maker.new) }
-    ensures stands { (nodes : List Node) (n : Node) → fits nodes n (value_of datum.now) ≡ true
-        → IfOk result (λ out. M.stands_for maker.new nodes n at out (value_of datum.now)) }
+    ensures stands { fits (schema_nodes schema.now) (node_at (schema_nodes schema.now) id.0) (value_of datum.now) ≡ true
+        → IfOk result (λ out. M.stands_for maker.new (schema_nodes schema.now) (node_at (schema_nodes schema.now) id.0) at out (value_of datum.now)) }
 {
     match datum {
         Datum::Null => maker.leaf(alloc, at, Leaf::Null),
@@ -29,14 +34,17 @@ pub(crate) fn give<M: Make>(
         Datum::Long(value) => maker.leaf(alloc, at, Leaf::Long(*value)),
         Datum::Bytes(content) => maker.leaf(alloc, at, Leaf::Bytes(content)),
         Datum::Str(text) => maker.leaf(alloc, at, Leaf::Text(text)),
-        Datum::Array(items) => give_items(alloc, items, maker, at),
-        Datum::Map(entries) => give_entries(alloc, entries, maker, at),
-        Datum::Union(branch, value) => {
-            let part = maker.branch_at(at, *branch);
-            let made = give(alloc, value, maker, part)?;
-            maker.branch(alloc, at, *branch, made)
+        Datum::Array(items) => give_items(alloc, schema, items_of(schema, id), items, maker, at),
+        Datum::Map(entries) => {
+            give_entries(alloc, schema, values_of(schema, id), entries, maker, at)
         }
-        Datum::Record(values) => give_fields(alloc, values, maker, at),
+        Datum::Union(branch, value) => {
+            let node = branch_of(schema, id, *branch);
+            let part = maker.branch_at(at, *branch, node);
+            let made = give(alloc, schema, node, value, maker, part)?;
+            maker.branch(alloc, *branch, made)
+        }
+        Datum::Record(values) => give_fields(alloc, schema, id, values, maker, at),
         Datum::Enum(symbol) => maker.leaf(alloc, at, Leaf::Symbol(*symbol)),
         Datum::Fixed(content) => maker.leaf(alloc, at, Leaf::Fixed(content)),
     }
@@ -46,18 +54,20 @@ pub(crate) fn give<M: Make>(
 #[cycle(giving)]
 fn give_items<M: Make>(
     alloc: Global,
+    schema: &Schema,
+    node: NodeId,
     items: &[Datum],
     maker: &mut M,
     at: M::At,
 ) -> Result<M::Out, AllocError>
     ensures kept { OnOk result (M.keeps maker.old maker.new) }
-    ensures stands { (nodes : List Node) (n : Node) → fits nodes n (Value.array (values_seen items.now)) ≡ true
-        → IfOk result (λ out. M.stands_for maker.new nodes n at out (Value.array (values_seen items.now))) }
+    ensures stands { fits (schema_nodes schema.now) (Node.array node.0) (Value.array (values_seen items.now)) ≡ true
+        → IfOk result (λ out. M.stands_for maker.new (schema_nodes schema.now) (Node.array node.0) at out (Value.array (values_seen items.now))) }
 {
     let mut made = maker.items(alloc, at)?;
     for index in 0..items.len() {
-        let part = maker.item_at(&made);
-        let value = give(alloc, &items[index], maker, part)?;
+        let part = maker.item_at(&made, node);
+        let value = give(alloc, schema, node, &items[index], maker, part)?;
         maker.item(alloc, &mut made, value)?;
     }
     maker.array(alloc, made)
@@ -67,19 +77,21 @@ fn give_items<M: Make>(
 #[cycle(giving)]
 fn give_entries<M: Make>(
     alloc: Global,
+    schema: &Schema,
+    node: NodeId,
     entries: &[(String, Datum)],
     maker: &mut M,
     at: M::At,
 ) -> Result<M::Out, AllocError>
     ensures kept { OnOk result (M.keeps maker.old maker.new) }
-    ensures stands { (nodes : List Node) (n : Node) → fits nodes n (Value.map_of (entries_seen entries.now)) ≡ true
-        → IfOk result (λ out. M.stands_for maker.new nodes n at out (Value.map_of (entries_seen entries.now))) }
+    ensures stands { fits (schema_nodes schema.now) (Node.map_of node.0) (Value.map_of (entries_seen entries.now)) ≡ true
+        → IfOk result (λ out. M.stands_for maker.new (schema_nodes schema.now) (Node.map_of node.0) at out (Value.map_of (entries_seen entries.now))) }
 {
     let mut made = maker.entries(alloc, at)?;
     for index in 0..entries.len() {
         let entry = &entries[index];
-        let part = maker.entry_at(&made);
-        let value = give(alloc, &entry.1, maker, part)?;
+        let part = maker.entry_at(&made, node);
+        let value = give(alloc, schema, node, &entry.1, maker, part)?;
         maker.entry(alloc, &mut made, entry.0.as_str(), value)?;
     }
     maker.map(alloc, made)
@@ -89,18 +101,25 @@ fn give_entries<M: Make>(
 #[cycle(giving)]
 fn give_fields<M: Make>(
     alloc: Global,
+    schema: &Schema,
+    id: NodeId,
     values: &[Datum],
     maker: &mut M,
     at: M::At,
 ) -> Result<M::Out, AllocError>
     ensures kept { OnOk result (M.keeps maker.old maker.new) }
-    ensures stands { (nodes : List Node) (n : Node) → fits nodes n (Value.record_of (values_seen values.now)) ≡ true
-        → IfOk result (λ out. M.stands_for maker.new nodes n at out (Value.record_of (values_seen values.now))) }
+    ensures stands { fits (schema_nodes schema.now) (node_at (schema_nodes schema.now) id.0) (Value.record_of (values_seen values.now)) ≡ true
+        → IfOk result (λ out. M.stands_for maker.new (schema_nodes schema.now) (node_at (schema_nodes schema.now) id.0) at out (Value.record_of (values_seen values.now))) }
 {
+    let fields = fields_of(schema, id);
     let mut made = maker.fields(alloc, at)?;
     for index in 0..values.len() {
-        let part = maker.field_at(&made);
-        let value = give(alloc, &values[index], maker, part)?;
+        let node = match fields.get(index) {
+            Some(field) => field.node,
+            None => id,
+        };
+        let part = maker.field_at(&made, node);
+        let value = give(alloc, schema, node, &values[index], maker, part)?;
         maker.field(alloc, &mut made, value)?;
     }
     maker.record(alloc, made)

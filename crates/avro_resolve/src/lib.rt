@@ -5,7 +5,7 @@
 //! the reader sees it, and no writer's datum is built. [`decode_resolved`] does the same and returns the
 //! datum. A [`Plan`] reads like [`read_resolved`], with the comparisons of pairs of nodes that a
 //! [`PlanTable`] keeps; a [`PlanRef`] borrows the table and the schemas. The contracts of a builder are
-//! about the values it builds; a [`Put`] may instead write to an output as it goes.
+//! about the values it builds; a [`Make`] may instead write to an output as it goes.
 //!
 //! [`resolve`] makes a plan of the pairs that the roots lead to, and gives the datum to it part by part (`giving.rt`), as reading gives
 //! what bytes start with: so resolution of data and of bytes have one maker and one proof. What each writer's field resolves to is stored
@@ -40,11 +40,12 @@ mod read;
 mod resolution;
 mod resolving;
 
-pub use avro_binary::{Build, Nothing, Put, Tree, read_own};
+pub use avro_binary::{Build, Make, Nothing, Place, Tree, read_own};
 pub use avro_compare::{
     Aim, At, Comparison, Fault, FaultKind, Names, compare, first_match, matches, source,
 };
 pub use error::{ReadResolveError, ResolveError};
+pub use giving::give;
 pub use plan::Plan;
 pub use plan::plan_pair::PlanPair;
 pub use plan::plan_ref::PlanRef;

@@ -1,5 +1,7 @@
 ghost use Rattle.std.specs.Prelude.{OnOk};
 ghost use Rattle.avro_schema.specs.SeenSchema.{schema_nodes};
+ghost use Rattle.avro_binary.specs.Places.{AreTold};
+ghost use Rattle.avro_resolve.specs.inside.Guided.{of_node};
 ghost use Rattle.avro_resolve.specs.Reading.{BuildsResolved, ReadsResolved};
 
 use crate::error::ReadResolveError;
@@ -8,7 +10,7 @@ use crate::plan::plan_table::PlanTable;
 use crate::resolving::Resolving;
 use crate::resolving::failing::turn_apart;
 use crate::resolving::guided::Made;
-use avro_binary::{Build, Put, Tree, Wrapping, read_made};
+use avro_binary::{Build, Make, Place, Tree, Wrapping, read_made};
 use avro_schema::{Datum, Limits, Schema};
 use std::alloc::Global;
 
@@ -65,26 +67,27 @@ pub(crate) fn read_planned<B: Build>(
 ) -> Result<(B::Out, usize), ReadResolveError>
     ensures { BuildsResolved B.stands_for (schema_nodes plan.now.0) (schema_nodes plan.now.1) limits.now bytes.now result }
 {
-    let mut put = Wrapping::new(builder);
-    put_planned(alloc, plan, bytes, limits, &mut put)
+    let mut maker = Wrapping::new(builder);
+    put_planned(alloc, plan, bytes, limits, &mut maker)
 }
 
-/// The same by a [`Put`](crate::Put), which may keep something as it goes.
-pub(crate) fn put_planned<P: Put>(
+/// The same by a [`Make`](crate::Make), which may keep something as it goes.
+pub(crate) fn put_planned<M: Make<At = Place>>(
     alloc: Global,
     plan: &PlanRef<'_>,
     bytes: &[u8],
     limits: &Limits,
-    builder: &mut P,
-) -> Result<(P::Out, usize), ReadResolveError>
-    ensures reads { BuildsResolved (P.stands_for builder.new) (schema_nodes plan.now.0) (schema_nodes plan.now.1) limits.now bytes.now result }
-    ensures kept { OnOk result (P.keeps builder.old builder.new) }
+    maker: &mut M,
+) -> Result<(M::Out, usize), ReadResolveError>
+    requires told { AreTold M.branch_at M.item_at M.entry_at M.field_at }
+    ensures reads { BuildsResolved (of_node (M.stands_for maker.new) (schema_nodes plan.now.1) 0) (schema_nodes plan.now.0) (schema_nodes plan.now.1) limits.now bytes.now result }
+    ensures kept { OnOk result (M.keeps maker.old maker.new) }
 {
     let writer = plan.writer();
     let w = writer.root();
     let part = plan.root_part();
-    let mut maker = Resolving::new(plan, builder);
-    match read_made(alloc, writer, w, bytes, limits, &mut maker, part) {
+    let mut resolving = Resolving::new(plan, maker);
+    match read_made(alloc, writer, w, bytes, limits, &mut resolving, part) {
         Ok((made, len)) => match made {
             Made::Good(out) => Ok((out, len)),
             Made::Faulty(fault) => Err(ReadResolveError::Resolve(turn_apart(fault))),

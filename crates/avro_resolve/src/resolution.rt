@@ -4,6 +4,8 @@ ghost use Rattle.avro_schema.specs.Node.{root_of};
 ghost use Rattle.avro_schema.specs.Seen.{value_of};
 ghost use Rattle.avro_schema.specs.SeenSchema.{schema_nodes};
 ghost use Rattle.avro_compare.specs.Resolve.{resolve_root};
+ghost use Rattle.avro_binary.specs.Places.{AreTold};
+ghost use Rattle.avro_resolve.specs.inside.Guided.{of_node};
 ghost use Rattle.avro_resolve.specs.Seen.{Answers, StandsForResult};
 
 use crate::error::ResolveError;
@@ -13,7 +15,7 @@ use crate::plan::plan_table::PlanTable;
 use crate::resolving::Resolving;
 use crate::resolving::failing::turn_apart;
 use crate::resolving::guided::Made;
-use avro_binary::{Put, Tree, Wrapping};
+use avro_binary::{Make, Place, Tree, Wrapping};
 use avro_schema::{Datum, Schema};
 use std::alloc::Global;
 
@@ -35,23 +37,25 @@ pub fn resolve(
 {
     let table = PlanTable::reached(alloc, writer, reader)?;
     let mut tree = Tree;
-    let mut builder = Wrapping::new(&mut tree);
-    put_datum(alloc, &table.plan(writer, reader), datum, &mut builder)
+    let mut maker = Wrapping::new(&mut tree);
+    put_datum(alloc, &table.plan(writer, reader), datum, &mut maker)
 }
 
-/// What a builder makes of what a writer's datum is for the reader of a plan.
-pub(crate) fn put_datum<P: Put>(
+/// What a maker makes of what a writer's datum is for the reader of a plan.
+pub(crate) fn put_datum<M: Make<At = Place>>(
     alloc: Global,
     plan: &PlanRef<'_>,
     datum: &Datum,
-    builder: &mut P,
-) -> Result<P::Out, ResolveError>
+    maker: &mut M,
+) -> Result<M::Out, ResolveError>
+    requires told { AreTold M.branch_at M.item_at M.entry_at M.field_at }
     requires fitting { fits (schema_nodes plan.now.0) (root_of (schema_nodes plan.now.0)) (value_of datum.now) ≡ true }
-    ensures { StandsForResult (P.stands_for builder.new) result (resolve_root (schema_nodes plan.now.0) (schema_nodes plan.now.1) (value_of datum.now)) }
+    ensures { StandsForResult (of_node (M.stands_for maker.new) (schema_nodes plan.now.1) 0) result (resolve_root (schema_nodes plan.now.0) (schema_nodes plan.now.1) (value_of datum.now)) }
 {
     let part = plan.root_part();
-    let mut maker = Resolving::new(plan, builder);
-    match give(alloc, datum, &mut maker, part) {
+    let writer = plan.writer();
+    let mut resolving = Resolving::new(plan, maker);
+    match give(alloc, writer, writer.root(), datum, &mut resolving, part) {
         Ok(made) => match made {
             Made::Good(out) => Ok(out),
             Made::Faulty(fault) => Err(ResolveError::Fault(turn_apart(fault))),

@@ -1,8 +1,9 @@
 -- Where the displays of the parts of a datum stand in a text, while the datum is read.
-use Rattle.std.specs.Prelude.{◌≡◌, ℕ, List, [], ◌∷◌, Option, Some, String, true, option_and_then, option_map, slice_get, string_bytes}
+use denote.Ref.{Bor}
+use Rattle.std.specs.Prelude.{◌≡◌, ℕ, List, [], ◌∷◌, ◌++◌, Option, None, Some, String, true, slice_get, string_bytes}
 use Rattle.std.specs.declared.alloc.Global.{Global}
 use Rattle.avro_schema.specs.Fits.{fits}
-use Rattle.avro_schema.specs.Node.{Node, FieldNode, branches_of, items_node, node_at, values_node}
+use Rattle.avro_schema.specs.Node.{Node, FieldNode, node_at}
 use Rattle.avro_schema.specs.Seen.{entries_from, values_from}
 use Rattle.avro_schema.specs.SeenSchema.{schema_nodes}
 use Rattle.avro_schema.specs.Value.{Value}
@@ -11,9 +12,11 @@ use Rattle.serde_json.specs.Data.{Data, Items, no_items, item, Members, no_membe
 use Rattle.serde_json.specs.Written.{compact_text}
 use Rattle.avro_binary.specs.Outputs.{Grows, StandsAt}
 use Rattle.avro_binary.specs.Pieces.{piece}
+use Rattle.avro_binary.specs.Places.{MayBeAt}
+use Rattle.avro_binary.specs.declared.place.Place.{Place}
 use Rattle.avro_cursor.specs.Encoding.{Spells}
 use Rattle.avro_display.specs.declared.member.Member.{Member}
-use Rattle.avro_display.specs.DisplayTree.{display_entries, display_items, display_text, display_tree, part_at, record_fields}
+use Rattle.avro_display.specs.DisplayTree.{branch_tree, display_entries, display_items, display_text, display_tree, record_fields}
 use Rattle.avro_show.specs.declared.spans.Span.{Span}
 use Rattle.avro_show.specs.declared.spans.Spans.{Spans}
 use Rattle.avro_show.specs.declared.spans.KeyedSpans.{KeyedSpans}
@@ -52,45 +55,44 @@ abbrev pub IsPieceOf : List Node → List ℕ → List ℕ → (ℕ → Data) �
 IsPieceOf nodes bytes ends tree m = (v : Value) × (fits nodes (node_at nodes m.node.0) v ≡ true) × Spells v (piece bytes ends m.field)
     × (tree m.field ≡ display_tree nodes (node_at nodes m.node.0) v)
 
--- a part of a datum that is read is of the node with an id in the schema that is displayed
-abbrev pub IsOf : Schema → List Node → Node → Option ℕ → Type 0
-IsOf t nodes n at = (nodes ≡ schema_nodes t) × (n ≡ part_at (schema_nodes t) at)
+-- the display of a value, with the text that opens it as the value of a union's branch where there is one
+abbrev pub opened : Option (Bor (List ℕ)) → List ℕ → List ℕ
+opened None bytes = bytes
+opened (Some opening) bytes = opening.now ++ (bytes ++ 125 ∷ [])
 
--- the display of a value as data of the node with an id
-abbrev pub text_of : Schema → Option ℕ → Value → List ℕ
-text_of t at v = display_text (schema_nodes t) (part_at (schema_nodes t) at) v
+-- what follows the text that opens the value of a branch, where there is one
+abbrev pub closed : Option (Bor (List ℕ)) → List ℕ → List ℕ
+closed None bytes = bytes
+closed (Some opening) bytes = bytes ++ 125 ∷ []
 
--- the id of the node of an array's items
-abbrev pub item_id : Schema → Option ℕ → Option ℕ
-item_id t at = items_node (part_at (schema_nodes t) at)
+-- the JSON of a value of a node, as the value of a branch of a union, if it is one
+abbrev pub tree_in : Option ℕ → Node → Data → Data
+tree_in None n d = d
+tree_in (Some k) n d = branch_tree n d
 
--- the id of the node of a map's values
-abbrev pub value_id : Schema → Option ℕ → Option ℕ
-value_id t at = values_node (part_at (schema_nodes t) at)
+-- a part of a datum is of a node of the schema that is displayed, and at a place of it
+abbrev pub IsOf : Schema → List Node → Node → Place → Type 0
+IsOf t nodes n at = (nodes ≡ schema_nodes t) × (n ≡ node_at (schema_nodes t) at.node.0) × MayBeAt n at
 
--- the id of the node of a union's branch
-abbrev pub branch_id : Schema → Option ℕ → ℕ → Option ℕ
-branch_id t at k = option_and_then (λ ids. slice_get ids k) (branches_of (part_at (schema_nodes t) at))
-
--- the id of the node of a record's field, by its index
-abbrev pub field_id_at : Schema → Option ℕ → ℕ → Option ℕ
-field_id_at t at k = option_map (λ f. f.node) (slice_get (record_fields (part_at (schema_nodes t) at)) k)
+-- the display of a value at a place
+abbrev pub text_of : Schema → Place → Value → List ℕ
+text_of t at v = compact_text (tree_in at.branch (node_at (schema_nodes t) at.node.0) (display_tree (schema_nodes t) (node_at (schema_nodes t) at.node.0) v))
 
 -- what stands in a text is the display of a datum of a node
-abbrev pub StandsFor : Schema → List ℕ → List Node → Node → Option ℕ → Span → Value → Type 0
+abbrev pub StandsFor : Schema → List ℕ → List Node → Node → Place → Span → Value → Type 0
 StandsFor t text nodes n at span v = IsOf t nodes n at → StandsIn text span (text_of t at v)
 
 -- the same of the items of an array so far
-abbrev pub ItemsStandFor : Schema → List ℕ → List Node → ℕ → Option ℕ → Spans → List Value → Type 0
+abbrev pub ItemsStandFor : Schema → List ℕ → List Node → ℕ → Place → Spans → List Value → Type 0
 ItemsStandFor t text nodes id at items vs = IsOf t nodes (Node.array id) at
-    → (items.owner ≡ at) × AreItemsAt text items.parts.items (display_items (schema_nodes t) (part_at (schema_nodes t) (item_id t at)) (values_from vs))
+    → (items.owner ≡ at) × AreItemsAt text items.parts.items (display_items (schema_nodes t) (node_at (schema_nodes t) id) (values_from vs))
 
 -- the same of the entries of a map so far
-abbrev pub EntriesStandFor : Schema → List ℕ → List Node → ℕ → Option ℕ → KeyedSpans → List (List ℕ × Value) → Type 0
+abbrev pub EntriesStandFor : Schema → List ℕ → List Node → ℕ → Place → KeyedSpans → List (List ℕ × Value) → Type 0
 EntriesStandFor t text nodes id at entries es = IsOf t nodes (Node.map_of id) at
-    → (entries.owner ≡ at) × AreMembersAt text entries.parts.entries (display_entries (schema_nodes t) (part_at (schema_nodes t) (value_id t at)) (entries_from es) no_members)
+    → (entries.owner ≡ at) × AreMembersAt text entries.parts.entries (display_entries (schema_nodes t) (node_at (schema_nodes t) id) (entries_from es) no_members)
 
 -- the same of the first fields of a record
-abbrev pub FieldsStandFor : Schema → List ℕ → List Node → List FieldNode → Option ℕ → Spans → List Value → Type 0
-FieldsStandFor t text nodes fs at fields vs = nodes ≡ schema_nodes t → fs ≡ record_fields (part_at (schema_nodes t) at)
+abbrev pub FieldsStandFor : Schema → List ℕ → List Node → List FieldNode → Place → Spans → List Value → Type 0
+FieldsStandFor t text nodes fs at fields vs = nodes ≡ schema_nodes t → fs ≡ record_fields (node_at (schema_nodes t) at.node.0)
     → (fields.owner ≡ at) × AreFieldsAt nodes text fs fields.parts.items vs

@@ -1,18 +1,25 @@
 //! The display of a whole from those of its parts.
 
-ghost use Rattle.std.specs.Prelude.{◌≡◌, ◌++◌, ◌∷◌, [], List, ℕ, OnOk};
+ghost use Rattle.std.specs.Prelude.{◌≡◌, ◌++◌, List, ℕ, true, OnOk};
 ghost use Rattle.std.specs.List.{AllByRecursion};
 ghost use Rattle.serde_json.specs.Data.{Data, Items, Members, array, object};
 ghost use Rattle.serde_json.specs.Written.{compact_text};
 ghost use Rattle.avro_display.specs.Displayed.{object_text};
+ghost use Rattle.avro_schema.specs.Fits.{fits};
+ghost use Rattle.avro_schema.specs.Node.{Node as SeenNode};
+ghost use Rattle.avro_schema.specs.Seen.{node_of};
 ghost use Rattle.avro_schema.specs.SeenSchema.{schema_nodes};
+ghost use Rattle.avro_schema.specs.Value.{Value};
+ghost use Rattle.avro_cursor.specs.Encoding.{Spells};
+ghost use Rattle.avro_display.specs.DisplayTree.{display_text};
 ghost use Rattle.avro_binary.specs.Outputs.{Grows};
 ghost use Rattle.avro_show.specs.Spans.{AreItemsAt, AreMembersAt, IsPieceOf, IsSpanAt, StandsIn};
 
 use crate::leaf::append_leaf;
 use crate::spans::Span;
-use avro_binary::{Pieces, piece_of};
+use avro_binary::{Pieces, leaf_of, piece_of};
 use avro_display::{DisplayTable, Member, Text};
+use avro_schema::Node;
 use std::alloc::AllocError;
 use std::collections::BTreeMap;
 
@@ -27,20 +34,6 @@ pub(crate) fn bytes_at(text: &[u8], span: Span) -> &[u8]
     let (_, rest) = text.split_at(span.start);
     let (bytes, _) = rest.split_at(span.end - span.start);
     bytes
-}
-
-/// Appends the display of a union's value, behind the text that opens its branch.
-#[inline(always)]
-pub(crate) fn append_branch(
-    whole: &mut Text,
-    opening: &[u8],
-    value: &[u8],
-) -> Result<(), AllocError>
-    ensures { OnOk result (whole.new ≡ whole.old ++ (opening.now ++ (value.now ++ 125 ∷ []))) }
-{
-    whole.append(opening)?;
-    whole.append(value)?;
-    whole.append_byte(b'}')
 }
 
 /// Appends the display of an array, whose items stand in a text.
@@ -131,7 +124,23 @@ fn append_piece(
     ensures kept { OnOk result (Grows text.old text.new) }
 {
     match piece_of(pieces, member.field) {
-        Some(bytes) => append_leaf(text, table.node(Some(member.node)), bytes),
+        Some(bytes) => append_encoded(text, table.schema().get(member.node), bytes),
+        None => Err(AllocError),
+    }
+}
+
+/// Appends the display of the datum without parts of a node that is encoded as these bytes.
+///
+/// # Errors
+///
+/// The bytes are no such encoding, or the node has parts; memory ran out.
+pub(crate) fn append_encoded(text: &mut Text, node: &Node, bytes: &[u8]) -> Result<(), AllocError>
+    ensures shown { (nodes : List SeenNode) (v : Value) → fits nodes (node_of node.now) v ≡ true → Spells v bytes.now
+        → OnOk result (text.new ≡ text.old ++ display_text nodes (node_of node.now) v) }
+    ensures kept { OnOk result (Grows text.old text.new) }
+{
+    match leaf_of(node, bytes) {
+        Some(leaf) => append_leaf(text, node, leaf),
         None => Err(AllocError),
     }
 }

@@ -1,13 +1,10 @@
 //! The display of a datum, made while the datum is read.
 
-ghost use Rattle.std.specs.Prelude.{◌≡◌, option_map, slice_get};
-ghost use Rattle.avro_schema.specs.Seen.{seen_fields};
-
 use crate::room::Room;
 use crate::spans::{KeyedSpans, Span, Spans};
-use avro_binary::{Leaf, Make, Pieces};
-use avro_display::{DisplayTable, bool_text, node_fields, symbol_text};
-use avro_schema::{Field, NodeId};
+use avro_binary::{Leaf, Make, Pieces, Place};
+use avro_display::DisplayTable;
+use avro_schema::NodeId;
 use std::alloc::{AllocError, Global};
 use std::collections::BTreeMap;
 
@@ -21,49 +18,36 @@ pub(crate) struct Displaying<'a> {
     pub(crate) room: &'a mut Room,
 }
 
-/// The id of a node, as a number.
-#[inline(always)]
-fn number_of(id: Option<NodeId>) -> Option<u32>
-    ensures { result ≡ option_map (λ id. id.0) id }
-{
-    match id {
-        Some(id) => Some(id.0),
-        None => None,
-    }
-}
+impl<'a> Displaying<'a> {
+    ghost use Rattle.std.specs.Prelude.{◌≡◌, List, ℕ};
+    ghost use Rattle.serde_json.specs.Data.{Data};
+    ghost use Rattle.serde_json.specs.Written.{compact_text};
+    ghost use Rattle.avro_schema.specs.Node.{node_at};
+    ghost use Rattle.avro_schema.specs.SeenSchema.{schema_nodes};
+    ghost use Rattle.avro_show.specs.Spans.{opened, tree_in};
 
-/// A number as the id of a node.
-#[inline(always)]
-fn id_of(number: Option<u32>) -> Option<NodeId>
-    ensures { option_map (λ id. id.0) result ≡ number }
-{
-    match number {
-        Some(number) => Some(NodeId(number)),
-        None => None,
-    }
-}
-
-/// The node of the field at an index.
-#[inline(always)]
-fn field_node(fields: &[Field], index: usize) -> Option<u32>
-    ensures { result ≡ option_map (λ f. f.node) (slice_get (seen_fields fields.now) index) }
-{
-    match fields.get(index) {
-        Some(field) => Some(field.node.0),
-        None => None,
+    /// The text that opens the value of a branch at a place, if it is one that is opened: null is not.
+    #[inline(always)]
+    fn opening(&self, at: Place) -> Option<&'a [u8]>
+        ensures { (d : Data) → opened result (compact_text d) ≡ compact_text (tree_in at.branch (node_at (schema_nodes self.now.table.now) at.node.0) d) }
+    {
+        let table = self.table;
+        match at.branch {
+            Some(_) => table.opening(at.node),
+            None => None,
+        }
     }
 }
 
 impl<'a> Make for Displaying<'a> {
-    ghost use Rattle.std.specs.Prelude.{◌≡◌, length, refl};
-    ghost use Rattle.std.proofs.Common.{◌∙◌, ap, sym};
-    ghost use Rattle.avro_schema.specs.declared.schema.Schema.{Schema};
-    ghost use Rattle.avro_show.specs.Spans.{EntriesStandFor, FieldsStandFor, ItemsStandFor, Keeps, StandsFor, branch_id, field_id_at, item_id, value_id};
+    ghost use Rattle.std.specs.Prelude.{refl};
+    ghost use Rattle.std.proofs.Common.{◌∙◌};
+    ghost use Rattle.avro_binary.specs.Places.{alone, branch_place};
+    ghost use Rattle.avro_show.specs.Spans.{EntriesStandFor, FieldsStandFor, ItemsStandFor, Keeps, StandsFor};
     ghost use Rattle.avro_binary.specs.Growing.{grows_none, grows_on};
-    ghost use Rattle.avro_show.specs.inside.Later.{entries_later, fields_later, items_later};
+    ghost use Rattle.avro_show.specs.inside.Later.{entries_later, fields_later, items_later, stands_later};
 
-    /// The id of the node that a part is displayed as data of, if there is one.
-    type At = Option<u32>;
+    type At = Place;
 
     type Out = Span;
 
@@ -85,13 +69,13 @@ impl<'a> Make for Displaying<'a> {
 
     ghost fields_stand_for = { λ s nodes fs at fields vs. FieldsStandFor s.table.now s.room.now.text nodes fs at fields vs };
 
-    ghost branch_at = { λ s at branch. branch_id s.table.now at branch };
+    ghost branch_at = { λ _ at branch id. branch_place branch id };
 
-    ghost item_at = { λ s items. item_id s.table.now items.owner };
+    ghost item_at = { λ _ items id. alone id };
 
-    ghost entry_at = { λ s entries. value_id s.table.now entries.owner };
+    ghost entry_at = { λ _ entries id. alone id };
 
-    ghost field_at = { λ s fields. field_id_at s.table.now fields.owner (length fields.parts.items) };
+    ghost field_at = { λ _ fields id. alone id };
 
     ghost keeps_itself = { λ s. (refl, grows_none s.room.now.text) };
 
@@ -103,85 +87,72 @@ impl<'a> Make for Displaying<'a> {
 
     ghost fields_kept = { λ s t nodes fs at fields vs kept stand. fields_later s.table.now t.table.now s.room.now.text t.room.now.text nodes fs at fields vs kept.0 kept.1 stand };
 
-    ghost branch_at_kept = { λ s t at branch kept. ap (λ (x : Schema). branch_id x at branch) (sym kept.0) };
+    ghost still_stands = { λ s t nodes n at out v kept stand. stands_later s.table.now t.table.now s.room.now.text t.room.now.text nodes n at out v kept.0 kept.1 stand };
 
-    ghost item_at_kept = { λ s t items kept. ap (λ (x : Schema). item_id x items.owner) (sym kept.0) };
+    ghost branch_at_kept = { λ s t at branch id kept. refl };
 
-    ghost entry_at_kept = { λ s t entries kept. ap (λ (x : Schema). value_id x entries.owner) (sym kept.0) };
+    ghost item_at_kept = { λ s t items id kept. refl };
 
-    ghost field_at_kept = { λ s t fields kept. ap (λ (x : Schema). field_id_at x fields.owner (length fields.parts.items)) (sym kept.0) };
+    ghost entry_at_kept = { λ s t entries id kept. refl };
 
-    fn empty(&mut self, _alloc: Global, _at: Option<u32>) -> Result<Option<Span>, AllocError> {
-        Ok(None)
+    ghost field_at_kept = { λ s t fields id kept. refl };
+
+    fn ends(&mut self, alloc: Global, _at: Place) -> Option<Vec<usize>> {
+        Some(self.room.take_ends(alloc))
     }
 
-    fn ends(&mut self, alloc: Global, _at: Option<u32>) -> Option<Vec<usize>> {
-        Some(self.room.take_ends(alloc))
+    fn keep_ends(&mut self, ends: Vec<usize>) {
+        self.room.keep_ends(ends);
     }
 
     fn pieces(
         &mut self,
         _alloc: Global,
-        at: Option<u32>,
+        at: Place,
         bytes: &[u8],
         ends: Vec<usize>,
     ) -> Result<Option<Span>, AllocError> {
-        let members = self.table.part_members(id_of(at));
+        let opening = self.opening(at);
+        let members = self.table.members(at.node);
         let pieces = Pieces { bytes, ends: &ends };
-        let span = self.room.pieces(self.table, members, pieces)?;
+        let span = self.room.pieces(opening, self.table, members, pieces)?;
         self.room.keep_ends(ends);
         Ok(Some(span))
     }
 
+    fn copied(
+        &mut self,
+        _alloc: Global,
+        at: Place,
+        content: &[u8],
+    ) -> Result<Option<Span>, AllocError> {
+        let opening = self.opening(at);
+        let node = self.table.schema().get(at.node);
+        let span = self.room.encoded(opening, node, content)?;
+        Ok(Some(span))
+    }
+
     #[inline(always)]
-    fn leaf(
-        &mut self,
-        _alloc: Global,
-        at: Option<u32>,
-        leaf: Leaf<'_>,
-    ) -> Result<Span, AllocError> {
-        let table = self.table;
-        match leaf {
-            Leaf::Null => self.room.plain(b"null"),
-            Leaf::Boolean(value) => self.room.plain(bool_text(value)),
-            Leaf::Int(value) => self.room.number(i64::from(value)),
-            Leaf::Long(value) => self.room.number(value),
-            Leaf::Bytes(content) => self.room.characters(content),
-            Leaf::Text(text) => self.room.quoted(text),
-            Leaf::Fixed(content) => self.room.characters(content),
-            Leaf::Symbol(index) => {
-                self.room.quoted(symbol_text(table.node(id_of(at)), index))
-            }
-        }
+    fn leaf(&mut self, _alloc: Global, at: Place, leaf: Leaf<'_>) -> Result<Span, AllocError> {
+        let opening = self.opening(at);
+        let node = self.table.schema().get(at.node);
+        self.room.leaf(opening, node, leaf)
     }
 
-    fn branch_at(&self, at: Option<u32>, branch: u32) -> Option<u32> {
-        number_of(self.table.node(id_of(at)).branch(branch))
+    fn branch_at(&self, _at: Place, branch: u32, node: NodeId) -> Place {
+        Place::in_branch(branch, node)
     }
 
-    fn branch(
-        &mut self,
-        _alloc: Global,
-        at: Option<u32>,
-        branch: u32,
-        value: Span,
-    ) -> Result<Span, AllocError> {
-        let table = self.table;
-        match table.part_opening(table.node(id_of(at)).branch(branch)) {
-            Some(opening) => self.room.branch(opening, value),
-            None => self.room.plain(b"null"),
-        }
+    fn branch(&mut self, _alloc: Global, _branch: u32, value: Span) -> Result<Span, AllocError> {
+        Ok(value)
     }
 
-    fn items(&mut self, alloc: Global, at: Option<u32>) -> Result<Spans, AllocError> {
-        Ok(Spans {
-            owner: at,
-            parts: Vec::new(alloc),
-        })
+    fn items(&mut self, alloc: Global, at: Place) -> Result<Spans, AllocError> {
+        Ok(self.room.spans(alloc, at))
     }
 
-    fn item_at(&self, items: &Spans) -> Option<u32> {
-        number_of(self.table.node(id_of(items.owner)).items())
+    fn item_at(&self, _items: &Spans, node: NodeId) -> Place {
+        Place::of(node)
     }
 
     fn item(&mut self, _alloc: Global, items: &mut Spans, value: Span) -> Result<(), AllocError> {
@@ -189,15 +160,14 @@ impl<'a> Make for Displaying<'a> {
         Ok(())
     }
 
-    fn repeat(&self, _items: &mut Spans, _value: &Span, _count: u32) -> bool {
-        false
-    }
-
     fn array(&mut self, _alloc: Global, items: Spans) -> Result<Span, AllocError> {
-        self.room.array(&items.parts)
+        let opening = self.opening(items.owner);
+        let span = self.room.array(opening, &items.parts)?;
+        self.room.keep_spans(items);
+        Ok(span)
     }
 
-    fn entries(&mut self, alloc: Global, at: Option<u32>) -> Result<KeyedSpans, AllocError> {
+    fn entries(&mut self, alloc: Global, at: Place) -> Result<KeyedSpans, AllocError> {
         Ok(KeyedSpans {
             owner: at,
             parts: BTreeMap::new(alloc),
@@ -205,8 +175,8 @@ impl<'a> Make for Displaying<'a> {
         })
     }
 
-    fn entry_at(&self, entries: &KeyedSpans) -> Option<u32> {
-        number_of(self.table.node(id_of(entries.owner)).values())
+    fn entry_at(&self, _entries: &KeyedSpans, node: NodeId) -> Place {
+        Place::of(node)
     }
 
     fn entry(
@@ -226,19 +196,15 @@ impl<'a> Make for Displaying<'a> {
     }
 
     fn map(&mut self, _alloc: Global, entries: KeyedSpans) -> Result<Span, AllocError> {
-        self.room.object(&entries.parts)
+        self.room.object(self.opening(entries.owner), &entries.parts)
     }
 
-    fn fields(&mut self, alloc: Global, at: Option<u32>) -> Result<Spans, AllocError> {
-        Ok(Spans {
-            owner: at,
-            parts: Vec::new(alloc),
-        })
+    fn fields(&mut self, alloc: Global, at: Place) -> Result<Spans, AllocError> {
+        Ok(self.room.spans(alloc, at))
     }
 
-    fn field_at(&self, fields: &Spans) -> Option<u32> {
-        let node = self.table.node(id_of(fields.owner));
-        field_node(node_fields(node), fields.parts.len())
+    fn field_at(&self, _fields: &Spans, node: NodeId) -> Place {
+        Place::of(node)
     }
 
     fn field(&mut self, _alloc: Global, fields: &mut Spans, value: Span) -> Result<(), AllocError> {
@@ -246,12 +212,15 @@ impl<'a> Make for Displaying<'a> {
         Ok(())
     }
 
-    fn empty_fields(&self, _fields: &mut Spans, _count: u32) -> bool {
-        false
+    fn record(&mut self, _alloc: Global, fields: Spans) -> Result<Span, AllocError> {
+        let opening = self.opening(fields.owner);
+        let members = self.table.members(fields.owner.node);
+        let span = self.room.record(opening, members, &fields.parts)?;
+        self.room.keep_spans(fields);
+        Ok(span)
     }
 
-    fn record(&mut self, _alloc: Global, fields: Spans) -> Result<Span, AllocError> {
-        let members = self.table.part_members(id_of(fields.owner));
-        self.room.record(members, &fields.parts)
-    }
+    fn keep_slots(&mut self, _slots: Vec<Option<Span>>)
+        ensures kept { Keeps self.old.table.now self.old.room.now.text self.new.table.now self.new.room.now.text }
+    {}
 }

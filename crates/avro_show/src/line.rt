@@ -16,7 +16,7 @@ ghost use Rattle.avro_display.specs.DisplayTree.{display_text};
 use crate::composing::bytes_at;
 use crate::displaying::Displaying;
 use crate::room::Room;
-use avro_binary::{ReadError, read_made};
+use avro_binary::{Place, ReadError, read_made};
 use avro_display::{DisplayTable, Text};
 use avro_schema::Limits;
 use std::alloc::{AllocError, Global};
@@ -55,7 +55,7 @@ pub fn append_line(
         bytes,
         limits,
         &mut displaying,
-        Some(root.0),
+        Place::of(root),
     )?;
     append_ended(lines, bytes_at(displaying.room.text.as_slice(), shown))?;
     Ok(len)

@@ -1,28 +1,38 @@
 //! The text in which the display of a datum is made.
 
-ghost use Rattle.std.specs.Prelude.{◌≡◌, ◌+◌, ◌≤◌, ◌++◌, ◌∷◌, [], List, false, ℕ, IfOk, OnOk, encode_utf8_all, length};
+ghost use Rattle.std.specs.Prelude.{◌≡◌, ◌+◌, ◌≤◌, ◌++◌, [], List, false, true, ℕ, IfOk, OnOk, length};
 ghost use Rattle.std.specs.List.{AllByRecursion};
+ghost use Rattle.avro_schema.specs.Fits.{fits};
+ghost use Rattle.avro_schema.specs.Node.{Node as SeenNode};
+ghost use Rattle.avro_schema.specs.Seen.{node_of};
 ghost use Rattle.avro_schema.specs.SeenSchema.{schema_nodes};
-ghost use Rattle.json.specs.Print.{quoted};
+ghost use Rattle.avro_schema.specs.Value.{Value};
+ghost use Rattle.avro_cursor.specs.Encoding.{Spells};
 ghost use Rattle.serde_json.specs.Data.{Data, Items, Members, array, object};
-ghost use Rattle.serde_json.specs.Find.{of_integer};
-ghost use Rattle.serde_json.specs.Written.{compact_text, number_text};
+ghost use Rattle.serde_json.specs.Written.{compact_text};
 ghost use Rattle.avro_display.specs.Displayed.{object_text};
+ghost use Rattle.avro_display.specs.DisplayTree.{display_text};
+ghost use Rattle.avro_binary.specs.LeafValue.{leaf_value};
 ghost use Rattle.avro_binary.specs.Outputs.{Grows};
-ghost use Rattle.avro_show.specs.Spans.{AreItemsAt, AreMembersAt, IsPieceOf, IsSpanAt, StandsIn};
+ghost use Rattle.avro_show.specs.Spans.{AreItemsAt, AreMembersAt, IsPieceOf, IsSpanAt, StandsIn, closed, opened};
 
 use crate::composing::{
-    append_branch, append_entries, append_items, append_members, append_pieces, bytes_at,
+    append_encoded, append_entries, append_items, append_members, append_pieces,
 };
-use crate::spans::Span;
-use avro_binary::Pieces;
+use crate::leaf::append_leaf;
+use crate::spans::{Span, Spans};
+use avro_binary::{Leaf, Pieces, Place};
 use avro_display::{DisplayTable, Member, Text};
+use avro_schema::Node;
 use std::alloc::{AllocError, Global};
 use std::collections::BTreeMap;
 use std::mem::replace;
 
 /// More bytes are not made, so that not much is lost where a display turns out to be long.
 const MOST: usize = 65_536;
+
+/// So many lists are kept.
+const LISTS: usize = 16;
 
 /// What the display of a datum is made in. It is kept from datum to datum; what it holds says nothing.
 #[derive(Drop)]
@@ -33,6 +43,8 @@ pub struct Room {
     whole: Text,
     // a list for the ends of fields
     ends: Vec<usize>,
+    // lists for the parts of wholes
+    lists: Vec<Vec<Span>>,
 }
 
 impl Room {
@@ -44,6 +56,7 @@ impl Room {
             text: Text::new(alloc),
             whole: Text::new(alloc),
             ends: Vec::new(alloc),
+            lists: Vec::new(alloc),
         }
     }
 
@@ -61,15 +74,59 @@ impl Room {
         self.ends = ends;
     }
 
-    /// What was made from an offset on.
+    /// No parts of the whole at a place.
+    pub(crate) fn spans(&mut self, alloc: Global, owner: Place) -> Spans
+        ensures text { self.new.text ≡ self.old.text }
+        ensures owner { result.owner ≡ owner }
+        ensures none { result.parts.items ≡ [] }
+    {
+        let mut parts = match self.lists.pop() {
+            Some(parts) => parts,
+            None => Vec::new(alloc),
+        };
+        parts.clear();
+        Spans { owner, parts }
+    }
+
+    /// Keeps the list of some parts for later, where few are kept. If memory runs out it is dropped.
+    pub(crate) fn keep_spans(&mut self, spans: Spans)
+        ensures { self.new.text ≡ self.old.text }
+    {
+        if self.lists.len() < LISTS {
+            match self.lists.push(spans.parts) {
+                Ok(()) => {}
+                Err(_) => {}
+            }
+        }
+    }
+
+    /// Begins a display, behind the text that opens the branch of a union, if it goes into one, and returns where.
+    #[inline(always)]
+    fn begin(&mut self, opening: Option<&[u8]>) -> Result<usize, AllocError>
+        ensures begun { (bytes : List ℕ) → OnOk result (self.new.text ++ closed opening.entry bytes ≡ self.old.text ++ opened opening.entry bytes) }
+        ensures start { IfOk result (λ start. start ≡ length self.old.text) }
+        ensures kept { OnOk result (Grows self.old.text self.new.text) }
+    {
+        let start = self.text.len();
+        if let Some(opening) = opening {
+            self.text.append(opening)?;
+        }
+        Ok(start)
+    }
+
+    /// Ends a display that begins at an offset, behind the same text.
     ///
     /// # Errors
     ///
-    /// The text is too long.
+    /// The text is too long; memory ran out.
     #[inline(always)]
-    fn since(&self, start: usize) -> Result<Span, AllocError>
-        ensures { (before bytes : List ℕ) → self.now.text ≡ before ++ bytes → start ≡ length before → IfOk result (λ span. StandsIn self.now.text span bytes) }
+    fn end(&mut self, opening: Option<&[u8]>, start: usize) -> Result<Span, AllocError>
+        ensures stands { (before bytes : List ℕ) → self.old.text ++ closed opening.entry [] ≡ before ++ bytes → start ≡ length before → IfOk result (λ span. StandsIn self.new.text span bytes) }
+        ensures kept { OnOk result (Grows self.old.text self.new.text) }
     {
+        if opening.is_some() {
+            self.text.append_byte(b'}')?;
+        }
         let end = self.text.len();
         if end > MOST {
             return Err(AllocError);
@@ -84,116 +141,107 @@ impl Room {
         self.text.len().saturating_add(more) > MOST
     }
 
-    /// Makes a text at hand.
+    /// Makes a datum without parts of a node.
     #[inline(always)]
-    pub(crate) fn plain(&mut self, bytes: &[u8]) -> Result<Span, AllocError>
+    pub(crate) fn leaf(
+        &mut self,
+        opening: Option<&[u8]>,
+        node: &Node,
+        leaf: Leaf<'_>,
+    ) -> Result<Span, AllocError>
         ensures kept { OnOk result (Grows self.old.text self.new.text) }
-        ensures stands { IfOk result (λ span. StandsIn self.new.text span bytes.now) }
+        ensures stands { (nodes : List SeenNode) → fits nodes (node_of node.now) (leaf_value leaf.entry) ≡ true
+            → IfOk result (λ span. StandsIn self.new.text span (opened opening.entry (display_text nodes (node_of node.now) (leaf_value leaf.entry)))) }
     {
-        let start = self.text.len();
-        self.text.append(bytes)?;
-        self.since(start)
+        let start = self.begin(opening)?;
+        append_leaf(&mut self.text, node, leaf)?;
+        self.end(opening, start)
     }
 
-    /// Makes the digits of a number.
-    #[inline(always)]
-    pub(crate) fn number(&mut self, value: i64) -> Result<Span, AllocError>
+    /// The same by its encoding.
+    pub(crate) fn encoded(
+        &mut self,
+        opening: Option<&[u8]>,
+        node: &Node,
+        bytes: &[u8],
+    ) -> Result<Span, AllocError>
         ensures kept { OnOk result (Grows self.old.text self.new.text) }
-        ensures stands { IfOk result (λ span. StandsIn self.new.text span (number_text (of_integer value))) }
+        ensures stands { (nodes : List SeenNode) (v : Value) → fits nodes (node_of node.now) v ≡ true → Spells v bytes.now
+            → IfOk result (λ span. StandsIn self.new.text span (opened opening.entry (display_text nodes (node_of node.now) v))) }
     {
-        let start = self.text.len();
-        self.text.append_number(value)?;
-        self.since(start)
-    }
-
-    /// Makes a quoted text.
-    pub(crate) fn quoted(&mut self, string: &str) -> Result<Span, AllocError>
-        ensures kept { OnOk result (Grows self.old.text self.new.text) }
-        ensures stands { IfOk result (λ span. StandsIn self.new.text span (quoted string.now)) }
-    {
-        let start = self.text.len();
-        self.text.append_quoted(string)?;
-        self.since(start)
-    }
-
-    /// Makes a quoted text of one character for each byte.
-    pub(crate) fn characters(&mut self, bytes: &[u8]) -> Result<Span, AllocError>
-        ensures kept { OnOk result (Grows self.old.text self.new.text) }
-        ensures stands { IfOk result (λ span. StandsIn self.new.text span (quoted (encode_utf8_all bytes.now))) }
-    {
-        let start = self.text.len();
-        self.text.append_characters(bytes)?;
-        self.since(start)
-    }
-
-    /// Makes the value of a union's branch, behind the text that opens it.
-    pub(crate) fn branch(&mut self, opening: &[u8], value: Span) -> Result<Span, AllocError>
-        ensures kept { OnOk result (Grows self.old.text self.new.text) }
-        ensures stands { (bytes : List ℕ) → StandsIn self.old.text value bytes → IfOk result (λ span. StandsIn self.new.text span (opening.now ++ (bytes ++ 125 ∷ []))) }
-    {
-        self.whole.clear();
-        append_branch(
-            &mut self.whole,
-            opening,
-            bytes_at(self.text.as_slice(), value),
-        )?;
-        self.composed()
+        let start = self.begin(opening)?;
+        append_encoded(&mut self.text, node, bytes)?;
+        self.end(opening, start)
     }
 
     /// Makes an array of items.
-    pub(crate) fn array(&mut self, items: &[Span]) -> Result<Span, AllocError>
+    pub(crate) fn array(
+        &mut self,
+        opening: Option<&[u8]>,
+        items: &[Span],
+    ) -> Result<Span, AllocError>
         ensures kept { OnOk result (Grows self.old.text self.new.text) }
-        ensures stands { (ds : Items) → AreItemsAt self.old.text items.now ds → IfOk result (λ span. StandsIn self.new.text span (compact_text (array ds))) }
+        ensures stands { (ds : Items) → AreItemsAt self.old.text items.now ds → IfOk result (λ span. StandsIn self.new.text span (opened opening.entry (compact_text (array ds)))) }
     {
         self.whole.clear();
         append_items(&mut self.whole, self.text.as_slice(), items)?;
-        self.composed()
+        self.composed(opening)
     }
 
     /// Makes an object of entries.
-    pub(crate) fn object(&mut self, entries: &BTreeMap<String, Span>) -> Result<Span, AllocError>
+    pub(crate) fn object(
+        &mut self,
+        opening: Option<&[u8]>,
+        entries: &BTreeMap<String, Span>,
+    ) -> Result<Span, AllocError>
         ensures kept { OnOk result (Grows self.old.text self.new.text) }
-        ensures stands { (ms : Members) → AreMembersAt self.old.text entries.now.entries ms → IfOk result (λ span. StandsIn self.new.text span (compact_text (object ms))) }
+        ensures stands { (ms : Members) → AreMembersAt self.old.text entries.now.entries ms → IfOk result (λ span. StandsIn self.new.text span (opened opening.entry (compact_text (object ms)))) }
     {
         self.whole.clear();
         append_entries(&mut self.whole, self.text.as_slice(), entries)?;
-        self.composed()
+        self.composed(opening)
     }
 
     /// Makes an object of members from their values, by their fields.
-    pub(crate) fn record(&mut self, members: &[Member], values: &[Span]) -> Result<Span, AllocError>
+    pub(crate) fn record(
+        &mut self,
+        opening: Option<&[u8]>,
+        members: &[Member],
+        values: &[Span],
+    ) -> Result<Span, AllocError>
         ensures kept { OnOk result (Grows self.old.text self.new.text) }
         ensures stands { (tree : ℕ → Data) → AllByRecursion (λ m. IsSpanAt self.old.text values.now m.field (compact_text (tree m.field))) members.now
-            → IfOk result (λ span. StandsIn self.new.text span (object_text tree members.now)) }
+            → IfOk result (λ span. StandsIn self.new.text span (opened opening.entry (object_text tree members.now))) }
     {
         self.whole.clear();
         append_members(&mut self.whole, self.text.as_slice(), members, values)?;
-        self.composed()
+        self.composed(opening)
     }
 
     /// Makes an object of members from the encodings of their values.
     pub(crate) fn pieces(
         &mut self,
+        opening: Option<&[u8]>,
         table: &DisplayTable<'_>,
         members: &[Member],
         pieces: Pieces<'_>,
     ) -> Result<Span, AllocError>
         ensures kept { OnOk result (Grows self.old.text self.new.text) }
         ensures stands { (tree : ℕ → Data) → AllByRecursion (IsPieceOf (schema_nodes table.now) pieces.entry.bytes.now pieces.entry.ends.now tree) members.now
-            → IfOk result (λ span. StandsIn self.new.text span (object_text tree members.now)) }
+            → IfOk result (λ span. StandsIn self.new.text span (opened opening.entry (object_text tree members.now))) }
     {
-        let start = self.text.len();
+        let start = self.begin(opening)?;
         append_pieces(&mut self.text, table, members, pieces)?;
-        self.since(start)
+        self.end(opening, start)
     }
 
     /// Makes the whole that was put together.
-    fn composed(&mut self) -> Result<Span, AllocError>
+    fn composed(&mut self, opening: Option<&[u8]>) -> Result<Span, AllocError>
         ensures kept { OnOk result (Grows self.old.text self.new.text) }
-        ensures stands { IfOk result (λ span. StandsIn self.new.text span self.old.whole) }
+        ensures stands { IfOk result (λ span. StandsIn self.new.text span (opened opening.entry self.old.whole)) }
     {
-        let start = self.text.len();
+        let start = self.begin(opening)?;
         self.text.append(self.whole.as_slice())?;
-        self.since(start)
+        self.end(opening, start)
     }
 }

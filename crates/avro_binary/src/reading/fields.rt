@@ -57,7 +57,7 @@ fn read_fields<M: Make>(
 {
     let mut values = maker.fields(alloc, at)?;
     for field in fields {
-        let part = maker.field_at(&values);
+        let part = maker.field_at(&values, field.node);
         let value = read_at(alloc, schema, field.node, cursor, maker, part)?;
         maker.field(alloc, &mut values, value)?;
     }
@@ -95,8 +95,9 @@ fn read_runs<M: Make>(
             &mut values,
         )?;
         if passed == 0 {
-            let part = maker.field_at(&values);
-            let value = read_apart(alloc, schema, fields[index].node, cursor, maker, part)?;
+            let node = fields[index].node;
+            let part = maker.field_at(&values, node);
+            let value = read_apart(alloc, schema, node, cursor, maker, part)?;
             maker.field(alloc, &mut values, value)?;
             index += 1;
         } else {

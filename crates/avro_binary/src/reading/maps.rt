@@ -92,7 +92,7 @@ fn read_entries<'a, M: Make>(
 {
     for _done in 0..count {
         let key = cursor.key(keys)?;
-        let at = maker.entry_at(entries);
+        let at = maker.entry_at(entries, id);
         let value = read_at(alloc, schema, id, cursor, maker, at)?;
         maker.entry(alloc, entries, key, value)?;
     }

@@ -17,7 +17,7 @@ ghost use Rattle.avro_file.specs.FileFault.{FileFault};
 use crate::error::{CopyError, LimitPlace};
 use crate::header::Header;
 use crate::limits::FileLimits;
-use avro_binary::{Build, Nothing, ReadError, read_made, read_own};
+use avro_binary::{Build, Nothing, Place, ReadError, read_made, read_own};
 use avro_resolve::{PlanRef, ReadResolveError};
 use avro_schema::{Limits, Schema};
 use std::alloc::Global;
@@ -112,7 +112,7 @@ pub(crate) fn walk_datum(
         bytes,
         limits,
         &mut Nothing,
-        None,
+        Place::of(schema.root()),
     ) {
         Ok(answer) => Ok(answer),
         Err(error) => Err(ReadResolveError::Read(error)),

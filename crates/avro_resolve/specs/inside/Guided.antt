@@ -1,11 +1,15 @@
 -- What reading with resolution makes of a writer's datum, part by part.
-use Rattle.std.specs.Prelude.{◌≡◌, ℕ, ◌+◌, ◌++◌, List, [], IfSome, Option, Some, None, length, slice_get, Result, Ok, Err}
+use Rattle.std.specs.Prelude.{◌≡◌, ℕ, ◌+◌, ◌++◌, List, [], true, false, IfSome, Option, Some, None, length, slice_get, Result, Ok, Err}
 use Rattle.avro_schema.specs.Value.{Value}
 use Rattle.avro_schema.specs.Node.{Node, FieldNode, node_at}
 use Rattle.avro_schema.specs.Seen.{values_from, entries_from}
 use Rattle.avro_schema.specs.declared.schema.NodeId.{NodeId}
 use Rattle.avro_binary.specs.LeafValue.{leaf_value}
+use Rattle.avro_binary.specs.Places.{alone, is_union, placed}
+use Rattle.avro_binary.specs.declared.place.Place.{Place}
 use Rattle.avro_binary.specs.declared.leaf.Leaf.{Leaf}
+use Rattle.avro_schema.specs.Fits.{fits}
+use Rattle.avro_compare.specs.Fields.{IsField}
 use Rattle.avro_compare.specs.Fault.{ResolutionFault, fault_here}
 use Rattle.avro_compare.specs.Seen.{cause_of}
 use Rattle.avro_compare.specs.declared.error.FaultKind.{FaultKind}
@@ -37,11 +41,19 @@ abbrev pub IsNothing : {O : Type 0} → Made O → Type 0
 IsNothing Made.Nothing = Unit {0}
 IsNothing made = ⊥
 
+-- what stands for a datum at a place of its node, by what stands for a datum of a node at a place
+abbrev pub at_place : {O : Type 0} → (List Node → Node → Place → O → Value → Type 0) → List Node → Place → O → Value → Type 0
+at_place S nodes at = S nodes (node_at nodes at.node.0) at
+
+-- the same of data that are in no union, by the ids of their nodes
+abbrev pub of_node : {O : Type 0} → (List Node → Node → Place → O → Value → Type 0) → List Node → ℕ → O → Value → Type 0
+of_node S nodes id = at_place S nodes (alone id)
+
 -- What a part at a pair of nodes is made of is what resolution gives of it; of an ignored part nothing is made.
-abbrev pub StandsAs : {O : Type 0} → (O → Value → Type 0) → List Node → List Node → List Node → Node → At → Made O → Value → Type 0
+abbrev pub StandsAs : {O : Type 0} → (List Node → Node → Place → O → Value → Type 0) → List Node → List Node → List Node → Node → At → Made O → Value → Type 0
 StandsAs S writer reader nodes n Ignored out v = IsNothing out
 StandsAs S writer reader nodes n (Pair w r) out v =
-    nodes ≡ writer → n ≡ node_at writer w.0 → MadeAs S out (resolve writer reader (node_at writer w.0) (node_at reader r.0) v)
+    nodes ≡ writer → n ≡ node_at writer w.0 → MadeAs (of_node S reader r.0) out (resolve writer reader (node_at writer w.0) (node_at reader r.0) v)
 
 abbrev pub branch_for : List Node → At → ℕ → At
 branch_for writer Ignored k = Ignored
@@ -58,7 +70,7 @@ SoFar {E = E} run join xs made = (more : List E) → run 0 (xs ++ more) ≡ resu
 -- ---- Items
 
 -- items that were made so far, none of which has a fault
-pub record ItemsGood {I : Type 0} (S : I → List Value → Type 0) (writer reader : List Node) (w r : Node) (items : I) (count : ℕ) (branch : Option ℕ) (a b : NodeId) (vs : List Value) : Type 0 where
+pub record ItemsGood {I : Type 0} (S : List Node → ℕ → Place → I → List Value → Type 0) (writer reader : List Node) (w r : Node) (items : I) (count : ℕ) (branch : Option ℕ) (a b : NodeId) (vs : List Value) : Type 0 where
   pub to : ℕ
   pub leads : Leads writer reader w r branch to
   pub of_writer : a.0 ≡ item_id w
@@ -66,10 +78,10 @@ pub record ItemsGood {I : Type 0} (S : I → List Value → Type 0) (writer read
   pub counted : count ≡ length vs
   pub made : List Value
   pub so_far : SoFar (λ k us. resolve_items writer reader (node_at writer a.0) (node_at reader b.0) k (values_from us)) values_before vs made
-  pub stands : S items made
+  pub stands : S reader b.0 (placed branch to) items made
 
 -- a run is good so far, or one of its items has a fault, whatever follows
-abbrev pub RunAs : {I : Type 0} → (I → List Value → Type 0) → List Node → List Node → Node → Node → Run I → List Value → Type 0
+abbrev pub RunAs : {I : Type 0} → (List Node → ℕ → Place → I → List Value → Type 0) → List Node → List Node → Node → Node → Run I → List Value → Type 0
 RunAs S writer reader w r (Run.Good items count branch a b) vs = ItemsGood S writer reader w r items count branch a b vs
 RunAs S writer reader w r (Run.Faulty fault) vs =
     (more : List Value) → resolve writer reader w r (Value.array (values_from (vs ++ more))) ≡ Err (turned fault.value)
@@ -79,7 +91,7 @@ abbrev pub IsNoRun : {I : Type 0} → Run I → Type 0
 IsNoRun Run.Nothing = Unit {0}
 IsNoRun run = ⊥
 
-abbrev pub ItemsStandAs : {I : Type 0} → (I → List Value → Type 0) → List Node → List Node → List Node → ℕ → At → Run I → List Value → Type 0
+abbrev pub ItemsStandAs : {I : Type 0} → (List Node → ℕ → Place → I → List Value → Type 0) → List Node → List Node → List Node → ℕ → At → Run I → List Value → Type 0
 ItemsStandAs S writer reader nodes id Ignored items vs = IsNoRun items
 ItemsStandAs S writer reader nodes id (Pair w r) items vs =
     nodes ≡ writer → Node.array id ≡ node_at writer w.0 → RunAs S writer reader (node_at writer w.0) (node_at reader r.0) items vs
@@ -87,7 +99,7 @@ ItemsStandAs S writer reader nodes id (Pair w r) items vs =
 -- ---- Entries
 
 -- the same of entries
-pub record EntriesGood {I : Type 0} (S : I → List (List ℕ × Value) → Type 0) (writer reader : List Node) (w r : Node) (items : I) (count : ℕ) (branch : Option ℕ) (a b : NodeId) (vs : List (List ℕ × Value)) : Type 0 where
+pub record EntriesGood {I : Type 0} (S : List Node → ℕ → Place → I → List (List ℕ × Value) → Type 0) (writer reader : List Node) (w r : Node) (items : I) (count : ℕ) (branch : Option ℕ) (a b : NodeId) (vs : List (List ℕ × Value)) : Type 0 where
   pub to : ℕ
   pub leads : Leads writer reader w r branch to
   pub of_writer : a.0 ≡ value_id w
@@ -95,15 +107,15 @@ pub record EntriesGood {I : Type 0} (S : I → List (List ℕ × Value) → Type
   pub counted : count ≡ length vs
   pub made : List (List ℕ × Value)
   pub so_far : SoFar (λ k us. resolve_entries writer reader (node_at writer a.0) (node_at reader b.0) k (entries_from us)) entries_before vs made
-  pub stands : S items made
+  pub stands : S reader b.0 (placed branch to) items made
 
-abbrev pub MapRunAs : {I : Type 0} → (I → List (List ℕ × Value) → Type 0) → List Node → List Node → Node → Node → Run I → List (List ℕ × Value) → Type 0
+abbrev pub MapRunAs : {I : Type 0} → (List Node → ℕ → Place → I → List (List ℕ × Value) → Type 0) → List Node → List Node → Node → Node → Run I → List (List ℕ × Value) → Type 0
 MapRunAs S writer reader w r (Run.Good items count branch a b) vs = EntriesGood S writer reader w r items count branch a b vs
 MapRunAs S writer reader w r (Run.Faulty fault) vs =
     (more : List (List ℕ × Value)) → resolve writer reader w r (Value.map_of (entries_from (vs ++ more))) ≡ Err (turned fault.value)
 MapRunAs S writer reader w r Run.Nothing vs = ⊥
 
-abbrev pub EntriesStandAs : {I : Type 0} → (I → List (List ℕ × Value) → Type 0) → List Node → List Node → List Node → ℕ → At → Run I → List (List ℕ × Value) → Type 0
+abbrev pub EntriesStandAs : {I : Type 0} → (List Node → ℕ → Place → I → List (List ℕ × Value) → Type 0) → List Node → List Node → List Node → ℕ → At → Run I → List (List ℕ × Value) → Type 0
 EntriesStandAs S writer reader nodes id Ignored items vs = IsNoRun items
 EntriesStandAs S writer reader nodes id (Pair w r) items vs =
     nodes ≡ writer → Node.map_of id ≡ node_at writer w.0 → MapRunAs S writer reader (node_at writer w.0) (node_at reader r.0) items vs
@@ -117,7 +129,7 @@ next_at Run.Nothing = Ignored
 -- ---- Fields
 
 -- fields that were made so far, none of which has a fault, and the start of the reader's, by the branch that these go into
-pub record FieldsGood {O F : Type 0} (S : O → Value → Type 0) (T : Option ℕ → F → List Value → Type 0) (writer reader : List Node) (w r : Node) (slots : List (Option O)) (start : F) (branch : Option ℕ) (a b : NodeId) (vs : List Value) : Type 0 where
+pub record FieldsGood {O F : Type 0} (S : List Node → Node → Place → O → Value → Type 0) (T : List Node → List FieldNode → Place → F → List Value → Type 0) (writer reader : List Node) (w r : Node) (slots : List (Option O)) (start : F) (branch : Option ℕ) (a b : NodeId) (vs : List Value) : Type 0 where
   pub leads : Leads writer reader w r branch b.0
   pub of_writer : node_at writer a.0 ≡ w
   pub complete : missing_field (fields_at w) (fields_at (node_at reader b.0)) ≡ None
@@ -125,10 +137,10 @@ pub record FieldsGood {O F : Type 0} (S : O → Value → Type 0) (T : Option �
   pub found : Sourced
   pub below : AllBelow (length vs) found
   pub so_far : SoFar (λ k us. resolve_sources writer reader (fields_at (node_at writer a.0)) (fields_at (node_at reader b.0)) k (values_from us)) before vs found
-  pub stands : SlotsAre S found slots
-  pub starts : T branch start []
+  pub stands : SlotsAre (of_node S reader) (fields_at (node_at writer a.0)) (fields_at (node_at reader b.0)) found slots
+  pub starts : T reader (fields_at (node_at reader b.0)) (placed branch b.0) start []
 
-abbrev pub SlotsStand : {O F : Type 0} → (O → Value → Type 0) → (Option ℕ → F → List Value → Type 0) → List Node → List Node → Node → Node → Slots O F → List Value → Type 0
+abbrev pub SlotsStand : {O F : Type 0} → (List Node → Node → Place → O → Value → Type 0) → (List Node → List FieldNode → Place → F → List Value → Type 0) → List Node → List Node → Node → Node → Slots O F → List Value → Type 0
 SlotsStand S T writer reader w r (Slots.Good slots start branch a b) vs = FieldsGood S T writer reader w r slots.items start branch a b vs
 SlotsStand S T writer reader w r (Slots.Faulty fault) vs =
     (more : List Value) → resolve writer reader w r (Value.record_of (values_from (vs ++ more))) ≡ Err (turned fault.value)
@@ -138,7 +150,7 @@ abbrev pub AreNoSlots : {O F : Type 0} → Slots O F → Type 0
 AreNoSlots Slots.Nothing = Unit {0}
 AreNoSlots slots = ⊥
 
-abbrev pub FieldsStandAs : {O F : Type 0} → (O → Value → Type 0) → (Option ℕ → F → List Value → Type 0) → List Node → List Node → List Node → List FieldNode → At → Slots O F → List Value → Type 0
+abbrev pub FieldsStandAs : {O F : Type 0} → (List Node → Node → Place → O → Value → Type 0) → (List Node → List FieldNode → Place → F → List Value → Type 0) → List Node → List Node → List Node → List FieldNode → At → Slots O F → List Value → Type 0
 FieldsStandAs S T writer reader nodes fs Ignored slots vs = AreNoSlots slots
 FieldsStandAs S T writer reader nodes fs (Pair w r) slots vs =
     nodes ≡ writer → fields_at (node_at writer w.0) ≡ fs → SlotsStand S T writer reader (node_at writer w.0) (node_at reader r.0) slots vs
@@ -206,7 +218,7 @@ abbrev pub field_part : {O F : Type 0} → List Node → List Node → Filling O
 field_part writer reader fields = part_next writer reader fields.known fields.parts.now fields.slots
 
 -- fields that were made so far, with what is known of the next
-abbrev pub FillsAs : {O F : Type 0} → (O → Value → Type 0) → (Option ℕ → F → List Value → Type 0) → List Node → List Node → List Node → List FieldNode → At → Filling O F → List Value → Type 0
+abbrev pub FillsAs : {O F : Type 0} → (List Node → Node → Place → O → Value → Type 0) → (List Node → List FieldNode → Place → F → List Value → Type 0) → List Node → List Node → List Node → List FieldNode → At → Filling O F → List Value → Type 0
 FillsAs S T writer reader nodes fs at fields vs =
     FieldsStandAs S T writer reader nodes fs at fields.slots vs × KnowsFields writer reader fields.slots fields.known
 
@@ -228,3 +240,12 @@ leaf_as w v q = Ok v
 abbrev pub IsLeafFor : Resolved → Result Leaf FaultKind → Type 0
 IsLeafFor resolved (Ok leaf) = resolved ≡ Ok (leaf_value leaf)
 IsLeafFor resolved (Err kind) = resolved ≡ Err (fault_here (cause_of kind))
+
+-- a node is the branch of a union, which is of no union, or the same
+abbrev pub LeadsTo : List Node → ℕ → Option ℕ → ℕ → Type 0
+LeadsTo nodes r None q = r ≡ q
+LeadsTo nodes r (Some k) q = (ids : List ℕ) × (node_at nodes r ≡ Node.union ids) × (slice_get ids k ≡ Some q) × (is_union (node_at nodes q) ≡ false)
+
+-- the default of each of some fields is a datum of its node
+abbrev pub AreDefaultsFit : List Node → List FieldNode → Type 0
+AreDefaultsFit nodes fs = (f : FieldNode) → IsField f fs → IfSome f.default (λ v. fits nodes (node_at nodes f.node) v ≡ true)

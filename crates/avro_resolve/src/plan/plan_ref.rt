@@ -9,7 +9,7 @@ use crate::plan::parts::{branch_of, items_of, values_of};
 use crate::read::{put_planned, read_planned};
 use crate::resolution::put_datum;
 use crate::resolving::guided::Part;
-use avro_binary::{Build, Put};
+use avro_binary::{Build, Make, Place};
 use avro_compare::{Aim, At, Comparison, aim, fields_of, missing, part_for, symbol_for};
 use avro_schema::{Datum, Limits, NodeId, Schema};
 use avro_texts::Seeded;
@@ -55,7 +55,8 @@ impl<'a> PlanRef<'a> {
     ghost use Rattle.avro_schema.specs.SeenSchema.{schema_nodes};
     ghost use Rattle.avro_schema.specs.declared.schema.NodeId.{NodeId};
     ghost use Rattle.avro_compare.specs.declared.comparison.At.TheVariants.{Pair};
-    ghost use Rattle.avro_resolve.specs.inside.Guided.{IsWhole, branch_part, known_part};
+    ghost use Rattle.avro_resolve.specs.inside.Guided.{IsWhole, branch_part, known_part, of_node};
+    ghost use Rattle.avro_binary.specs.Places.{AreTold};
     ghost use Rattle.avro_compare.specs.Pairs.{IsAim, IsSymbol, field_for, item_id, value_id, branch_id};
     ghost use Rattle.avro_compare.specs.Planned.{AreComparisons, AreFor, AreInside, AreSources, IsComparison};
     ghost use Rattle.avro_resolve.specs.Copied.{AreFlags, IsStraight};
@@ -108,41 +109,42 @@ impl<'a> PlanRef<'a> {
         read_planned(alloc, self, bytes, limits, builder)
     }
 
-    /// Reads a writer's datum once, as [`read`](PlanRef::read) does, and returns what a
-    /// [`Put`](crate::Put) makes of what it is for the reader, with the length of its encoding. Where
-    /// that is `Ok`, the [`Put`](crate::Put) keeps what it had made.
+    /// Reads a writer's datum once, as [`read`](PlanRef::read) does, and returns what a [`Make`](crate::Make) makes of what it is
+    /// for the reader, with the length of its encoding. Where that is `Ok`, the maker keeps what it had made.
     ///
     /// # Errors
     ///
     /// The first fault of the bytes, and else the first fault of resolution; `OutOfMemory`.
-    pub fn put<P: Put>(
+    pub fn put<M: Make<At = Place>>(
         &self,
         alloc: Global,
         bytes: &[u8],
         limits: &Limits,
-        builder: &mut P,
-    ) -> Result<(P::Out, usize), ReadResolveError>
-        ensures reads { BuildsResolved (P.stands_for builder.new) (schema_nodes self.now.0) (schema_nodes self.now.1) limits.now bytes.now result }
-        ensures kept { OnOk result (P.keeps builder.old builder.new) }
+        maker: &mut M,
+    ) -> Result<(M::Out, usize), ReadResolveError>
+        requires told { AreTold M.branch_at M.item_at M.entry_at M.field_at }
+        ensures reads { BuildsResolved (of_node (M.stands_for maker.new) (schema_nodes self.now.1) 0) (schema_nodes self.now.0) (schema_nodes self.now.1) limits.now bytes.now result }
+        ensures kept { OnOk result (M.keeps maker.old maker.new) }
     {
-        put_planned(alloc, self, bytes, limits, builder)
+        put_planned(alloc, self, bytes, limits, maker)
     }
 
-    /// What a [`Put`](crate::Put) makes of what a writer's datum is for the reader. No datum is built in between.
+    /// What a [`Make`](crate::Make) makes of what a writer's datum is for the reader. No datum is built in between.
     ///
     /// # Errors
     ///
     /// The first fault of resolution, with its path in the datum; or memory ran out.
-    pub fn of_datum<P: Put>(
+    pub fn of_datum<M: Make<At = Place>>(
         &self,
         alloc: Global,
         datum: &Datum,
-        builder: &mut P,
-    ) -> Result<P::Out, ResolveError>
+        maker: &mut M,
+    ) -> Result<M::Out, ResolveError>
+        requires told { AreTold M.branch_at M.item_at M.entry_at M.field_at }
         requires fitting { fits (schema_nodes self.now.0) (root_of (schema_nodes self.now.0)) (value_of datum.now) ≡ true }
-        ensures answers { StandsForResult (P.stands_for builder.new) result (resolve_root (schema_nodes self.now.0) (schema_nodes self.now.1) (value_of datum.now)) }
+        ensures answers { StandsForResult (of_node (M.stands_for maker.new) (schema_nodes self.now.1) 0) result (resolve_root (schema_nodes self.now.0) (schema_nodes self.now.1) (value_of datum.now)) }
     {
-        put_datum(alloc, self, datum, builder)
+        put_datum(alloc, self, datum, maker)
     }
 
     /// The writer's schema.

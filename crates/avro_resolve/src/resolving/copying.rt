@@ -13,11 +13,14 @@ ghost use Rattle.avro_compare.specs.Planned.{AreSources};
 ghost use Rattle.avro_compare.specs.Resolve.{Sourced, field_value};
 ghost use Rattle.avro_compare.specs.Source.{source_of};
 ghost use Rattle.avro_resolve.specs.Copied.{ArePlain, IsAsSpelled, begins_with_number};
-ghost use Rattle.avro_resolve.specs.inside.Guided.{StandsAs};
+ghost use Rattle.avro_binary.specs.Places.{AreTold};
+ghost use Rattle.avro_binary.specs.declared.place.Place.{Place as SeenPlace};
+ghost use Rattle.avro_resolve.specs.inside.Guided.{StandsAs, of_node};
 
 use crate::plan::plan_ref::PlanRef;
+use crate::resolving::filling::make_default;
 use crate::resolving::guided::{Made, Part};
-use avro_binary::{Leaf, Pieces, Put, piece_of};
+use avro_binary::{Leaf, Make, Pieces, Place, piece_of};
 use avro_compare::{At, fields_of, first_entry, rest_entries};
 use avro_schema::{Field, Node, NodeId, Schema};
 use avro_zigzag::starts_shortest;
@@ -25,18 +28,18 @@ use std::alloc::{AllocError, Global};
 
 /// What is made of a record whose pair is straight, or `None` where a field is not spelled as it is written.
 #[inline(always)]
-pub(crate) fn copy_record<P: Put>(
+pub(crate) fn copy_record<M: Make<At = Place>>(
     alloc: Global,
-    builder: &mut P,
+    maker: &mut M,
     plan: &PlanRef<'_>,
     part: Part,
     bytes: &[u8],
     ends: Vec<usize>,
-) -> Result<Option<Made<P::Out>>, AllocError>
-    ensures kept { OnOk result (P.keeps builder.old builder.new) }
-    ensures stands { (nodes : List SeenNode) (name : Name) (aliases : List Name) (fs : List FieldNode) (vs : List Value) → ArePieces vs bytes.now ends.items
+) -> Result<Option<Made<M::Out>>, AllocError>
+    ensures kept { OnOk result (M.keeps maker.old maker.new) }
+    ensures stands { (nodes : List SeenNode) (name : Name) (aliases : List Name) (fs : List FieldNode) (vs : List Value) → AreTold M.branch_at M.item_at M.entry_at M.field_at → ArePieces vs bytes.now ends.items
         → fields_fit nodes (field_ids fs) (values_from vs) ≡ true → IfOk result (λ o. IfSome o (λ made.
-        StandsAs (P.stands_for builder.new) (schema_nodes plan.now.0) (schema_nodes plan.now.1) nodes (SeenNode.record_of name aliases fs) part.at made (Value.record_of (values_from vs)))) }
+        StandsAs (M.stands_for maker.new) (schema_nodes plan.now.0) (schema_nodes plan.now.1) nodes (SeenNode.record_of name aliases fs) part.at made (Value.record_of (values_from vs)))) }
 {
     match part.at {
         At::Ignored => Ok(None),
@@ -45,11 +48,11 @@ pub(crate) fn copy_record<P: Put>(
                 let reader = plan.reader();
                 let reads = fields_of(reader, r);
                 let pieces = Pieces { bytes, ends: &ends };
-                let start = builder.fields(alloc, None)?;
-                match copy_fields(alloc, builder, reader, reads, sources, pieces, start)? {
+                let start = maker.fields(alloc, Place::of(r))?;
+                match copy_fields(alloc, maker, reader, reads, sources, pieces, start)? {
                     Some(fields) => {
-                        let out = builder.record(alloc, fields)?;
-                        builder.keep_ends(ends);
+                        let out = maker.record(alloc, fields)?;
+                        maker.keep_ends(ends);
                         Ok(Some(Made::Good(out)))
                     }
                     None => Ok(None),
@@ -62,19 +65,19 @@ pub(crate) fn copy_record<P: Put>(
 
 /// What is made of the fields of a reader's record, in its order: each is the encoding of its source, or its default.
 #[inline(always)]
-fn copy_fields<P: Put>(
+fn copy_fields<M: Make<At = Place>>(
     alloc: Global,
-    builder: &mut P,
+    maker: &mut M,
     reader: &Schema,
     reads: &[Field],
     sources: &[(usize, usize)],
     pieces: Pieces<'_>,
-    start: P::Fields,
-) -> Result<Option<P::Fields>, AllocError>
-    ensures kept { OnOk result (P.keeps builder.old builder.new) }
-    ensures stands { (ws : List FieldNode) (found : Sourced) → AreSources ws (seen_fields reads.now) sources.now
-        → ArePlain (schema_nodes reader.now) ws (seen_fields reads.now) found pieces.entry.bytes.now pieces.entry.ends.now → P.fields_stand_for builder.old None start []
-        → IfOk result (λ o. IfSome o (λ fields. P.fields_stand_for builder.new None fields (map (field_value ws found) (seen_fields reads.now)))) }
+    start: M::Fields,
+) -> Result<Option<M::Fields>, AllocError>
+    ensures kept { OnOk result (M.keeps maker.old maker.new) }
+    ensures stands { (ws : List FieldNode) (found : Sourced) (at : SeenPlace) → AreTold M.branch_at M.item_at M.entry_at M.field_at → AreSources ws (seen_fields reads.now) sources.now
+        → ArePlain (schema_nodes reader.now) ws (seen_fields reads.now) found pieces.entry.bytes.now pieces.entry.ends.now → M.fields_stand_for maker.old (schema_nodes reader.now) (seen_fields reads.now) at start []
+        → IfOk result (λ o. IfSome o (λ fields. M.fields_stand_for maker.new (schema_nodes reader.now) (seen_fields reads.now) at fields (map (field_value ws found) (seen_fields reads.now)))) }
 {
     let mut fields = start;
     let mut left = sources;
@@ -82,8 +85,8 @@ fn copy_fields<P: Put>(
         let f = &reads[index];
         let source = first_entry(left, index);
         left = rest_entries(left, index);
-        match copy_field(alloc, builder, reader, source, f, pieces)? {
-            Some(value) => builder.field(alloc, &mut fields, value)?,
+        match copy_field(alloc, maker, reader, source, f, pieces)? {
+            Some(value) => maker.field(alloc, &mut fields, value)?,
             None => return Ok(None),
         }
     }
@@ -92,17 +95,17 @@ fn copy_fields<P: Put>(
 
 /// What is made of a reader's field, by its source.
 #[inline(always)]
-fn copy_field<P: Put>(
+fn copy_field<M: Make<At = Place>>(
     alloc: Global,
-    builder: &mut P,
+    maker: &mut M,
     reader: &Schema,
     source: Option<usize>,
     f: &Field,
     pieces: Pieces<'_>,
-) -> Result<Option<P::Out>, AllocError>
-    ensures kept { OnOk result (P.keeps builder.old builder.new) }
+) -> Result<Option<M::Out>, AllocError>
+    ensures kept { OnOk result (M.keeps maker.old maker.new) }
     ensures stands { (ws rs : List FieldNode) (found : Sourced) → source ≡ source_of ws (field_of f.now) → IsField (field_of f.now) rs → ArePlain (schema_nodes reader.now) ws rs found pieces.entry.bytes.now pieces.entry.ends.now
-        → IfOk result (λ o. IfSome o (λ out. P.stands_for builder.new out (field_value ws found (field_of f.now)))) }
+        → IfOk result (λ o. IfSome o (λ out. of_node (M.stands_for maker.new) (schema_nodes reader.now) f.now.node.0 out (field_value ws found (field_of f.now)))) }
 {
     match source {
         Some(field) => match piece_of(pieces, field) {
@@ -110,26 +113,14 @@ fn copy_field<P: Put>(
                 if !is_as_written(reader, f.node, content) {
                     return Ok(None);
                 }
-                builder.copied(alloc, content)
+                maker.copied(alloc, Place::of(f.node), content)
             }
             None => Ok(None),
         },
         None => {
-            let out = put_default(alloc, builder, f)?;
+            let out = make_default(alloc, maker, reader, f)?;
             Ok(Some(out))
         }
-    }
-}
-
-/// What is made of the default of a field.
-#[inline(always)]
-fn put_default<P: Put>(alloc: Global, builder: &mut P, f: &Field) -> Result<P::Out, AllocError>
-    ensures kept { OnOk result (P.keeps builder.old builder.new) }
-    ensures stands { (ws : List FieldNode) (found : Sourced) → source_of ws (field_of f.now) ≡ None → IfOk result (λ out. P.stands_for builder.new out (field_value ws found (field_of f.now))) }
-{
-    match &f.default {
-        Some(datum) => builder.default(alloc, datum),
-        None => builder.leaf(alloc, None, Leaf::Null),
     }
 }
 

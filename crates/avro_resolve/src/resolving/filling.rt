@@ -1,6 +1,12 @@
 ghost use Rattle.std.specs.Prelude.{◌≡◌, ◌+◌, ◌++◌, ◌∷◌, [], ℕ, true, IfOk, IfSome, List, OnOk, Option, Some, map, slice_get, bytes_eq};
 ghost use Rattle.std.specs.List.{flat_map};
-ghost use Rattle.avro_schema.specs.Node.{FieldNode};
+ghost use Rattle.avro_schema.specs.Fits.{fits};
+ghost use Rattle.avro_schema.specs.Node.{FieldNode, node_at};
+ghost use Rattle.avro_schema.specs.SeenSchema.{schema_nodes};
+ghost use Rattle.avro_schema.specs.Value.{Value};
+ghost use Rattle.avro_binary.specs.Places.{AreTold};
+ghost use Rattle.avro_binary.specs.declared.place.Place.{Place as SeenPlace};
+ghost use Rattle.avro_resolve.specs.inside.Guided.{AreDefaultsFit, of_node};
 ghost use Rattle.avro_schema.specs.Distinct.{are_distinct};
 ghost use Rattle.avro_schema.specs.WellFormed.{field_names};
 ghost use Rattle.avro_schema.specs.Seen.{field_of, seen_fields};
@@ -9,29 +15,32 @@ ghost use Rattle.avro_compare.specs.Planned.{AreSources, AreSourcesFrom};
 ghost use Rattle.avro_compare.specs.Source.{source_of};
 ghost use Rattle.avro_resolve.specs.Ends.{SlotsAre, SlotsFor, slot_out};
 
-use avro_binary::{Leaf, Put};
+use crate::giving::give;
+use avro_binary::{Leaf, Make, Place};
 use avro_compare::{first_entry, rest_entries, source_among};
-use avro_schema::Field;
+use avro_schema::{Field, Schema};
 use std::alloc::{AllocError, Global};
 
 /// What is made of the fields of a reader's record, in its order: each is what is in the slot of its
 /// source, or its default. Returns the slots, too.
 #[inline(always)]
-pub(crate) fn fill<P: Put>(
-    alloc: Global,
-    builder: &mut P,
+pub(crate) fn fill<M: Make<At = Place>>(
+    maker: &mut M,
+    reader: &Schema,
     writes: &[Field],
     reads: &[Field],
     sources: Option<&[(usize, usize)]>,
-    slots: Vec<Option<P::Out>>,
-    start: P::Fields,
-) -> Result<(Vec<Option<P::Out>>, P::Fields), AllocError>
+    slots: Vec<Option<M::Out>>,
+    start: M::Fields,
+) -> Result<(Vec<Option<M::Out>>, M::Fields), AllocError>
     requires distinct { are_distinct bytes_eq (flat_map field_names (seen_fields reads.now)) ≡ true }
     requires sources { IfSome sources (λ ss. AreSources (seen_fields writes.now) (seen_fields reads.now) ss.now) }
-    ensures kept { OnOk result (P.keeps builder.old builder.new) }
-    ensures stands { (found : Sourced) (into : Option ℕ) → SlotsAre (P.stands_for builder.old) found slots.items → P.fields_stand_for builder.old into start []
-        → IfOk result (λ filled. P.fields_stand_for builder.new into filled.1 (map (field_value (seen_fields writes.now) found) (seen_fields reads.now))) }
+    ensures kept { OnOk result (M.keeps maker.old maker.new) }
+    ensures stands { (found : Sourced) (at : SeenPlace) → AreTold M.branch_at M.item_at M.entry_at M.field_at → AreDefaultsFit (schema_nodes reader.now) (seen_fields reads.now)
+        → SlotsAre (of_node (M.stands_for maker.old) (schema_nodes reader.now)) (seen_fields writes.now) (seen_fields reads.now) found slots.items → M.fields_stand_for maker.old (schema_nodes reader.now) (seen_fields reads.now) at start []
+        → IfOk result (λ filled. M.fields_stand_for maker.new (schema_nodes reader.now) (seen_fields reads.now) at filled.1 (map (field_value (seen_fields writes.now) found) (seen_fields reads.now))) }
 {
+    let alloc = *slots.allocator();
     let mut slots = slots;
     let mut fields = start;
     let mut left = sources;
@@ -39,8 +48,8 @@ pub(crate) fn fill<P: Put>(
         let f = &reads[index];
         let source = source_left(writes, left, index, f);
         left = sources_after(left, index);
-        let value = value_of_field(alloc, builder, source, f, &mut slots)?;
-        builder.field(alloc, &mut fields, value)?;
+        let value = value_of_field(alloc, maker, reader, source, f, &mut slots)?;
+        maker.field(alloc, &mut fields, value)?;
     }
     Ok((slots, fields))
 }
@@ -75,29 +84,49 @@ fn sources_after(left: Option<&[(usize, usize)]>, index: usize) -> Option<&[(usi
 
 /// What is made of the value of a reader's field, by its source.
 #[inline(always)]
-fn value_of_field<P: Put>(
+fn value_of_field<M: Make<At = Place>>(
     alloc: Global,
-    builder: &mut P,
+    maker: &mut M,
+    reader: &Schema,
     source: Option<usize>,
     f: &Field,
-    slots: &mut Vec<Option<P::Out>>,
-) -> Result<P::Out, AllocError>
-    ensures kept { OnOk result (P.keeps builder.old builder.new) }
-    ensures stands { (ws : List FieldNode) (found : Sourced) (rest : List FieldNode) → source ≡ source_of ws (field_of f.now)
+    slots: &mut Vec<Option<M::Out>>,
+) -> Result<M::Out, AllocError>
+    ensures kept { OnOk result (M.keeps maker.old maker.new) }
+    ensures stands { (ws : List FieldNode) (found : Sourced) (rest : List FieldNode) → source ≡ source_of ws (field_of f.now) → fits (schema_nodes reader.now) (node_at (schema_nodes reader.now) f.now.node.0) (field_value ws found (field_of f.now)) ≡ true
         → are_distinct bytes_eq (field_names (field_of f.now) ++ flat_map field_names rest) ≡ true
-        → SlotsFor (P.stands_for builder.old) ws (field_of f.now ∷ rest) found slots.old.items
-        → SlotsFor (P.stands_for builder.old) ws rest found slots.new.items
-        × IfOk result (λ out. P.stands_for builder.new out (field_value ws found (field_of f.now))) }
+        → SlotsFor (of_node (M.stands_for maker.old) (schema_nodes reader.now)) ws (field_of f.now ∷ rest) found slots.old.items
+        → SlotsFor (of_node (M.stands_for maker.old) (schema_nodes reader.now)) ws rest found slots.new.items
+        × IfOk result (λ out. of_node (M.stands_for maker.new) (schema_nodes reader.now) f.now.node.0 out (field_value ws found (field_of f.now))) }
 {
     match source {
         Some(index) => match taken(slots, index) {
             Some(out) => Ok(out),
-            None => builder.leaf(alloc, None, Leaf::Null),
+            None => maker.leaf(alloc, Place::of(f.node), Leaf::Null),
         },
-        None => match &f.default {
-            Some(datum) => builder.default(alloc, datum),
-            None => builder.leaf(alloc, None, Leaf::Null),
+        None => make_default(alloc, maker, reader, f),
+    }
+}
+
+/// What is made of the default of a reader's field.
+#[inline(always)]
+pub(crate) fn make_default<M: Make<At = Place>>(
+    alloc: Global,
+    maker: &mut M,
+    reader: &Schema,
+    f: &Field,
+) -> Result<M::Out, AllocError>
+    ensures kept { OnOk result (M.keeps maker.old maker.new) }
+    ensures stands { (u : Value) → (field_of f.now).default ≡ Some u → fits (schema_nodes reader.now) (node_at (schema_nodes reader.now) f.now.node.0) u ≡ true
+        → IfOk result (λ out. of_node (M.stands_for maker.new) (schema_nodes reader.now) f.now.node.0 out u) }
+{
+    let at = Place::of(f.node);
+    match &f.default {
+        Some(datum) => match maker.default(alloc, at, datum)? {
+            Some(out) => Ok(out),
+            None => give(alloc, reader, f.node, datum, maker, at),
         },
+        None => maker.leaf(alloc, at, Leaf::Null),
     }
 }
 

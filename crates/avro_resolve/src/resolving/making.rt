@@ -1,17 +1,19 @@
 //! What leaves are for a reader.
 
-ghost use Rattle.std.specs.Prelude.{◌≡◌, IfOk, List, OnOk, true};
+ghost use Rattle.std.specs.Prelude.{◌≡◌, ℕ, IfOk, List, Ok, OnOk, true};
+ghost use Rattle.avro_schema.specs.Value.{Value};
 ghost use Rattle.avro_schema.specs.Fits.{fits};
 ghost use Rattle.avro_schema.specs.Node.{Node as SeenNode, node_at};
 ghost use Rattle.avro_schema.specs.SeenSchema.{schema_nodes};
 ghost use Rattle.avro_binary.specs.LeafValue.{leaf_value};
-ghost use Rattle.avro_resolve.specs.inside.Guided.{IsLeafFor, StandsAs, leaf_as};
+ghost use Rattle.avro_binary.specs.Places.{AreTold, in_branch, placed};
+ghost use Rattle.avro_resolve.specs.inside.Guided.{IsLeafFor, LeadsTo, MadeAs, StandsAs, leaf_as, of_node};
 ghost use Rattle.avro_compare.specs.Pairs.{Tells};
 
 use crate::plan::plan_ref::PlanRef;
 use crate::resolving::failing::fault_apart;
 use crate::resolving::guided::{Made, Part};
-use avro_binary::{Leaf, Put};
+use avro_binary::{Leaf, Make, Place};
 use avro_compare::{Aim, At, FaultKind};
 use avro_cursor::text_of;
 use avro_schema::{Node, NodeId, Schema};
@@ -19,16 +21,16 @@ use std::alloc::{AllocError, Global};
 
 /// What is made of a writer's leaf.
 #[inline(always)]
-pub(crate) fn make_leaf<P: Put>(
+pub(crate) fn make_leaf<M: Make<At = Place>>(
     alloc: Global,
-    builder: &mut P,
+    maker: &mut M,
     plan: &PlanRef<'_>,
     part: Part,
     leaf: Leaf<'_>,
-) -> Result<Made<P::Out>, AllocError>
-    ensures kept { OnOk result (P.keeps builder.old builder.new) }
-    ensures stands { (nodes : List SeenNode) (n : SeenNode) → fits nodes n (leaf_value leaf.entry) ≡ true
-        → IfOk result (λ made. StandsAs (P.stands_for builder.new) (schema_nodes plan.now.0) (schema_nodes plan.now.1) nodes n part.at made (leaf_value leaf.entry)) }
+) -> Result<Made<M::Out>, AllocError>
+    ensures kept { OnOk result (M.keeps maker.old maker.new) }
+    ensures stands { (nodes : List SeenNode) (n : SeenNode) → AreTold M.branch_at M.item_at M.entry_at M.field_at → fits nodes n (leaf_value leaf.entry) ≡ true
+        → IfOk result (λ made. StandsAs (M.stands_for maker.new) (schema_nodes plan.now.0) (schema_nodes plan.now.1) nodes n part.at made (leaf_value leaf.entry)) }
 {
     let At::Pair(w, r) = part.at else {
         return Ok(Made::Nothing);
@@ -37,9 +39,30 @@ pub(crate) fn make_leaf<P: Put>(
     match plan.aim(index, w, r) {
         Aim::Fault(kind) => Ok(Made::Faulty(fault_apart(alloc, kind)?)),
         Aim::To(branch, q) => match leaf_for(plan, plan.index_to(index, branch), w, q, leaf) {
-            Ok(leaf) => Ok(Made::Good(builder.leaf(alloc, branch, leaf)?)),
+            Ok(leaf) => {
+                let out = maker.leaf(alloc, Place { node: q, branch }, leaf)?;
+                into_branch(alloc, maker, branch, out)
+            }
             Err(kind) => Ok(Made::Faulty(fault_apart(alloc, kind)?)),
         },
+    }
+}
+
+/// What was made of a datum in its place, as data of the reader's union that has the branch, where there is one.
+#[inline(always)]
+pub(crate) fn into_branch<M: Make<At = Place>>(
+    alloc: Global,
+    maker: &mut M,
+    branch: Option<u32>,
+    out: M::Out,
+) -> Result<Made<M::Out>, AllocError>
+    ensures kept { OnOk result (M.keeps maker.old maker.new) }
+    ensures stands { (nodes : List SeenNode) (r q : ℕ) (v : Value) → AreTold M.branch_at M.item_at M.entry_at M.field_at → LeadsTo nodes r branch q → M.stands_for maker.old nodes (node_at nodes q) (placed branch q) out v
+        → IfOk result (λ made. MadeAs (of_node (M.stands_for maker.new) nodes r) made (Ok (in_branch branch v))) }
+{
+    match branch {
+        Some(branch) => Ok(Made::Good(maker.branch(alloc, branch, out)?)),
+        None => Ok(Made::Good(out)),
     }
 }
 

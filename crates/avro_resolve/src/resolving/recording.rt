@@ -6,35 +6,37 @@ ghost use Rattle.avro_schema.specs.Seen.{values_from};
 ghost use Rattle.avro_schema.specs.SeenSchema.{schema_nodes};
 ghost use Rattle.avro_schema.specs.Value.{Value};
 ghost use Rattle.avro_compare.specs.Planned.{AreForFrom};
+ghost use Rattle.avro_binary.specs.Places.{AreTold};
 ghost use Rattle.avro_resolve.specs.inside.Guided.{FieldsStandAs, FillsAs, KnowsFields, KnowsNext, StandsAs, field_part, next_field, next_index, part_below, part_next};
 
 use crate::plan::plan_ref::{PlanRef, index_at};
 use crate::resolving::failing::{fault_apart, step_apart};
 use crate::resolving::filling::fill;
 use crate::resolving::guided::{Filling, Made, Part, Slots};
-use avro_binary::Put;
+use crate::resolving::making::into_branch;
+use avro_binary::{Make, Place};
 use avro_compare::{Aim, At, FaultKind, fields_of, first_entry, rest_entries};
 use std::alloc::{AllocError, Global};
 
 /// What was made of no fields, and what is known of the first.
 #[inline(always)]
-pub(crate) fn start_filling<'a, P: Put>(
+pub(crate) fn start_filling<'a, M: Make<At = Place>>(
     alloc: Global,
-    builder: &mut P,
+    maker: &mut M,
     plan: &PlanRef<'a>,
     part: Part,
-) -> Result<Filling<'a, P::Out, P::Fields>, AllocError>
-    ensures kept { OnOk result (P.keeps builder.old builder.new) }
-    ensures stands { (nodes : List Node) (fs : List FieldNode) → IfOk result (λ filling. FillsAs (P.stands_for builder.new) (P.fields_stand_for builder.new) (schema_nodes plan.now.0) (schema_nodes plan.now.1) nodes fs part.at filling []) }
+) -> Result<Filling<'a, M::Out, M::Fields>, AllocError>
+    ensures kept { OnOk result (M.keeps maker.old maker.new) }
+    ensures stands { AreTold M.branch_at M.item_at M.entry_at M.field_at → (nodes : List Node) (fs : List FieldNode) → IfOk result (λ filling. FillsAs (M.stands_for maker.new) (M.fields_stand_for maker.new) (schema_nodes plan.now.0) (schema_nodes plan.now.1) nodes fs part.at filling []) }
 {
     match part.at {
-        At::Ignored => start_apart(alloc, builder, plan, part),
+        At::Ignored => start_apart(alloc, maker, plan, part),
         At::Pair(w, r) => {
             let index = plan.index_of(part);
             match plan.whole(index, w, r) {
                 Some(known) => {
-                    let slots = builder.slots(alloc);
-                    let fields = builder.fields(alloc, None)?;
+                    let slots = maker.slots(alloc);
+                    let fields = maker.fields(alloc, Place::of(r))?;
                     let parts = plan.parts(index);
                     Ok(Filling {
                         slots: Slots::Good(slots, fields, None, w, r),
@@ -43,7 +45,7 @@ pub(crate) fn start_filling<'a, P: Put>(
                         parts,
                     })
                 }
-                None => start_apart(alloc, builder, plan, part),
+                None => start_apart(alloc, maker, plan, part),
             }
         }
     }
@@ -51,17 +53,17 @@ pub(crate) fn start_filling<'a, P: Put>(
 
 /// The same of any two nodes, step by step.
 #[inline(always)]
-fn start_apart<'a, P: Put>(
+fn start_apart<'a, M: Make<At = Place>>(
     alloc: Global,
-    builder: &mut P,
+    maker: &mut M,
     plan: &PlanRef<'a>,
     part: Part,
-) -> Result<Filling<'a, P::Out, P::Fields>, AllocError>
-    ensures kept { OnOk result (P.keeps builder.old builder.new) }
-    ensures stands { (nodes : List Node) (fs : List FieldNode) → IfOk result (λ filling. FillsAs (P.stands_for builder.new) (P.fields_stand_for builder.new) (schema_nodes plan.now.0) (schema_nodes plan.now.1) nodes fs part.at filling []) }
+) -> Result<Filling<'a, M::Out, M::Fields>, AllocError>
+    ensures kept { OnOk result (M.keeps maker.old maker.new) }
+    ensures stands { AreTold M.branch_at M.item_at M.entry_at M.field_at → (nodes : List Node) (fs : List FieldNode) → IfOk result (λ filling. FillsAs (M.stands_for maker.new) (M.fields_stand_for maker.new) (schema_nodes plan.now.0) (schema_nodes plan.now.1) nodes fs part.at filling []) }
 {
     let start = plan.index_of(part);
-    let slots = start_fields(alloc, builder, plan, start, part.at)?;
+    let slots = start_fields(alloc, maker, plan, start, part.at)?;
     let index = index_of_records(plan, start, &slots);
     let known = known_fields(plan, index, &slots);
     let parts = plan.parts(index);
@@ -75,15 +77,15 @@ fn start_apart<'a, P: Put>(
 
 /// What was made of no fields: where a pair of nodes leads to a fault, or a reader's field is missing, that
 /// fault.
-fn start_fields<P: Put>(
+fn start_fields<M: Make<At = Place>>(
     alloc: Global,
-    builder: &mut P,
+    maker: &mut M,
     plan: &PlanRef<'_>,
     index: u32,
     at: At,
-) -> Result<Slots<P::Out, P::Fields>, AllocError>
-    ensures kept { OnOk result (P.keeps builder.old builder.new) }
-    ensures stands { (nodes : List Node) (fs : List FieldNode) → IfOk result (λ slots. FieldsStandAs (P.stands_for builder.new) (P.fields_stand_for builder.new) (schema_nodes plan.now.0) (schema_nodes plan.now.1) nodes fs at slots []) }
+) -> Result<Slots<M::Out, M::Fields>, AllocError>
+    ensures kept { OnOk result (M.keeps maker.old maker.new) }
+    ensures stands { AreTold M.branch_at M.item_at M.entry_at M.field_at → (nodes : List Node) (fs : List FieldNode) → IfOk result (λ slots. FieldsStandAs (M.stands_for maker.new) (M.fields_stand_for maker.new) (schema_nodes plan.now.0) (schema_nodes plan.now.1) nodes fs at slots []) }
     ensures none { IfOk result (λ slots. next_index slots ≡ 0) }
 {
     match at {
@@ -96,8 +98,8 @@ fn start_fields<P: Put>(
                     Ok(Slots::Faulty(fault))
                 }
                 None => {
-                    let slots = builder.slots(alloc);
-                    let fields = builder.fields(alloc, branch)?;
+                    let slots = maker.slots(alloc);
+                    let fields = maker.fields(alloc, Place { node: q, branch })?;
                     Ok(Slots::Good(slots, fields, branch, w, q))
                 }
             },
@@ -205,32 +207,32 @@ fn parts_after<'a>(known: Option<&[(usize, At)]>, parts: &'a [u32], field: usize
 
 /// Adds what was made of a field after those before.
 #[inline(always)]
-pub(crate) fn fill_next<P: Put>(
-    builder: &P,
-    fields: &mut Filling<'_, P::Out, P::Fields>,
-    made: Made<P::Out>,
+pub(crate) fn fill_next<M: Make<At = Place>>(
+    maker: &M,
+    fields: &mut Filling<'_, M::Out, M::Fields>,
+    made: Made<M::Out>,
 ) -> Result<(), AllocError>
-    ensures { (writer reader nodes : List Node) (fs : List FieldNode) (id : ℕ) (at : At) (vs : List Value) (v : Value) → FillsAs (P.stands_for builder.now) (P.fields_stand_for builder.now) writer reader nodes fs at fields.old vs
-        → slice_get (field_ids fs) (length vs) ≡ Some id → StandsAs (P.stands_for builder.now) writer reader nodes (node_at nodes id) (field_part writer reader fields.old).at made v
-        → OnOk result (FillsAs (P.stands_for builder.now) (P.fields_stand_for builder.now) writer reader nodes fs at fields.new (vs ++ v ∷ [])) }
+    ensures { AreTold M.branch_at M.item_at M.entry_at M.field_at → (writer reader nodes : List Node) (fs : List FieldNode) (id : ℕ) (at : At) (vs : List Value) (v : Value) → FillsAs (M.stands_for maker.now) (M.fields_stand_for maker.now) writer reader nodes fs at fields.old vs
+        → slice_get (field_ids fs) (length vs) ≡ Some id → StandsAs (M.stands_for maker.now) writer reader nodes (node_at nodes id) (field_part writer reader fields.old).at made v
+        → OnOk result (FillsAs (M.stands_for maker.now) (M.fields_stand_for maker.now) writer reader nodes fs at fields.new (vs ++ v ∷ [])) }
 {
     let field = next_index(&fields.slots);
     fields.parts = parts_after(fields.known, fields.parts, field);
     fields.known = known_after(fields.known, field);
-    put_field(builder, &mut fields.slots, made)
+    put_field(maker, &mut fields.slots, made)
 }
 
 /// Adds what was made of a field after those before.
 #[inline(always)]
-fn put_field<P: Put>(
-    _builder: &P,
-    fields: &mut Slots<P::Out, P::Fields>,
-    made: Made<P::Out>,
+fn put_field<M: Make<At = Place>>(
+    _maker: &M,
+    fields: &mut Slots<M::Out, M::Fields>,
+    made: Made<M::Out>,
 ) -> Result<(), AllocError>
     ensures known { (writer reader : List Node) (known : Option (Bor (List (ℕ × At)))) → KnowsNext writer reader fields.old known → OnOk result (KnowsFields writer reader fields.new known) }
-    ensures stands { (writer reader nodes : List Node) (fs : List FieldNode) (id : ℕ) (at : At) (vs : List Value) (v : Value) → FieldsStandAs (P.stands_for _builder.now) (P.fields_stand_for _builder.now) writer reader nodes fs at fields.old vs
-        → slice_get (field_ids fs) (length vs) ≡ Some id → StandsAs (P.stands_for _builder.now) writer reader nodes (node_at nodes id) (next_field writer reader fields.old) made v
-        → OnOk result (FieldsStandAs (P.stands_for _builder.now) (P.fields_stand_for _builder.now) writer reader nodes fs at fields.new (vs ++ v ∷ [])) }
+    ensures stands { AreTold M.branch_at M.item_at M.entry_at M.field_at → (writer reader nodes : List Node) (fs : List FieldNode) (id : ℕ) (at : At) (vs : List Value) (v : Value) → FieldsStandAs (M.stands_for _maker.now) (M.fields_stand_for _maker.now) writer reader nodes fs at fields.old vs
+        → slice_get (field_ids fs) (length vs) ≡ Some id → StandsAs (M.stands_for _maker.now) writer reader nodes (node_at nodes id) (next_field writer reader fields.old) made v
+        → OnOk result (FieldsStandAs (M.stands_for _maker.now) (M.fields_stand_for _maker.now) writer reader nodes fs at fields.new (vs ++ v ∷ [])) }
 {
     match fields {
         Slots::Good(slots, _, _, _, _) => match made {
@@ -255,9 +257,9 @@ fn put_field<P: Put>(
 
 /// Whether nothing is kept of the fields that follow, since nothing is asked or a fault was met.
 #[inline(always)]
-pub(crate) fn skip_fields<P: Put>(_builder: &P, fields: &Slots<P::Out, P::Fields>) -> bool
-    ensures { (writer reader nodes : List Node) (fs : List FieldNode) (at : At) (vs ws : List Value) → result ≡ true → FieldsStandAs (P.stands_for _builder.now) (P.fields_stand_for _builder.now) writer reader nodes fs at fields.now vs
-        → FieldsStandAs (P.stands_for _builder.now) (P.fields_stand_for _builder.now) writer reader nodes fs at fields.now (vs ++ ws) }
+pub(crate) fn skip_fields<M: Make<At = Place>>(_maker: &M, fields: &Slots<M::Out, M::Fields>) -> bool
+    ensures { AreTold M.branch_at M.item_at M.entry_at M.field_at → (writer reader nodes : List Node) (fs : List FieldNode) (at : At) (vs ws : List Value) → result ≡ true → FieldsStandAs (M.stands_for _maker.now) (M.fields_stand_for _maker.now) writer reader nodes fs at fields.now vs
+        → FieldsStandAs (M.stands_for _maker.now) (M.fields_stand_for _maker.now) writer reader nodes fs at fields.now (vs ++ ws) }
 {
     match fields {
         Slots::Good(..) => false,
@@ -268,26 +270,27 @@ pub(crate) fn skip_fields<P: Put>(_builder: &P, fields: &Slots<P::Out, P::Fields
 
 /// What was made of a record, from its fields: the reader's in its order.
 #[inline(always)]
-pub(crate) fn make_record<P: Put>(
+pub(crate) fn make_record<M: Make<At = Place>>(
     alloc: Global,
-    builder: &mut P,
+    maker: &mut M,
     plan: &PlanRef<'_>,
     index: u32,
-    fields: Slots<P::Out, P::Fields>,
-) -> Result<Made<P::Out>, AllocError>
-    ensures kept { OnOk result (P.keeps builder.old builder.new) }
-    ensures stands { (nodes : List Node) (name : Name) (aliases : List Name) (fs : List FieldNode) (at : At) (vs : List Value) → FieldsStandAs (P.stands_for builder.old) (P.fields_stand_for builder.old) (schema_nodes plan.now.0) (schema_nodes plan.now.1) nodes fs at fields vs
-        → IfOk result (λ made. StandsAs (P.stands_for builder.new) (schema_nodes plan.now.0) (schema_nodes plan.now.1) nodes (Node.record_of name aliases fs) at made (Value.record_of (values_from vs))) }
+    fields: Slots<M::Out, M::Fields>,
+) -> Result<Made<M::Out>, AllocError>
+    ensures kept { OnOk result (M.keeps maker.old maker.new) }
+    ensures stands { AreTold M.branch_at M.item_at M.entry_at M.field_at → (nodes : List Node) (name : Name) (aliases : List Name) (fs : List FieldNode) (at : At) (vs : List Value) → FieldsStandAs (M.stands_for maker.old) (M.fields_stand_for maker.old) (schema_nodes plan.now.0) (schema_nodes plan.now.1) nodes fs at fields vs
+        → IfOk result (λ made. StandsAs (M.stands_for maker.new) (schema_nodes plan.now.0) (schema_nodes plan.now.1) nodes (Node.record_of name aliases fs) at made (Value.record_of (values_from vs))) }
 {
     match fields {
-        Slots::Good(slots, start, _, w, q) => {
+        Slots::Good(slots, start, branch, w, q) => {
+            let reader = plan.reader();
             let writes = fields_of(plan.writer(), w);
-            let reads = fields_of(plan.reader(), q);
+            let reads = fields_of(reader, q);
             let sources = plan.sources(index, w, q);
-            let (taken, filled) = fill(alloc, builder, writes, reads, sources, slots, start)?;
-            let out = builder.record(alloc, filled)?;
-            builder.keep_slots(taken);
-            Ok(Made::Good(out))
+            let (taken, filled) = fill(maker, reader, writes, reads, sources, slots, start)?;
+            let out = maker.record(alloc, filled)?;
+            maker.keep_slots(taken);
+            into_branch(alloc, maker, branch, out)
         }
         Slots::Faulty(fault) => Ok(Made::Faulty(fault)),
         Slots::Nothing => Ok(Made::Nothing),
