@@ -1,12 +1,9 @@
 //! What is told of a datum that was read, and of data that are refused.
 
-ghost use Rattle.std.specs.Prelude.{◌≡◌, ◌≢◌, ◌++◌, false, codes, IfOk, OnOk};
-ghost use Rattle.avro_schema.specs.Seen.{value_of};
-ghost use Rattle.avro_schema.specs.SeenSchema.{schema_nodes};
-ghost use Rattle.avro_certificate.specs.CertificateText.{decimal};
+ghost use Rattle.std.specs.Prelude.{◌≡◌, ◌≢◌, ◌++◌, false, IfOk, OnOk};
 ghost use Rattle.avro_cursor.specs.declared.error.ReadError.{ReadError};
 ghost use Rattle.avro_resolve.specs.declared.error.ReadResolveError.TheVariants.{Read};
-ghost use Rattle.avro_answer.specs.ReadAnswer.{datum_text as text_of_datum};
+ghost use Rattle.avro_answer.specs.ReadAnswer.{head_of, tail_of, text_around};
 ghost use Rattle.avro_answer.specs.RefusalText.{refusal_text};
 ghost use Rattle.avro_answer.specs.DataRead.{error_text};
 
@@ -15,50 +12,61 @@ use crate::form::Form;
 use crate::refusal::refusal_line;
 use avro_binary::ReadError;
 use avro_certificate::append_decimal;
-use avro_display::{DisplayTable, show_by};
 use avro_resolve::ReadResolveError;
-use avro_schema::{Datum, Memory};
 use std::alloc::{AllocError, Global};
 
-/// The text of a datum of a schema's root and of the length of its encoding.
-pub(crate) fn datum_text(
+/// The text of a datum, by its display and the length of its encoding.
+pub(crate) fn told(
     alloc: Global,
-    table: &DisplayTable<'_>,
-    datum: &Datum,
+    display: &[u8],
     len: usize,
     form: Form,
-) -> Result<Vec<u8>, Memory>
-    ensures { IfOk result (λ text. text.items ≡ text_of_datum form (schema_nodes table.now) (value_of datum.now) len) }
+) -> Result<Vec<u8>, ReadResolveError>
+    ensures { IfOk result (λ text. text.items ≡ text_around form display.now len) }
 {
-    let display = show_by(alloc, table, table.schema().root(), datum)?;
-    let mut text = Vec::new(alloc);
-    match form {
-        Form::Text => append_lines(&mut text, &display, len)?,
-        Form::Json => append_json(&mut text, &display, len)?,
+    match told_in(alloc, display, len, form) {
+        Ok(text) => Ok(text),
+        Err(_) => Err(ReadResolveError::Read(ReadError::OutOfMemory)),
     }
+}
+
+/// The same, unless memory runs out.
+fn told_in(
+    alloc: Global,
+    display: &[u8],
+    len: usize,
+    form: Form,
+) -> Result<Vec<u8>, AllocError>
+    ensures { IfOk result (λ text. text.items ≡ text_around form display.now len) }
+{
+    let mut text = Vec::new(alloc);
+    append_head(&mut text, len, form)?;
+    text.extend_from_slice(display)?;
+    text.extend_from_slice(tail(form))?;
     Ok(text)
 }
 
-/// Appends the lines of a datum's display and of a length.
-fn append_lines(text: &mut Vec<u8>, display: &str, len: usize) -> Result<(), AllocError>
-    ensures { OnOk result (text.new.items ≡ text.old.items ++ (codes "bytes " ++ decimal len ++ codes "\ndatum " ++ display.now ++ codes "\n")) }
+/// Appends what is before the display of a datum: the length of its encoding.
+pub(crate) fn append_head(text: &mut Vec<u8>, len: usize, form: Form) -> Result<(), AllocError>
+    ensures { OnOk result (text.new.items ≡ text.old.items ++ head_of form len) }
 {
-    text.extend_from_slice(b"bytes ")?;
+    let (before, after): (&[u8], &[u8]) = match form {
+        Form::Text => (b"bytes ", b"\ndatum "),
+        Form::Json => (b"{\"bytes\":", b",\"datum\":"),
+    };
+    text.extend_from_slice(before)?;
     append_decimal(text, len as u64)?;
-    text.extend_from_slice(b"\ndatum ")?;
-    text.extend_from_slice(display.as_bytes())?;
-    text.extend_from_slice(b"\n")
+    text.extend_from_slice(after)
 }
 
-/// Appends the line of JSON of a datum's display and of a length.
-fn append_json(text: &mut Vec<u8>, display: &str, len: usize) -> Result<(), AllocError>
-    ensures { OnOk result (text.new.items ≡ text.old.items ++ (codes "{\"bytes\":" ++ decimal len ++ codes ",\"datum\":" ++ display.now ++ codes "}\n")) }
+/// What is after it.
+pub(crate) fn tail(form: Form) -> &'static [u8]
+    ensures { result.now ≡ tail_of form }
 {
-    text.extend_from_slice(b"{\"bytes\":")?;
-    append_decimal(text, len as u64)?;
-    text.extend_from_slice(b",\"datum\":")?;
-    text.extend_from_slice(display.as_bytes())?;
-    text.extend_from_slice(b"}\n")
+    match form {
+        Form::Text => b"\n",
+        Form::Json => b"}\n",
+    }
 }
 
 /// The line that reports encoded data as refused, by the word that names their file.

@@ -36,59 +36,60 @@ pub(crate) fn bytes_at(text: &[u8], span: Span) -> &[u8]
     bytes
 }
 
-/// Appends the display of an array, whose items stand in a text.
-pub(crate) fn append_items(whole: &mut Text, text: &[u8], items: &[Span]) -> Result<(), AllocError>
-    ensures { (ds : Items) → AreItemsAt text.now items.now ds → OnOk result (whole.new ≡ whole.old ++ compact_text (array ds)) }
+/// Appends the display of an array, whose items stand in the text.
+pub(crate) fn append_items(text: &mut Text, items: &[Span]) -> Result<(), AllocError>
+    ensures shown { (ds : Items) → AreItemsAt text.old items.now ds → OnOk result (text.new ≡ text.old ++ compact_text (array ds)) }
+    ensures kept { OnOk result (Grows text.old text.new) }
 {
-    whole.append_byte(b'[')?;
+    text.append_byte(b'[')?;
     let mut later = false;
     for item in items {
-        whole.append_comma(later)?;
-        whole.append(bytes_at(text, *item))?;
+        text.append_comma(later)?;
+        text.append_within(item.start, item.end)?;
         later = true;
     }
-    whole.append_byte(b']')
+    text.append_byte(b']')
 }
 
-/// Appends the display of an object, whose values stand in a text.
+/// Appends the display of an object, whose values stand in the text.
 pub(crate) fn append_entries(
-    whole: &mut Text,
-    text: &[u8],
+    text: &mut Text,
     entries: &BTreeMap<String, Span>,
 ) -> Result<(), AllocError>
-    ensures { (ms : Members) → AreMembersAt text.now entries.now.entries ms → OnOk result (whole.new ≡ whole.old ++ compact_text (object ms)) }
+    ensures shown { (ms : Members) → AreMembersAt text.old entries.now.entries ms → OnOk result (text.new ≡ text.old ++ compact_text (object ms)) }
+    ensures kept { OnOk result (Grows text.old text.new) }
 {
-    whole.append_byte(b'{')?;
+    text.append_byte(b'{')?;
     let mut later = false;
     for (key, value) in entries.iter() {
-        whole.append_entry_key(later, key.as_str())?;
-        whole.append(bytes_at(text, *value))?;
+        text.append_entry_key(later, key.as_str())?;
+        text.append_within(value.start, value.end)?;
         later = true;
     }
-    whole.append_byte(b'}')
+    text.append_byte(b'}')
 }
 
-/// Appends the display of an object of members, whose values stand in a text.
+/// Appends the display of an object of members, whose values stand in the text.
 pub(crate) fn append_members(
-    whole: &mut Text,
-    text: &[u8],
+    text: &mut Text,
     members: &[Member],
     values: &[Span],
 ) -> Result<(), AllocError>
-    ensures { (tree : ℕ → Data) → AllByRecursion (λ m. IsSpanAt text.now values.now m.field (compact_text (tree m.field))) members.now
-        → OnOk result (whole.new ≡ whole.old ++ object_text tree members.now) }
+    ensures shown { (tree : ℕ → Data) → AllByRecursion (λ m. IsSpanAt text.old values.now m.field (compact_text (tree m.field))) members.now
+        → OnOk result (text.new ≡ text.old ++ object_text tree members.now) }
+    ensures kept { OnOk result (Grows text.old text.new) }
 {
     if members.is_empty() {
-        return whole.append(b"{}");
+        return text.append(b"{}");
     }
     for member in members {
-        whole.append(member.head())?;
+        text.append(member.head())?;
         match values.get(member.field) {
-            Some(value) => whole.append(bytes_at(text, *value))?,
+            Some(value) => text.append_within(value.start, value.end)?,
             None => return Err(AllocError),
         }
     }
-    whole.append_byte(b'}')
+    text.append_byte(b'}')
 }
 
 /// Appends the display of an object of members, whose values are encoded in pieces.

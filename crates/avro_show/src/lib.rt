@@ -1,8 +1,8 @@
 //! Displaying encoded data, and a writer's data as what they are for a reader.
 //!
-//! [`append_line`] makes the line of a datum while the datum is read, unless it is long, and makes no datum.
-//! [`put_resolved_line`] puts the display of what a writer's datum is for a reader (Avro 1.11, "Schema Resolution"). It goes
-//! through the writer's datum by pairs of nodes, so that no datum of the reader's is made.
+//! [`display_read`] and [`display_resolved`] make the display of a datum while the datum is read, unless it is long, and make no datum.
+//! [`put_resolved`] puts the display of what a writer's datum is for a reader (Avro 1.11, "Schema Resolution") in pieces, however long. It
+//! goes through the writer's datum by pairs of nodes, so that no datum of the reader's is made.
 //!
 //! A record's fields are displayed in another order than they are encoded, so their texts are made first and then put together, except
 //! where all fields are leaves, which are displayed from their encodings in any order. If the display and those of its parts turn out to
@@ -21,7 +21,7 @@ mod room;
 mod show;
 mod spans;
 
-pub use line::append_line;
+pub use line::{append_line, display_read, display_resolved};
 pub use resolved::Resolved;
 pub use room::Room;
-pub use show::put_resolved_line;
+pub use show::{put_resolved, put_resolved_line};

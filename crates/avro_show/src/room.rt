@@ -18,6 +18,7 @@ ghost use Rattle.avro_show.specs.Spans.{AreItemsAt, AreMembersAt, IsPieceOf, IsS
 
 use crate::composing::{
     append_encoded, append_entries, append_items, append_members, append_pieces,
+    bytes_at,
 };
 use crate::leaf::append_leaf;
 use crate::spans::{Span, Spans};
@@ -39,8 +40,8 @@ const LISTS: usize = 16;
 pub struct Room {
     // the displays of parts, and behind them those of the wholes that have them
     pub(crate) text: Text,
-    // a whole that is put together
-    whole: Text,
+    // where that of the datum stands
+    pub(crate) shown: Span,
     // a list for the ends of fields
     ends: Vec<usize>,
     // lists for the parts of wholes
@@ -54,10 +55,17 @@ impl Room {
     {
         Room {
             text: Text::new(alloc),
-            whole: Text::new(alloc),
+            shown: Span { start: 0, end: 0 },
             ends: Vec::new(alloc),
             lists: Vec::new(alloc),
         }
+    }
+
+    /// The display of the datum that was read last.
+    pub fn shown(&self) -> &[u8]
+        ensures { (bytes : List ℕ) → StandsIn self.now.text self.now.shown bytes → result.now ≡ bytes }
+    {
+        bytes_at(self.text.as_slice(), self.shown)
     }
 
     /// A list for the ends of fields.
@@ -183,9 +191,9 @@ impl Room {
         ensures kept { OnOk result (Grows self.old.text self.new.text) }
         ensures stands { (ds : Items) → AreItemsAt self.old.text items.now ds → IfOk result (λ span. StandsIn self.new.text span (opened opening.entry (compact_text (array ds)))) }
     {
-        self.whole.clear();
-        append_items(&mut self.whole, self.text.as_slice(), items)?;
-        self.composed(opening)
+        let start = self.begin(opening)?;
+        append_items(&mut self.text, items)?;
+        self.end(opening, start)
     }
 
     /// Makes an object of entries.
@@ -197,9 +205,9 @@ impl Room {
         ensures kept { OnOk result (Grows self.old.text self.new.text) }
         ensures stands { (ms : Members) → AreMembersAt self.old.text entries.now.entries ms → IfOk result (λ span. StandsIn self.new.text span (opened opening.entry (compact_text (object ms)))) }
     {
-        self.whole.clear();
-        append_entries(&mut self.whole, self.text.as_slice(), entries)?;
-        self.composed(opening)
+        let start = self.begin(opening)?;
+        append_entries(&mut self.text, entries)?;
+        self.end(opening, start)
     }
 
     /// Makes an object of members from their values, by their fields.
@@ -213,9 +221,9 @@ impl Room {
         ensures stands { (tree : ℕ → Data) → AllByRecursion (λ m. IsSpanAt self.old.text values.now m.field (compact_text (tree m.field))) members.now
             → IfOk result (λ span. StandsIn self.new.text span (opened opening.entry (object_text tree members.now))) }
     {
-        self.whole.clear();
-        append_members(&mut self.whole, self.text.as_slice(), members, values)?;
-        self.composed(opening)
+        let start = self.begin(opening)?;
+        append_members(&mut self.text, members, values)?;
+        self.end(opening, start)
     }
 
     /// Makes an object of members from the encodings of their values.
@@ -232,16 +240,6 @@ impl Room {
     {
         let start = self.begin(opening)?;
         append_pieces(&mut self.text, table, members, pieces)?;
-        self.end(opening, start)
-    }
-
-    /// Makes the whole that was put together.
-    fn composed(&mut self, opening: Option<&[u8]>) -> Result<Span, AllocError>
-        ensures kept { OnOk result (Grows self.old.text self.new.text) }
-        ensures stands { IfOk result (λ span. StandsIn self.new.text span (opened opening.entry self.old.whole)) }
-    {
-        let start = self.begin(opening)?;
-        self.text.append(self.whole.as_slice())?;
         self.end(opening, start)
     }
 }

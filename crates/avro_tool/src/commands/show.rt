@@ -11,7 +11,9 @@ use avro_file::{Block, Blocks, CopyError, FileLimits, Header};
 use avro_resolve::Plan;
 use avro_schema::{Datum, Memory, Schema};
 use avro_schema_json::ReaderText;
-use avro_show::{Resolved, Room, append_line, put_resolved_line};
+use avro_show::{
+    Resolved, Room, append_line, display_read, display_resolved, put_resolved_line,
+};
 use std::alloc::Global;
 use std::rt::Files;
 
@@ -193,7 +195,7 @@ fn show_block<'a, O: Output>(
         held: lines.text.len(),
         is_walked: false,
     };
-    if plan.is_some() || !is_whole {
+    if !is_whole {
         walk(&mut shown, plan, lines)?;
     }
     let mut rest = block.body();
@@ -250,29 +252,48 @@ fn show_datum<'a, O: Output>(
 ) -> Result<usize, Failure<'a>>
     ensures { IfOk result (λ len. len ≤ length bytes.now) }
 {
-    if plan.is_none() {
-        if let Some(len) = hold_line(alloc, bytes, lines) {
-            if lines.text.len() > MOST {
-                walk(shown, plan, lines)?;
-                put_held(lines)?;
-            }
-            return Ok(len);
+    if let Some(len) = hold_line(alloc, plan, bytes, lines) {
+        if lines.text.len() > MOST {
+            walk(shown, plan, lines)?;
+            put_held(lines)?;
         }
+        return Ok(len);
     }
     walk(shown, plan, lines)?;
     show_read(alloc, shown.schema, plan, bytes, lines)
 }
 
-/// Buffers the line of the datum at the front of bytes, and returns its length. Nothing is buffered if the line is long or
-/// the bytes have a fault.
-fn hold_line<O>(alloc: Global, bytes: &[u8], lines: &mut Lines<'_, O>) -> Option<usize>
+/// Buffers the line of the datum at the front of bytes, and returns its length. Nothing is buffered if the line is long, the
+/// bytes have a fault, or the reader takes no such datum.
+fn hold_line<O>(
+    alloc: Global,
+    plan: &Option<Plan<'_>>,
+    bytes: &[u8],
+    lines: &mut Lines<'_, O>,
+) -> Option<usize>
+    ensures { IfSome result (λ len. len ≤ length bytes.now) }
+{
+    let len = display(alloc, plan, bytes, lines)?;
+    match append_line(&lines.room, &mut lines.text) {
+        Ok(()) => Some(len),
+        Err(_) => None,
+    }
+}
+
+/// Makes the display of the datum at the front of bytes, and returns its length.
+fn display<O>(
+    alloc: Global,
+    plan: &Option<Plan<'_>>,
+    bytes: &[u8],
+    lines: &mut Lines<'_, O>,
+) -> Option<usize>
     ensures { IfSome result (λ len. len ≤ length bytes.now) }
 {
     let limits = FileLimits::default().datum();
-    let (room, text) = (&mut lines.room, &mut lines.text);
-    match append_line(alloc, &lines.table, bytes, &limits, room, text) {
-        Ok(len) => Some(len),
-        Err(_) => None,
+    let (table, room) = (&lines.table, &mut lines.room);
+    match plan {
+        Some(plan) => display_resolved(alloc, &plan.by_ref(), table, bytes, &limits, room).ok(),
+        None => display_read(alloc, table, bytes, &limits, room).ok(),
     }
 }
 
