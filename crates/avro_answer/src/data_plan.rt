@@ -1,10 +1,9 @@
 //! How encoded data are read.
 
-ghost use Rattle.std.specs.Prelude.{◌≡◌, IfOk, drop};
 ghost use Rattle.std.specs.Option.{IfSome};
 ghost use Rattle.avro_schema.specs.SeenSchema.{schema_nodes};
 
-use crate::datum_texts::{append_head, is_memory, tail, told};
+use crate::datum_texts::{append_head, is_memory, tail};
 use crate::data_error::DataError;
 use crate::form::Form;
 use crate::putting::put_text;
@@ -84,7 +83,7 @@ impl<'a> DataPlan<'a> {
         })
     }
 
-    /// Reads the datum after a number of bytes, as what it is for the reader where there is one, and returns its text.
+    /// Reads the datum at the front of bytes, as what it is for the reader where there is one, and returns its text.
     ///
     /// # Errors
     ///
@@ -93,71 +92,53 @@ impl<'a> DataPlan<'a> {
         &self,
         alloc: Global,
         bytes: &[u8],
-        skip: usize,
         limits: &Limits,
         form: Form,
         room: &mut Room,
-    ) -> Result<Vec<u8>, ReadResolveError>
-        ensures read { IfOk result (λ text. IsDatumTold (schema_nodes self.now.0) (option_map schema_nodes self.now.1) limits.now form skip bytes.now text.items) }
-        ensures refused { IfErr result (λ e. IfSome (fault_found e) (IsAllFound (schema_nodes self.now.0) (option_map schema_nodes self.now.1) limits.now skip bytes.now)) }
-    {
-        let data = behind(bytes, skip)?;
-        match self.display(alloc, data, limits, room) {
-            Ok(len) => told(alloc, room.shown(), len, form),
-            Err(error) => {
-                if !is_memory(&error) {
-                    return Err(error);
-                }
-                self.tell_long(alloc, data, limits, form)
-            }
-        }
-    }
-
-    /// The text of the datum at the front of bytes, if its display is long.
-    fn tell_long(
-        &self,
-        alloc: Global,
-        bytes: &[u8],
-        limits: &Limits,
-        form: Form,
     ) -> Result<Vec<u8>, ReadResolveError>
         ensures read { IfOk result (λ text. IsDatumTold (schema_nodes self.now.0) (option_map schema_nodes self.now.1) limits.now form 0 bytes.now text.items) }
         ensures refused { IfErr result (λ e. IfSome (fault_found e) (IsAllFound (schema_nodes self.now.0) (option_map schema_nodes self.now.1) limits.now 0 bytes.now)) }
     {
         let mut out = WriteOutput::new(Vec::new(alloc));
-        match self.put_long(&mut out, alloc, bytes, limits, form) {
+        match self.put(&mut out, alloc, bytes, limits, form, room) {
             Ok(()) => Ok(out.into_inner()),
             Err(DataError::Refused(error)) => Err(error),
             Err(DataError::Put(_)) => Err(ReadResolveError::Read(ReadError::OutOfMemory)),
         }
     }
 
-    /// Puts the text of the datum after a number of bytes: at once, or in pieces if it is long, where nothing of it is kept.
+    /// Puts the text of the datum at the front of bytes: at once, or in pieces if it is long, where nothing of it is kept. The room is
+    /// kept from datum to datum.
     ///
     /// # Errors
     ///
-    /// Those of `tell`, before anything is put; the output failed, or took none of the bytes.
+    /// The first fault of the bytes, and else the first fault of resolution, before anything is put; the output failed, or took none of
+    /// the bytes; memory ran out.
     pub fn put<O: Output>(
         &self,
         out: &mut O,
         alloc: Global,
         bytes: &[u8],
-        skip: usize,
         limits: &Limits,
         form: Form,
+        room: &mut Room,
     ) -> Result<(), DataError>
-        ensures put { OnOk result ((text : List ℕ) × IsDatumTold (schema_nodes self.now.0) (option_map schema_nodes self.now.1) limits.now form skip bytes.now text × O.keeps out.old text out.new) }
-        ensures refused { IfRefused result (λ e. O.keeps out.old [] out.new × IfSome (fault_found e) (IsAllFound (schema_nodes self.now.0) (option_map schema_nodes self.now.1) limits.now skip bytes.now)) }
+        ensures put { OnOk result ((text : List ℕ) × IsDatumTold (schema_nodes self.now.0) (option_map schema_nodes self.now.1) limits.now form 0 bytes.now text × O.keeps out.old text out.new) }
+        ensures refused { IfRefused result (λ e. O.keeps out.old [] out.new × IfSome (fault_found e) (IsAllFound (schema_nodes self.now.0) (option_map schema_nodes self.now.1) limits.now 0 bytes.now)) }
     {
-        let data = behind(bytes, skip)?;
-        let mut room = Room::new(alloc);
-        match self.display(alloc, data, limits, &mut room) {
-            Ok(len) => Ok(put_text(out, &told(alloc, room.shown(), len, form)?)?),
+        let mut text = Vec::new(alloc);
+        match self.display(alloc, bytes, limits, room) {
+            Ok(len) => {
+                append_head(&mut text, len, form)?;
+                text.extend_from_slice(room.shown())?;
+                text.extend_from_slice(tail(form))?;
+                Ok(put_text(out, &text)?)
+            }
             Err(error) => {
                 if !is_memory(&error) {
                     return Err(DataError::Refused(error));
                 }
-                self.put_long(out, alloc, data, limits, form)
+                self.put_long(out, alloc, bytes, limits, form)
             }
         }
     }
@@ -234,17 +215,6 @@ impl<'a> DataPlan<'a> {
             None => put_displayed(out, text, &Plain::new(&self.table), Some((Some(root), datum))),
         }
     }
-}
-
-/// The bytes after a number of them.
-fn behind(bytes: &[u8], skip: usize) -> Result<&[u8], ReadResolveError>
-    ensures { IfOk result (λ data. data.now ≡ drop skip bytes.now) }
-{
-    if bytes.len() < skip {
-        return Err(ReadResolveError::Read(ReadError::EndOfInput { place: 0 }));
-    }
-    let (_, data) = bytes.split_at(skip);
-    Ok(data)
 }
 
 /// The result of reading a datum without a reader.

@@ -1,9 +1,9 @@
 //! What is told of a datum that was read, and of data that are refused.
 
-ghost use Rattle.std.specs.Prelude.{◌≡◌, ◌≢◌, ◌++◌, false, IfOk, OnOk};
+ghost use Rattle.std.specs.Prelude.{◌≡◌, ◌≢◌, ◌≤◌, ◌++◌, drop, false, length, IfOk, OnOk};
 ghost use Rattle.avro_cursor.specs.declared.error.ReadError.{ReadError};
 ghost use Rattle.avro_resolve.specs.declared.error.ReadResolveError.TheVariants.{Read};
-ghost use Rattle.avro_answer.specs.ReadAnswer.{head_of, tail_of, text_around};
+ghost use Rattle.avro_answer.specs.ReadAnswer.{head_of, tail_of};
 ghost use Rattle.avro_answer.specs.RefusalText.{refusal_text};
 ghost use Rattle.avro_answer.specs.DataRead.{error_text};
 
@@ -14,37 +14,6 @@ use avro_binary::ReadError;
 use avro_certificate::append_decimal;
 use avro_resolve::ReadResolveError;
 use std::alloc::{AllocError, Global};
-
-/// The text of a datum, by its display and the length of its encoding.
-pub(crate) fn told(
-    alloc: Global,
-    display: &[u8],
-    len: usize,
-    form: Form,
-) -> Result<Vec<u8>, ReadResolveError>
-    ensures { IfOk result (λ text. text.items ≡ text_around form display.now len) }
-{
-    match told_in(alloc, display, len, form) {
-        Ok(text) => Ok(text),
-        Err(_) => Err(ReadResolveError::Read(ReadError::OutOfMemory)),
-    }
-}
-
-/// The same, unless memory runs out.
-fn told_in(
-    alloc: Global,
-    display: &[u8],
-    len: usize,
-    form: Form,
-) -> Result<Vec<u8>, AllocError>
-    ensures { IfOk result (λ text. text.items ≡ text_around form display.now len) }
-{
-    let mut text = Vec::new(alloc);
-    append_head(&mut text, len, form)?;
-    text.extend_from_slice(display)?;
-    text.extend_from_slice(tail(form))?;
-    Ok(text)
-}
 
 /// Appends what is before the display of a datum: the length of its encoding.
 pub(crate) fn append_head(text: &mut Vec<u8>, len: usize, form: Form) -> Result<(), AllocError>
@@ -104,4 +73,20 @@ pub(crate) fn is_memory(error: &ReadResolveError) -> bool
         ReadResolveError::Read(error) => *error == ReadError::OutOfMemory,
         ReadResolveError::Resolve(_) => false,
     }
+}
+
+/// The bytes after a number of them, which are skipped.
+///
+/// # Errors
+///
+/// `EndOfInput` at their end if there are not so many.
+pub fn behind(bytes: &[u8], skip: usize) -> Result<&[u8], ReadResolveError>
+    ensures behind { IfOk result (λ data. data.now ≡ drop skip bytes.now) }
+    ensures within { IfOk result (λ data. skip ≤ length bytes.now) }
+{
+    if bytes.len() < skip {
+        return Err(ReadResolveError::Read(ReadError::EndOfInput { place: 0 }));
+    }
+    let (_, data) = bytes.split_at(skip);
+    Ok(data)
 }

@@ -41,7 +41,7 @@ pub use confirming::{answer_confirmed, confirm_schemas, confirm_text};
 pub use data_answers::{read_schemas, read_text};
 pub use data_error::DataError;
 pub use data_plan::DataPlan;
-pub use datum_texts::data_refusal;
+pub use datum_texts::{behind, data_refusal};
 pub use explaining::{explain_text, no_fault, over_pairs};
 pub use fault_lines::put_faults;
 pub use faults::{append_fault, append_reading};

@@ -82,6 +82,14 @@ pub trait Make {
         None
     }
 
+    /// The same, where a maker makes leaves from their encodings: a record for a reader is then made of some, and of defaults.
+    fn spare_ends(&mut self, _alloc: Global) -> Option<Vec<usize>>
+        ensures kept { keeps self.old self.new }
+        ensures stays { (front : List ℕ) → begins self.old front → begins self.new front }
+    {
+        None
+    }
+
     /// Keeps such a list for later, or lets it go.
     fn keep_ends(&mut self, _ends: Vec<usize>)
         ensures kept { keeps self.old self.new }

@@ -46,10 +46,7 @@ pub fn read_at<M: Make>(
         Node::Map(values) => read_map(alloc, schema, *values, cursor, maker, at),
         Node::Union(branches) => read_union(alloc, schema, branches, cursor, maker, at),
         Node::Record(record) => read_record(alloc, schema, id, &record.fields, cursor, maker, at),
-        node => {
-            let leaf = read_leaf(node, cursor)?;
-            Ok(maker.leaf(alloc, at, leaf)?)
-        }
+        node => read_leaf(alloc, node, cursor, maker, at),
     }
 }
 

@@ -1,4 +1,4 @@
-ghost use Rattle.std.specs.Prelude.{◌≡◌, ◌++◌, ◌∷◌, [], ℕ, List, OnErr, OnOk, encode_utf8_all, length, take};
+ghost use Rattle.std.specs.Prelude.{◌≡◌, ◌++◌, ◌∷◌, [], OnErr, OnOk, encode_utf8_all, length, take};
 ghost use Rattle.json.specs.Print.{quoted};
 ghost use Rattle.serde_json.specs.Find.{of_integer};
 ghost use Rattle.serde_json.specs.Written.{comma_if, number_text};
@@ -98,18 +98,6 @@ impl Text {
         ensures unchanged { OnErr result (self.new ≡ self.old) }
     {
         self.held.extend_from_slice(bytes)
-    }
-
-    /// Appends the bytes that it holds from one offset to another; none where there are not so many.
-    pub fn append_within(&mut self, start: usize, end: usize) -> Result<(), AllocError>
-        ensures appended { (before bytes after : List ℕ) → self.old ≡ before ++ bytes ++ after → start ≡ length before → end ≡ length (before ++ bytes)
-            → OnOk result (self.new ≡ self.old ++ bytes) }
-        ensures kept { (bytes : List ℕ) × OnOk result (self.new ≡ self.old ++ bytes) }
-    {
-        if start > end || end > self.held.len() {
-            return Ok(());
-        }
-        self.held.extend_from_within(start..end)
     }
 
     /// Appends the digits of a number. No clause says what the text holds after an error.

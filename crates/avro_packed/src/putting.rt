@@ -3,7 +3,7 @@
 use crate::appending::Appending;
 use crate::gathered::Gathered;
 use crate::moving::{is_nothing, join, join_key, join_near};
-use crate::spares::{ends, give_ends, give_slots, slots};
+use crate::spares::{give_list, list};
 use crate::written::Written;
 use avro_binary::{Leaf, Make, Place, append_plain};
 use avro_schema::{Datum, NodeId};
@@ -289,26 +289,26 @@ impl Make for Appending {
         ensures kept { Keeps self.old self.new }
         ensures none { result.items ≡ [] }
     {
-        slots(alloc, &mut self.slots)
+        list(alloc, &mut self.slots)
     }
 
     #[inline(always)]
     fn keep_slots(&mut self, slots: Vec<Option<Written>>)
         ensures kept { Keeps self.old self.new }
     {
-        give_slots(&mut self.slots, slots);
+        give_list(&mut self.slots, slots);
     }
 
     #[inline(always)]
-    fn ends(&mut self, alloc: Global, _at: Place) -> Option<Vec<usize>> {
+    fn spare_ends(&mut self, alloc: Global) -> Option<Vec<usize>> {
         if self.limit.sparing {
             return None;
         }
-        Some(ends(alloc, &mut self.ends))
+        Some(list(alloc, &mut self.ends))
     }
 
     #[inline(always)]
     fn keep_ends(&mut self, ends: Vec<usize>) {
-        give_ends(&mut self.ends, ends);
+        give_list(&mut self.ends, ends);
     }
 }

@@ -2,7 +2,7 @@
 
 ghost use Rattle.std.specs.Prelude.{◌≡◌, [], IfOk};
 
-use crate::written::{Apart, Written};
+use crate::written::Apart;
 use std::alloc::{AllocError, Global};
 
 /// How many rooms are kept at most, and how many bytes each has room for at most.
@@ -41,57 +41,33 @@ pub(crate) fn give(spares: &mut Vec<Box<Apart>>, room: Box<Apart>) {
     }
 }
 
-/// How many lists of slots are kept at most, and how many slots each has room for at most.
+/// How many lists are kept at most, and how many items each has room for at most.
 const LISTS: usize = 16;
 
-const SLOTS: usize = 256;
+const ITEMS: usize = 256;
 
-/// An empty list of slots.
+/// An empty list.
 #[inline(always)]
-pub(crate) fn slots(alloc: Global, kept: &mut Vec<Vec<Option<Written>>>) -> Vec<Option<Written>>
+pub(crate) fn list<T: Drop>(alloc: Global, kept: &mut Vec<Vec<T>>) -> Vec<T>
     ensures { result.items ≡ [] }
 {
     match kept.pop() {
-        Some(slots) => {
-            let mut slots = slots;
-            slots.clear();
-            slots
+        Some(list) => {
+            let mut list = list;
+            list.clear();
+            list
         }
         None => Vec::new(alloc),
     }
 }
 
-/// Keeps a list of slots for later, where few are kept and it is small. Where memory runs out it is let go.
+/// Keeps a list for later, where few are kept and it is small. Where memory runs out it is let go.
 #[inline(always)]
-pub(crate) fn give_slots(kept: &mut Vec<Vec<Option<Written>>>, slots: Vec<Option<Written>>) {
-    if slots.capacity() <= SLOTS && kept.len() < LISTS {
-        let mut slots = slots;
-        slots.clear();
-        match kept.push(slots) {
-            Ok(()) => {}
-            Err(_) => {}
-        }
-    }
-}
-
-/// An empty list for ends of encodings.
-#[inline(always)]
-pub(crate) fn ends(alloc: Global, kept: &mut Vec<Vec<usize>>) -> Vec<usize> {
-    match kept.pop() {
-        Some(ends) => {
-            let mut ends = ends;
-            ends.clear();
-            ends
-        }
-        None => Vec::new(alloc),
-    }
-}
-
-/// Keeps a list of ends for later, where few are kept and it is small. Where memory runs out it is let go.
-#[inline(always)]
-pub(crate) fn give_ends(kept: &mut Vec<Vec<usize>>, ends: Vec<usize>) {
-    if ends.capacity() <= SLOTS && kept.len() < LISTS {
-        match kept.push(ends) {
+pub(crate) fn give_list<T: Drop>(kept: &mut Vec<Vec<T>>, list: Vec<T>) {
+    if list.capacity() <= ITEMS && kept.len() < LISTS {
+        let mut list = list;
+        list.clear();
+        match kept.push(list) {
             Ok(()) => {}
             Err(_) => {}
         }

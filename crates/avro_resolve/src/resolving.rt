@@ -10,7 +10,7 @@ use crate::plan::plan_ref::PlanRef;
 use crate::resolving::copying::copy_record;
 use crate::resolving::failing::step_apart;
 use crate::resolving::guided::{Filling, Made, Part, Run};
-use crate::resolving::making::make_leaf;
+use crate::resolving::making::{make_apart, make_leaf};
 use crate::resolving::recording::{
     fill_next, make_record, next_field_part, skip_fields, start_filling,
 };
@@ -119,11 +119,11 @@ impl<'p, 'a, 'b, M: Make<At = Place>> Make for Resolving<'p, 'a, 'b, M> {
     fn ends(&mut self, alloc: Global, at: Part) -> Option<Vec<usize>> {
         match at.at {
             At::Ignored => None,
-            At::Pair(_, r) => {
+            At::Pair(..) => {
                 if !self.plan.is_straight(self.plan.index_of(at)) {
                     return None;
                 }
-                self.maker.ends(alloc, Place::of(r))
+                self.maker.spare_ends(alloc)
             }
         }
     }
@@ -139,14 +139,17 @@ impl<'p, 'a, 'b, M: Make<At = Place>> Make for Resolving<'p, 'a, 'b, M> {
         copy_record(alloc, self.maker, self.plan, at, bytes, ends)
     }
 
-    #[inline(never)]
+    #[inline(always)]
     fn leaf(
         &mut self,
         alloc: Global,
         at: Part,
         leaf: Leaf<'_>,
     ) -> Result<Made<M::Out>, AllocError> {
-        make_leaf(alloc, self.maker, self.plan, at, leaf)
+        match leaf {
+            Leaf::Long(value) => make_leaf(alloc, self.maker, self.plan, at, Leaf::Long(value)),
+            other => make_apart(alloc, self.maker, self.plan, at, other),
+        }
     }
 
     fn branch_at(&self, at: Part, branch: u32, _node: NodeId) -> Part {

@@ -36,60 +36,59 @@ pub(crate) fn bytes_at(text: &[u8], span: Span) -> &[u8]
     bytes
 }
 
-/// Appends the display of an array, whose items stand in the text.
-pub(crate) fn append_items(text: &mut Text, items: &[Span]) -> Result<(), AllocError>
-    ensures shown { (ds : Items) → AreItemsAt text.old items.now ds → OnOk result (text.new ≡ text.old ++ compact_text (array ds)) }
-    ensures kept { OnOk result (Grows text.old text.new) }
+/// Appends the display of an array, whose items stand in a text.
+pub(crate) fn append_items(whole: &mut Text, text: &[u8], items: &[Span]) -> Result<(), AllocError>
+    ensures { (ds : Items) → AreItemsAt text.now items.now ds → OnOk result (whole.new ≡ whole.old ++ compact_text (array ds)) }
 {
-    text.append_byte(b'[')?;
+    whole.append_byte(b'[')?;
     let mut later = false;
     for item in items {
-        text.append_comma(later)?;
-        text.append_within(item.start, item.end)?;
+        whole.append_comma(later)?;
+        whole.append(bytes_at(text, *item))?;
         later = true;
     }
-    text.append_byte(b']')
+    whole.append_byte(b']')
 }
 
-/// Appends the display of an object, whose values stand in the text.
+/// Appends the display of an object, whose values stand in a text.
 pub(crate) fn append_entries(
-    text: &mut Text,
+    whole: &mut Text,
+    text: &[u8],
     entries: &BTreeMap<String, Span>,
 ) -> Result<(), AllocError>
-    ensures shown { (ms : Members) → AreMembersAt text.old entries.now.entries ms → OnOk result (text.new ≡ text.old ++ compact_text (object ms)) }
-    ensures kept { OnOk result (Grows text.old text.new) }
+    ensures { (ms : Members) → AreMembersAt text.now entries.now.entries ms → OnOk result (whole.new ≡ whole.old ++ compact_text (object ms)) }
 {
-    text.append_byte(b'{')?;
+    whole.append_byte(b'{')?;
     let mut later = false;
     for (key, value) in entries.iter() {
-        text.append_entry_key(later, key.as_str())?;
-        text.append_within(value.start, value.end)?;
+        whole.append_entry_key(later, key.as_str())?;
+        whole.append(bytes_at(text, *value))?;
         later = true;
     }
-    text.append_byte(b'}')
+    whole.append_byte(b'}')
 }
 
-/// Appends the display of an object of members, whose values stand in the text.
+/// Appends the display of an object of members, whose values stand in a text.
 pub(crate) fn append_members(
-    text: &mut Text,
+    whole: &mut Text,
+    text: &[u8],
     members: &[Member],
     values: &[Span],
 ) -> Result<(), AllocError>
-    ensures shown { (tree : ℕ → Data) → AllByRecursion (λ m. IsSpanAt text.old values.now m.field (compact_text (tree m.field))) members.now
-        → OnOk result (text.new ≡ text.old ++ object_text tree members.now) }
-    ensures kept { OnOk result (Grows text.old text.new) }
+    ensures { (tree : ℕ → Data) → AllByRecursion (λ m. IsSpanAt text.now values.now m.field (compact_text (tree m.field))) members.now
+        → OnOk result (whole.new ≡ whole.old ++ object_text tree members.now) }
 {
     if members.is_empty() {
-        return text.append(b"{}");
+        return whole.append(b"{}");
     }
     for member in members {
-        text.append(member.head())?;
+        whole.append(member.head())?;
         match values.get(member.field) {
-            Some(value) => text.append_within(value.start, value.end)?,
+            Some(value) => whole.append(bytes_at(text, *value))?,
             None => return Err(AllocError),
         }
     }
-    text.append_byte(b'}')
+    whole.append_byte(b'}')
 }
 
 /// Appends the display of an object of members, whose values are encoded in pieces.

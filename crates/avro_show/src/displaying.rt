@@ -1,5 +1,9 @@
 //! The display of a datum, made while the datum is read.
 
+use crate::composing::{
+    append_encoded, append_entries, append_items, append_members, append_pieces,
+};
+use crate::leaf::append_leaf;
 use crate::room::Room;
 use crate::spans::{KeyedSpans, Span, Spans};
 use avro_binary::{Leaf, Make, Pieces, Place};
@@ -101,6 +105,10 @@ impl<'a> Make for Displaying<'a> {
         Some(self.room.take_ends(alloc))
     }
 
+    fn spare_ends(&mut self, alloc: Global) -> Option<Vec<usize>> {
+        Some(self.room.take_ends(alloc))
+    }
+
     fn keep_ends(&mut self, ends: Vec<usize>) {
         self.room.keep_ends(ends);
     }
@@ -115,9 +123,10 @@ impl<'a> Make for Displaying<'a> {
         let opening = self.opening(at);
         let members = self.table.members(at.node);
         let pieces = Pieces { bytes, ends: &ends };
-        let span = self.room.pieces(opening, self.table, members, pieces)?;
+        let start = self.room.begin(opening)?;
+        append_pieces(&mut self.room.text, self.table, members, pieces)?;
         self.room.keep_ends(ends);
-        Ok(Some(span))
+        Ok(Some(self.room.end(opening, start)?))
     }
 
     fn copied(
@@ -128,15 +137,18 @@ impl<'a> Make for Displaying<'a> {
     ) -> Result<Option<Span>, AllocError> {
         let opening = self.opening(at);
         let node = self.table.schema().get(at.node);
-        let span = self.room.encoded(opening, node, content)?;
-        Ok(Some(span))
+        let start = self.room.begin(opening)?;
+        append_encoded(&mut self.room.text, node, content)?;
+        Ok(Some(self.room.end(opening, start)?))
     }
 
     #[inline(always)]
     fn leaf(&mut self, _alloc: Global, at: Place, leaf: Leaf<'_>) -> Result<Span, AllocError> {
         let opening = self.opening(at);
         let node = self.table.schema().get(at.node);
-        self.room.leaf(opening, node, leaf)
+        let start = self.room.begin(opening)?;
+        append_leaf(&mut self.room.text, node, leaf)?;
+        self.room.end(opening, start)
     }
 
     fn branch_at(&self, _at: Place, branch: u32, node: NodeId) -> Place {
@@ -162,9 +174,11 @@ impl<'a> Make for Displaying<'a> {
 
     fn array(&mut self, _alloc: Global, items: Spans) -> Result<Span, AllocError> {
         let opening = self.opening(items.owner);
-        let span = self.room.array(opening, &items.parts)?;
-        self.room.keep_spans(items);
-        Ok(span)
+        let room = &mut *self.room;
+        room.whole.clear();
+        append_items(&mut room.whole, room.text.as_slice(), &items.parts)?;
+        room.keep_spans(items);
+        room.composed(opening)
     }
 
     fn entries(&mut self, alloc: Global, at: Place) -> Result<KeyedSpans, AllocError> {
@@ -196,7 +210,11 @@ impl<'a> Make for Displaying<'a> {
     }
 
     fn map(&mut self, _alloc: Global, entries: KeyedSpans) -> Result<Span, AllocError> {
-        self.room.object(self.opening(entries.owner), &entries.parts)
+        let opening = self.opening(entries.owner);
+        let room = &mut *self.room;
+        room.whole.clear();
+        append_entries(&mut room.whole, room.text.as_slice(), &entries.parts)?;
+        room.composed(opening)
     }
 
     fn fields(&mut self, alloc: Global, at: Place) -> Result<Spans, AllocError> {
@@ -215,9 +233,11 @@ impl<'a> Make for Displaying<'a> {
     fn record(&mut self, _alloc: Global, fields: Spans) -> Result<Span, AllocError> {
         let opening = self.opening(fields.owner);
         let members = self.table.members(fields.owner.node);
-        let span = self.room.record(opening, members, &fields.parts)?;
-        self.room.keep_spans(fields);
-        Ok(span)
+        let room = &mut *self.room;
+        room.whole.clear();
+        append_members(&mut room.whole, room.text.as_slice(), members, &fields.parts)?;
+        room.keep_spans(fields);
+        room.composed(opening)
     }
 
     fn keep_slots(&mut self, _slots: Vec<Option<Span>>)

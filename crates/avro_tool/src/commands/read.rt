@@ -14,12 +14,13 @@ use crate::failure::Failure;
 use crate::files::container::open_file;
 use crate::files::schema::{read_reader, read_schema_file};
 use crate::request::Reading;
-use avro_answer::{DataError, DataPlan};
+use avro_answer::{DataError, DataPlan, behind};
 use avro_binary::{Nothing, ReadError, read_own};
 use avro_device::Output;
 use avro_resolve::ReadResolveError;
 use avro_schema::{Limits, Memory, Schema};
 use avro_schema_json::ReaderText;
+use avro_show::Room;
 use std::alloc::Global;
 use std::io;
 use std::io::BufRead;
@@ -172,8 +173,9 @@ fn put_datum<O: Output>(
     ensures refused { IfRefused result (λ e. O.keeps out.old [] out.new × IfSome (fault_found e) (IsAllFound (schema_nodes plan.now.0) (option_map schema_nodes plan.now.1)
         datum_limits asked.now.skip bytes.now)) }
 {
-    let skip = asked.skip as usize;
-    plan.put(out, alloc, bytes, skip, &Limits::default(), asked.form)
+    let data = behind(bytes, asked.skip as usize)?;
+    let mut room = Room::new(alloc);
+    plan.put(out, alloc, data, &Limits::default(), asked.form, &mut room)
 }
 
 /// The error of data that may have been cut: where these end in the datum, a limit is exceeded.
