@@ -135,43 +135,43 @@ module _ (nodes : List Node) (c : CursorValue) (ready : IsReady c.depth c) where
   ]
 
   pub null_reads : Reads nodes Node.null (outside c)
-  null_reads = found_by nodes Node.null (outside c) (left_node c) (null_found nodes c tt tt)
+  null_reads = found_by nodes Node.null (outside c) (left_node c) (null_found nodes c tt (λ fit. tt))
 
   pub boolean_reads : Reads nodes Node.boolean (outside c)
   boolean_reads = leaf Node.boolean IsBoolean BooleanBreaks (boolean_or_fault c.bytes)
-      (λ b front rest is split. boolean_found nodes c (moved_to c front rest) tt b (front, is, passes_to c front rest split) tt)
+      (λ b front rest is split. boolean_found nodes c (moved_to c front rest) tt b (front, is, passes_to c front rest split) (λ fit. tt))
       (λ f b. b)
 
   pub int_reads : Reads nodes Node.int (outside c)
   int_reads = leaf Node.int IsInt IntBreaks (int_or_fault c.bytes ready.are)
-      (λ v front rest is split. int_found nodes c (moved_to c front rest) tt v (front, is, passes_to c front rest split) tt)
+      (λ v front rest is split. int_found nodes c (moved_to c front rest) tt v (front, is, passes_to c front rest split) (λ fit. tt))
       (λ f b. b)
 
   pub long_reads : Reads nodes Node.long (outside c)
   long_reads = leaf Node.long IsLong LongBreaks (long_or_fault c.bytes ready.are)
-      (λ v front rest is split. long_found nodes c (moved_to c front rest) tt v (front, is, passes_to c front rest split) tt)
+      (λ v front rest is split. long_found nodes c (moved_to c front rest) tt v (front, is, passes_to c front rest split) (λ fit. tt))
       (λ f b. b)
 
   pub bytes_reads : Reads nodes Node.bytes (outside c)
   bytes_reads = leaf Node.bytes (IsBytes c.blob) (BytesBreaks c.blob) (content_or_fault (λ content. true) c.blob c.bytes ready.are)
       (λ content front rest is split. bytes_found nodes c (moved_to c front rest) tt content front is (passes_to c front rest split)
-      (each_below content (rest_are is.spelled.0 content front (front_are front rest c.bytes ready.are split) is.spelled.2)) tt)
+      (each_below content (rest_are is.spelled.0 content front (front_are front rest c.bytes ready.are split) is.spelled.2)) (λ fit. tt))
       (λ f b. b)
 
   pub string_reads : Reads nodes Node.string (outside c)
   string_reads = leaf Node.string (IsString c.blob) (StringBreaks c.blob) (content_or_fault is_utf8 c.blob c.bytes ready.are)
-      (λ content front rest is split. string_found nodes c (moved_to c front rest) tt content front is (passes_to c front rest split) tt)
+      (λ content front rest is split. string_found nodes c (moved_to c front rest) tt content front is (passes_to c front rest split) (λ fit. tt))
       (λ f b. b)
 
   pub symbol_reads : (name : Name) (aliases : List Name) (symbols : List (List ℕ)) (default : Option ℕ) → Reads nodes (Node.enum name aliases symbols default) (outside c)
   symbol_reads name aliases symbols default = leaf (Node.enum name aliases symbols default) (IsIndex (length symbols)) (IndexBreaks (length symbols)) (index_or_fault (length symbols) c.bytes ready.are)
-      (λ k front rest is split. symbol_found nodes c (moved_to c front rest) tt name aliases symbols default (length symbols) k refl (front, is, passes_to c front rest split) tt)
+      (λ k front rest is split. symbol_found nodes c (moved_to c front rest) tt name aliases symbols default (length symbols) k refl (front, is, passes_to c front rest split) (λ fit. tt))
       (λ f b. b)
 
   pub fixed_reads : (name : Name) (aliases : List Name) (count : ℕ) → Reads nodes (Node.fixed name aliases count) (outside c)
   fixed_reads name aliases count = leaf (Node.fixed name aliases count) (IsFixed count c.blob) (FixedBreaks count c.blob) (fixed_or_fault count c.blob c.bytes)
       (λ content front rest is split. fixed_found nodes c (moved_to c front rest) tt name aliases count content front is (passes_to c front rest split)
-      (let small = is.2 in let long = ready.long in omega arith) (each_below content (subst (λ (k : List ℕ). AreBytes k) is.0 (front_are front rest c.bytes ready.are split))) tt)
+      (let small = is.2 in let long = ready.long in omega arith) (each_below content (subst (λ (k : List ℕ). AreBytes k) is.0 (front_are front rest c.bytes ready.are split))) (λ fit. tt))
       (λ f b. b)
 
 -- ---- Unions and records

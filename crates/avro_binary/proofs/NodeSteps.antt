@@ -242,12 +242,6 @@ pub texts-length : (texts : List (String Global)) → length (texts_of texts) �
 texts-length [] = refl
 texts-length (t ∷ texts) = ap suc (texts-length texts)
 
--- an id past the nodes is that of null
-pub null_past : (nodes : List Node) (k : ℕ) → length nodes ≤ k → node_at nodes k ≡ Node.null
-null_past [] k h = refl
-null_past (n ∷ nodes) zero h = absurd (omega arith)
-null_past (n ∷ nodes) (suc k) h = null_past nodes k (omega arith)
-
 -- values of the fields of some ids were read, one after another
 pub record FieldsDone (nodes : List Node) (ids : List ℕ) (start now : CursorValue) (vs : List Value) : Type 0 where
   pub items : List (List ℕ)

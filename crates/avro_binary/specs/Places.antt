@@ -1,6 +1,6 @@
 -- The places of data.
-use Rattle.std.specs.Prelude.{◌≡◌, ℕ, Bool, true, false, Option, Some, None}
-use Rattle.avro_schema.specs.Node.{Node}
+use Rattle.std.specs.Prelude.{◌≡◌, ℕ, Bool, true, false, List, Option, Some, None, slice_get}
+use Rattle.avro_schema.specs.Node.{Node, node_at}
 use Rattle.avro_schema.specs.Value.{Value}
 use Rattle.avro_binary.specs.declared.place.Place.{Place}
 
@@ -25,6 +25,10 @@ branch_place k id = placed (Some k) id
 abbrev pub is_union : Node → Bool
 is_union (Node.union ids) = true
 is_union n = false
+
+-- none of the branches of a union is a union
+abbrev pub HoldsNoUnion : List Node → List ℕ → Type 0
+HoldsNoUnion nodes ids = (k id : ℕ) → slice_get ids k ≡ Some id → is_union (node_at nodes id) ≡ false
 
 -- a datum of the node may be at the place: no union is the value of a branch
 abbrev pub MayBeAt : Node → Place → Type 0

@@ -144,12 +144,7 @@ pub trait Make {
     }
 
     /// Makes a datum without parts.
-    fn leaf(
-        &mut self,
-        alloc: Global,
-        at: Self::At,
-        leaf: Leaf<'_>,
-    ) -> Result<Self::Out, AllocError>
+    fn leaf(&mut self, alloc: Global, at: Self::At, leaf: Leaf<'_>) -> Result<Self::Out, AllocError>
         ensures kept { OnOk result (keeps self.old self.new) }
         ensures stays { (front : List ℕ) → begins self.old front → begins self.new front }
         ensures stands { (nodes : List Node) (n : Node) → fits nodes n (leaf_value leaf.entry) ≡ true → IfOk result (λ out. stands_for self.new nodes n at out (leaf_value leaf.entry)) };

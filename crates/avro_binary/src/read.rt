@@ -64,7 +64,15 @@ pub(crate) fn read_node<B: Build>(
     ensures { BuildsExactly B.stands_for (schema_nodes schema.now) (node_at (schema_nodes schema.now) node.0) limits.now bytes.now result }
 {
     let mut maker = Wrapping::new(builder);
-    read_made(alloc, schema, node, bytes, limits, &mut maker, Place::of(node))
+    read_made(
+        alloc,
+        schema,
+        node,
+        bytes,
+        limits,
+        &mut maker,
+        Place::of(node),
+    )
 }
 
 /// Reads what [`decode`] reads, for any maker and by what the datum is for: what is returned stands, at the maker as it then is, for

@@ -7,6 +7,7 @@ ghost use Rattle.avro_schema.specs.SeenSchema.{schema_nodes};
 ghost use Rattle.avro_schema.specs.Value.{Value};
 ghost use Rattle.avro_binary.specs.CursorReads.{ReadsNode, ReadsRun, ValuesRun, value_breaks, outside, left_node};
 ghost use Rattle.avro_binary.specs.Making.{Made};
+ghost use Rattle.avro_binary.specs.Places.{HoldsNoUnion};
 
 mod fields;
 mod maps;
@@ -162,7 +163,8 @@ fn read_union<M: Make>(
     maker: &mut M,
     at: M::At,
 ) -> Result<M::Out, ReadError>
-    ensures reads { ReadsNode (Made M.keeps (λ m. M.stands_for m (schema_nodes schema.now) (SeenNode.union (ids_of branches.now)) at) maker.old maker.new) (schema_nodes schema.now) (SeenNode.union (ids_of branches.now)) cursor.old cursor.new result }
+    ensures reads { HoldsNoUnion (schema_nodes schema.now) (ids_of branches.now)
+        → ReadsNode (Made M.keeps (λ m. M.stands_for m (schema_nodes schema.now) (SeenNode.union (ids_of branches.now)) at) maker.old maker.new) (schema_nodes schema.now) (SeenNode.union (ids_of branches.now)) cursor.old cursor.new result }
     ensures stays { (front : List ℕ) → M.begins maker.old front → M.begins maker.new front }
 {
     cursor.enter()?;
@@ -182,7 +184,8 @@ fn read_branch<M: Make>(
     maker: &mut M,
     at: M::At,
 ) -> Result<M::Out, ReadError>
-    ensures reads { ReadsNode (Made M.keeps (λ m. M.stands_for m (schema_nodes schema.now) (SeenNode.union (ids_of branches.now)) at) maker.old maker.new) (schema_nodes schema.now) (SeenNode.union (ids_of branches.now)) (outside cursor.old) (left_node cursor.new) result }
+    ensures reads { HoldsNoUnion (schema_nodes schema.now) (ids_of branches.now)
+        → ReadsNode (Made M.keeps (λ m. M.stands_for m (schema_nodes schema.now) (SeenNode.union (ids_of branches.now)) at) maker.old maker.new) (schema_nodes schema.now) (SeenNode.union (ids_of branches.now)) (outside cursor.old) (left_node cursor.new) result }
     ensures stays { (front : List ℕ) → M.begins maker.old front → M.begins maker.new front }
 {
     let index = cursor.index(branches.len())?;

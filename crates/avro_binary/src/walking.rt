@@ -30,6 +30,13 @@ pub fn walk(
     let _count = schema.len();
     let mut cursor = Cursor::new(bytes, limits);
     let mut nothing = Nothing;
-    read_at(alloc, schema, node, &mut cursor, &mut nothing, Place::of(node))?;
+    read_at(
+        alloc,
+        schema,
+        node,
+        &mut cursor,
+        &mut nothing,
+        Place::of(node),
+    )?;
     Ok(cursor.offset())
 }

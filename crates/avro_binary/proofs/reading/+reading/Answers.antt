@@ -1,13 +1,13 @@
-use Rattle.std.proofs.Common.{zero, suc, get_or, ◌+◌, drop, Bool, false, nat_lt, rules, tests, ◌≡◌, refl, sym, ap, ◌∙◌, subst, ℕ, List, [], ◌∷◌, ◌++◌, ◌<◌, ◌≤◌, length, take, arith, true, length-append, append_assoc, append-nil}
-use Rattle.std.specs.Prelude.{IsTrue, Some, slice_get, replicate, OnOk, ◌-◌, ◌*◌, ◌^◌}
+use Rattle.std.proofs.Common.{zero, suc, get_or, ◌+◌, drop, false, rules, tests, ◌≡◌, refl, sym, ap, ◌∙◌, subst, ℕ, List, [], ◌∷◌, ◌++◌, ◌<◌, ◌≤◌, length, take, arith, true, length-append, append_assoc, append-nil}
+use Rattle.std.specs.Prelude.{Some, slice_get, replicate, OnOk, ◌-◌, ◌*◌, ◌^◌}
 use Rattle.std.specs.Result.{IfErr}
 use Rattle.std.specs.List.{concat}
-use Rattle.std.proofs.lemmas.Bool.{false≢true}
 use Rattle.avro_schema.specs.declared.schema.Field.{Field}
+use Rattle.avro_schema.specs.declared.schema.NodeId.{NodeId}
 use Rattle.std.proofs.lemmas.Result.{err_from_is_err_and}
 use Rattle.avro_schema.specs.Value.{Value, size}
 use Rattle.avro_schema.specs.Node.{Node, node_at, field_ids}
-use Rattle.avro_schema.specs.Seen.{node_of, ids_of, seen_fields, texts_of}
+use Rattle.avro_schema.specs.Seen.{node_of, ids_of, seen_fields}
 use Rattle.avro_schema.specs.Runs.{StartWithEmpties, ids_at}
 use Rattle.avro_schema.specs.SeenSchema.{schema_nodes}
 use Rattle.avro_cursor.specs.Breaks.{IndexBreaks}
@@ -21,8 +21,9 @@ use Rattle.avro_binary.specs.CursorReads.{ReadsNode, limits_at}
 use Rattle.avro_binary.proofs.BlockSteps.{head_read, end_read, has_size, blocks_none, head_refused, item_refused, size_refused, depth_kept, blob_kept, offset_is, block_smaller, blocks_push}
 use Rattle.avro_binary.proofs.EmptyReads.{reads_kept}
 use Rattle.avro_binary.proofs.EmptyRuns.{none_passed, run_breaks_off, run_passed}
-use Rattle.avro_binary.proofs.NodeSteps.{node_left, node_refused, enter_refused, ArrayDone, array_found, map_found, FieldsDone, fields_none, branch_refused, branch_unread, union_found, branch_at, ids-length, texts-length, null_past, fields_push, field_breaks, record_found, record_refused, ids_split, ids_next, ids_all}
-use Rattle.avro_cursor.proofs.public.Ranges.{bytes-below, not-below}
+use Rattle.avro_binary.proofs.NodeKinds.{none_have_parts, no_union_held}
+use Rattle.avro_binary.proofs.NodeSteps.{node_left, node_refused, enter_refused, ArrayDone, array_found, map_found, FieldsDone, fields_none, branch_refused, branch_unread, union_found, branch_at, ids-length, fields_push, field_breaks, record_found, record_refused, ids_split, ids_next, ids_all}
+use Rattle.avro_cursor.proofs.public.Ranges.{bytes-below}
 use Rattle.avro_binary.proofs.Repeated.{others_last, same_reads}
 use Rattle.avro_binary.proofs.RunLaws.{values_kind, entries_kind}
 use Rattle.avro_binary.proofs.RunSteps.{run_none, run_push, run_breaks, value_run, value_report, entry_run, entry_report, key_report, moves-join, moves-passed}
@@ -225,7 +226,7 @@ maps::read_entries-loop-done-preserved g t c = (
       let maker = c.loop-done.maker in
       let made = c.read_at.new.maker in
       let entries = c.loop-done.entries in
-      let is_for = subst (λ (a : g.row.M-At.Denot). g.M.Make.stands_for made nodes n a c.in_ok-value.value v) (c.entry_at-at.ensures ∙ g.met.M.Make.entry_at_kept maker made entries found.2.0) found.2.1 in
+      let is_for = subst (λ (a : g.row.M-At.Denot). g.M.Make.stands_for made nodes n a c.in_ok-value.value v) (c.entry_at-at.ensures ∙ g.met.M.Make.entry_at_kept maker made entries c.args.id.0 found.2.0) found.2.1 in
       let kept = g.met.M.Make.keeps_on c.args.maker.now maker c.entry.new.self so_far.5 (g.met.M.Make.keeps_on maker made c.entry.new.self found.2.0 c.in_ok-entry.ensures.kept) in
       let stand = λ (at : g.row.M-At.Denot) (fs : List (List ℕ × Value)) (h : g.M.Make.entries_stand_for c.args.maker.now nodes c.args.id.0 at c.args.entries.now fs).
       subst (λ (es : List (List ℕ × Value)). g.M.Make.entries_stand_for c.entry.new.self nodes c.args.id.0 at c.entry.new.entries es) (append_assoc fs xs ((key, v) ∷ []))
@@ -282,7 +283,7 @@ read_items-loop-done-preserved g t c =
           let counted = so_far.1 in
           let one = value_run nodes limits n now after [] v value (d ∙ sym so_far.2.moves.depth) (b ∙ sym so_far.2.moves.blob) in
           let more = run_push (values_kind nodes limits n) so_far.2 after [] v value.front one value.moves in
-          let is_for = subst (λ (a : g.row.M-At.Denot). g.M.Make.stands_for made nodes n a c.in_ok-value.value v) (c.item_at-at.ensures ∙ g.met.M.Make.item_at_kept maker made items found.2.0 ∙ sym c.add_others-alike.ensures.next) found.2.1 in
+          let is_for = subst (λ (a : g.row.M-At.Denot). g.M.Make.stands_for made nodes n a c.in_ok-value.value v) (c.item_at-at.ensures ∙ g.met.M.Make.item_at_kept maker made items c.args.id.0 found.2.0 ∙ sym (c.add_others-alike.ensures.next c.args.id.0)) found.2.1 in
           let kept = g.met.M.Make.keeps_on c.args.maker.now maker c.item.new.self so_far.3 (g.met.M.Make.keeps_on maker made c.item.new.self found.2.0 c.in_ok-item.ensures.kept) in
           let stand = λ (at : g.row.M-At.Denot) (us : List Value) (h : g.M.Make.items_stand_for c.args.maker.now nodes c.args.id.0 at c.args.items.now us).
           let before = subst (λ held. g.M.Make.items_stand_for made nodes c.args.id.0 at held (us ++ xs)) same (g.met.M.Make.items_kept maker made nodes c.args.id.0 at items (us ++ xs) found.2.0 (so_far.4 at us h)) in
@@ -313,8 +314,8 @@ read_items-returns-then-alike-clause-reads g t c = λ limits d b.
     let others = c.args.count - 1 - c.loop-done.done in
     let stood : length after.bytes ≡ length now.bytes = search (rules, tests) in
     let sized : c.nodes-nodes.result - c.nodes.result ≡ size v = let many = value.many in let a = c.nodes-nodes.ensures.count in let z = c.nodes.ensures.count in omega arith in
-    let is_for = subst (λ (a : g.row.M-At.Denot). g.M.Make.stands_for made nodes n a c.in_ok-value.value v) (c.item_at-at.ensures ∙ g.met.M.Make.item_at_kept maker made items found.2.0) found.2.1 in
-    let is_next = subst (λ (a : g.row.M-At.Denot). g.M.Make.stands_for made nodes n a c.in_ok-value.value v) (sym added.next) is_for in
+    let is_for = subst (λ (a : g.row.M-At.Denot). g.M.Make.stands_for made nodes n a c.in_ok-value.value v) (c.item_at-at.ensures ∙ g.met.M.Make.item_at_kept maker made items c.args.id.0 found.2.0) found.2.1 in
+    let is_next = subst (λ (a : g.row.M-At.Denot). g.M.Make.stands_for made nodes n a c.in_ok-value.value v) (sym (added.next c.args.id.0)) is_for in
     let kept = g.met.M.Make.keeps_on c.args.maker.now maker c.item.new.self so_far.3 (g.met.M.Make.keeps_on maker made c.item.new.self found.2.0 c.in_ok-item.ensures.kept) in
     let stand = λ (at : g.row.M-At.Denot) (us : List Value) (h : g.M.Make.items_stand_for c.args.maker.now nodes c.args.id.0 at c.args.items.now us).
     let before = g.met.M.Make.items_kept maker made nodes c.args.id.0 at items (us ++ xs) found.2.0 (so_far.4 at us h) in
@@ -338,53 +339,21 @@ read_items-returns-clause-reads g t c = λ limits d b.
 
 -- ---- Nodes
 
-pub read_at-returns-then-not-has-clause-reads : goal.read_at-returns-then-not-has-clause-reads
-read_at-returns-then-not-has-clause-reads g t c =
-    let nodes = schema_nodes c.args.schema.now in
-    let none = c.if-not-has.true in
-    let has = c.has.ensures in
-    let past : length nodes ≤ c.args.id.0 = not-below c.args.id.0 (length nodes) c.has.result none has.1 in
-    rw (null_past nodes c.args.id.0 past) (c.read_null.ensures.reads nodes)
-
-pub read_at-returns-in-Null-clause-reads : goal.read_at-returns-in-Null-clause-reads
-read_at-returns-in-Null-clause-reads g t c =
-    rw (sym c.node.ensures ∙ ap node_of c.in-Null.is) (c.read_null-in-Null.ensures.reads (schema_nodes c.args.schema.now))
-
-pub read_at-returns-in-Boolean-clause-reads : goal.read_at-returns-in-Boolean-clause-reads
-read_at-returns-in-Boolean-clause-reads g t c =
-    rw (sym c.node.ensures ∙ ap node_of c.in-Boolean.is) (c.read_boolean.ensures.reads (schema_nodes c.args.schema.now))
-
-pub read_at-returns-in-Int-clause-reads : goal.read_at-returns-in-Int-clause-reads
-read_at-returns-in-Int-clause-reads g t c =
-    rw (sym c.node.ensures ∙ ap node_of c.in-Int.is) (c.read_int.ensures.reads (schema_nodes c.args.schema.now))
-
-pub read_at-returns-in-Long-clause-reads : goal.read_at-returns-in-Long-clause-reads
-read_at-returns-in-Long-clause-reads g t c =
-    rw (sym c.node.ensures ∙ ap node_of c.in-Long.is) (c.read_long.ensures.reads (schema_nodes c.args.schema.now))
-
-pub read_at-returns-in-Bytes-clause-reads : goal.read_at-returns-in-Bytes-clause-reads
-read_at-returns-in-Bytes-clause-reads g t c =
-    rw (sym c.node.ensures ∙ ap node_of c.in-Bytes.is) (c.read_bytes.ensures.reads (schema_nodes c.args.schema.now))
-
-pub read_at-returns-in-Str-clause-reads : goal.read_at-returns-in-Str-clause-reads
-read_at-returns-in-Str-clause-reads g t c =
-    rw (sym c.node.ensures ∙ ap node_of c.in-Str.is) (c.read_text.ensures.reads (schema_nodes c.args.schema.now))
-
 pub read_at-returns-in-Record-clause-reads : goal.read_at-returns-in-Record-clause-reads
 read_at-returns-in-Record-clause-reads g t c =
     let record_is = c.in-Record.record in
-    c.read_record.ensures.reads record_is.name record_is.aliases.items (rw c.deref-in-Record.ensures.value (sym c.node.ensures ∙ ap node_of c.in-Record.is))
+    c.read_record.ensures.reads record_is.name record_is.aliases.items (rw c.deref-in-Record.ensures.value (sym c.get.ensures.node ∙ ap node_of c.in-Record.is))
 
-pub read_at-returns-in-Enum-clause-reads : goal.read_at-returns-in-Enum-clause-reads
-read_at-returns-in-Enum-clause-reads g t c =
-    let enum_is = c.in-Enum.enumeration in
-    rw (sym c.node.ensures ∙ ap node_of c.in-Enum.is) (c.read_symbol.ensures.reads (schema_nodes c.args.schema.now) enum_is.name enum_is.aliases.items (texts_of enum_is.symbols.items) enum_is.default
-    (c.len.ensures ∙ enum_is.symbols.ok.0 ∙ sym (texts-length enum_is.symbols.items)))
+pub read_at-returns-in-Union-clause-reads : goal.read_at-returns-in-Union-clause-reads
+read_at-returns-in-Union-clause-reads g t c =
+    let nodes = schema_nodes c.args.schema.now in
+    let is = sym c.get.ensures.node ∙ ap node_of c.in-Union.is ∙ ap (λ (ids : List NodeId). Node.union (ids_of ids)) (sym c.deref.ensures.value) in
+    rw (is) (c.read_union.ensures.reads (no_union_held nodes c.args.id.0 (ids_of c.deref.result.now) c.get.ensures.formed is))
 
-pub read_at-returns-in-Fixed-clause-reads : goal.read_at-returns-in-Fixed-clause-reads
-read_at-returns-in-Fixed-clause-reads g t c =
-    let fixed_is = c.in-Fixed.fixed in
-    rw (sym c.node.ensures ∙ ap node_of c.in-Fixed.is) (c.read_fixed.ensures.reads (schema_nodes c.args.schema.now) fixed_is.name fixed_is.aliases.items)
+pub read_at-returns-in_default-clause-reads : goal.read_at-returns-in_default-clause-reads
+read_at-returns-in_default-clause-reads g t c =
+    let leaf = none_have_parts c.get.result.now c.in_default.not-Array c.in_default.not-Map c.in_default.not-Union c.in_default.not-Record in
+    rw (sym c.get.ensures.node) (c.read_leaf.ensures.reads (schema_nodes c.args.schema.now) leaf)
 
 -- ---- Nodes with parts
 
@@ -411,15 +380,25 @@ maps::read_map-returns-in_err-out-clause-reads g t c =
     c.in_err-out.field-0.0 c.in_ok-enter.ensures.entered c.in_err-out.ensures.reads)
 
 pub read_union-returns-in_err-enter-clause-reads : goal.read_union-returns-in_err-enter-clause-reads
-read_union-returns-in_err-enter-clause-reads g t c =
+read_union-returns-in_err-enter-clause-reads g t c = λ plain.
     let p = err_from_is_err_and c.from_residual.result c.from_residual.ensures.1 in
     rw (p.1, p.2) (enter_refused (schema_nodes c.args.schema.now) (Node.union (ids_of c.args.branches.now)) c.args.cursor.now c.enter.new.self c.in_err-enter.field-0.0 c.in_err-enter.ensures.refused)
 
 pub read_union-returns-in_err-out-clause-reads : goal.read_union-returns-in_err-out-clause-reads
-read_union-returns-in_err-out-clause-reads g t c =
+read_union-returns-in_err-out-clause-reads g t c = λ plain.
     let p = err_from_is_err_and c.from_residual-in_err-out.result c.from_residual-in_err-out.ensures.1 in
     rw (p.1, p.2) (node_refused (schema_nodes c.args.schema.now) (Node.union (ids_of c.args.branches.now)) c.args.cursor.now c.enter.new.self c.read_branch.new.cursor c.read_branch.new.cursor
-    c.in_err-out.field-0.0 c.in_ok-enter.ensures.entered c.in_err-out.ensures.reads)
+    c.in_err-out.field-0.0 c.in_ok-enter.ensures.entered (c.in_err-out.ensures.reads plain))
+
+pub read_union-returns-clause-reads : goal.read_union-returns-clause-reads
+read_union-returns-clause-reads g t c = λ plain.
+    let read = c.in_ok-out.ensures.reads plain in
+    let same = read.found.1.moves.depth in
+    let entered = c.in_ok-enter.ensures.entered.depth in
+    let shallow = c.in_ok-enter.ensures.shallow in
+    let deep : c.read_branch.new.cursor.depth < 256 = omega arith in
+    node_left (schema_nodes c.args.schema.now) (Node.union (ids_of c.args.branches.now)) c.args.cursor.now c.enter.new.self
+    c.read_branch.new.cursor c.leave.new.self c.in_ok-out.out c.in_ok-enter.ensures.entered read (c.leave.ensures.freed deep)
 
 pub enter_record-returns-in_err-enter-clause-reads : goal.enter_record-returns-in_err-enter-clause-reads
 enter_record-returns-in_err-enter-clause-reads g t c = λ name aliases is.
@@ -497,7 +476,7 @@ fields::read_fields-loop-field-preserved g t c =
       omega (arith, length-append so_far.0 (found.0 ∷ [])),
       g.met.M.Make.keeps_on c.args.maker.now maker c.field.new.self so_far.3 (g.met.M.Make.keeps_on maker made c.field.new.self found.2.0 c.in_ok-field.ensures.kept),
       c.in_ok-field.ensures.stands nodes (seen_fields fields) field.node.0 c.args.at so_far.0 found.0 (g.met.M.Make.fields_kept maker made nodes (seen_fields fields) c.args.at values so_far.0 found.2.0 so_far.4) at_field
-          (subst (λ (a : g.row.M-At.Denot). g.M.Make.stands_for made nodes (node_at nodes field.node.0) a c.in_ok-value.value found.0) (c.field_at-part.ensures ∙ g.met.M.Make.field_at_kept maker made values found.2.0) found.2.1),
+          (subst (λ (a : g.row.M-At.Denot). g.M.Make.stands_for made nodes (node_at nodes field.node.0) a c.in_ok-value.value found.0) (c.field_at-part.ensures ∙ g.met.M.Make.field_at_kept maker made values field.node.0 found.2.0) found.2.1),
       λ front h. c.in_ok-field.ensures.stays front (c.in_ok-value.ensures.stays front (so_far.5 front h)),
     )
 
@@ -592,7 +571,7 @@ fields::read_runs-loop-index-preserved-then-passed-eq0 g t c =
                 (fields_push nodes (take i ids) start now xs done id c.read_apart.new.cursor found.0 found.1),
             omega (arith, length-append xs (found.0 ∷ []), counted),
             c.in_ok-field.ensures.stands nodes (seen_fields fields) id c.args.at xs found.0 (g.met.M.Make.fields_kept maker made nodes (seen_fields fields) c.args.at values xs found.2.0 more.3) at_field
-                (subst (λ (a : g.row.M-At.Denot). g.M.Make.stands_for made nodes (node_at nodes id) a c.in_ok-value.value found.0) (c.field_at-part.ensures ∙ g.met.M.Make.field_at_kept maker made values found.2.0) found.2.1),
+                (subst (λ (a : g.row.M-At.Denot). g.M.Make.stands_for made nodes (node_at nodes id) a c.in_ok-value.value found.0) (c.field_at-part.ensures ∙ g.met.M.Make.field_at_kept maker made values id found.2.0) found.2.1),
           ),
       λ front h. c.in_ok-field.ensures.stays front (c.in_ok-value.ensures.stays front (c.loop-index.invariant.3 front h)),
     )
@@ -630,7 +609,7 @@ fields::read_runs-returns-clause-reads g t c = λ name aliases tells.
 -- ---- Unions
 
 pub read_branch-returns-in_err-index-clause-reads : goal.read_branch-returns-in_err-index-clause-reads
-read_branch-returns-in_err-index-clause-reads g t c =
+read_branch-returns-in_err-index-clause-reads g t c = λ plain.
     let branches = c.args.branches.now in
     let start = c.args.cursor.now in
     let e = c.in_err-index.field-0.0 in
@@ -639,7 +618,7 @@ read_branch-returns-in_err-index-clause-reads g t c =
     rw (p.1, p.2) (branch_unread (schema_nodes c.args.schema.now) (ids_of branches) start c.index.new.self c.index.new.self e refused)
 
 pub read_branch-returns-in_err-value-clause-reads : goal.read_branch-returns-in_err-value-clause-reads
-read_branch-returns-in_err-value-clause-reads g t c =
+read_branch-returns-in_err-value-clause-reads g t c = λ plain.
     let nodes = schema_nodes c.args.schema.now in
     let branches = c.args.branches.now in
     let start = c.args.cursor.now in
@@ -654,7 +633,7 @@ read_branch-returns-in_err-value-clause-reads g t c =
     rw (p.1, p.2) (branch_refused nodes (ids_of branches) start mid k branch.0 at among after after c.in_err-value.field-0.0 c.in_err-value.ensures.reads)
 
 pub read_branch-returns-clause-reads : goal.read_branch-returns-clause-reads
-read_branch-returns-clause-reads g t c =
+read_branch-returns-clause-reads g t c = λ plain.
     let nodes = schema_nodes c.args.schema.now in
     let branches = c.args.branches.now in
     let start = c.args.cursor.now in
@@ -668,10 +647,10 @@ read_branch-returns-clause-reads g t c =
     let maker = c.args.maker.now in
     let made = c.read_at.new.maker in
     let step = λ (v : Value) (is : Made g.M.Make.keeps (λ m. g.M.Make.stands_for m nodes (node_at nodes branch.0) c.branch_at-part.result) maker made c.in_ok-value.value v).
-    let part = c.branch_at-part.ensures ∙ g.met.M.Make.branch_at_kept maker made c.args.at k is.0 in
+    let part = c.branch_at-part.ensures ∙ g.met.M.Make.branch_at_kept maker made c.args.at k branch.0 is.0 in
     let whole : Made g.M.Make.keeps (λ m. g.M.Make.stands_for m nodes (Node.union (ids_of branches)) c.args.at) maker c.branch-maker.new.self c.in_ok-branch.field-0 (Value.union k v) = (
       g.met.M.Make.keeps_on maker made c.branch-maker.new.self is.0 c.in_ok-branch.ensures.kept,
-      c.in_ok-branch.ensures.stands nodes (ids_of branches) branch.0 v at (subst (λ (a : g.row.M-At.Denot). g.M.Make.stands_for made nodes (node_at nodes branch.0) a c.in_ok-value.value v) part is.1),
+      c.in_ok-branch.ensures.stands nodes (ids_of branches) branch.0 c.args.at v at (plain k branch.0 at) (subst (λ (a : g.row.M-At.Denot). g.M.Make.stands_for made nodes (node_at nodes branch.0) a c.in_ok-value.value v) part is.1),
     ) in whole in
     union_found nodes (ids_of branches) start mid k branch.0 at among after c.in_ok-value.value c.in_ok-branch.field-0 c.in_ok-value.ensures.reads step
 
