@@ -21,27 +21,27 @@ returns-in_err-count-clause-reads g c = λ nodes leaf.
 pub returns-in_err-value-in-Boolean-clause-reads : goal.returns-in_err-value-in-Boolean-clause-reads
 returns-in_err-value-in-Boolean-clause-reads g c = λ nodes leaf.
     let p = err_from_is_err_and c.from_residual-in_err-value-in-Boolean.result c.from_residual-in_err-value-in-Boolean.ensures.1 in
-    rw (ap node_of c.in-Boolean.is, p.1, p.2) (counted_refused nodes (Node.boolean) (BooleanBreaks) c.in_ok-count.ensures.counted (λ f b. b) c.in_err-value-in-Boolean.ensures.refused)
+    rw (ap node_of c.in-Boolean.is, p.1, p.2) (counted_refused nodes Node.boolean BooleanBreaks c.in_ok-count.ensures.counted (λ f b. b) c.in_err-value-in-Boolean.ensures.refused)
 
 pub returns-in_err-value-in-Int-clause-reads : goal.returns-in_err-value-in-Int-clause-reads
 returns-in_err-value-in-Int-clause-reads g c = λ nodes leaf.
     let p = err_from_is_err_and c.from_residual-in_err-value-in-Int.result c.from_residual-in_err-value-in-Int.ensures.1 in
-    rw (ap node_of c.in-Int.is, p.1, p.2) (counted_refused nodes (Node.int) (IntBreaks) c.in_ok-count.ensures.counted (λ f b. b) c.in_err-value-in-Int.ensures.refused)
+    rw (ap node_of c.in-Int.is, p.1, p.2) (counted_refused nodes Node.int IntBreaks c.in_ok-count.ensures.counted (λ f b. b) c.in_err-value-in-Int.ensures.refused)
 
 pub returns-in_err-value-in-Long-clause-reads : goal.returns-in_err-value-in-Long-clause-reads
 returns-in_err-value-in-Long-clause-reads g c = λ nodes leaf.
     let p = err_from_is_err_and c.from_residual-in_err-value-in-Long.result c.from_residual-in_err-value-in-Long.ensures.1 in
-    rw (ap node_of c.in-Long.is, p.1, p.2) (counted_refused nodes (Node.long) (LongBreaks) c.in_ok-count.ensures.counted (λ f b. b) c.in_err-value-in-Long.ensures.refused)
+    rw (ap node_of c.in-Long.is, p.1, p.2) (counted_refused nodes Node.long LongBreaks c.in_ok-count.ensures.counted (λ f b. b) c.in_err-value-in-Long.ensures.refused)
 
 pub returns-in_err-content-in-Bytes-clause-reads : goal.returns-in_err-content-in-Bytes-clause-reads
 returns-in_err-content-in-Bytes-clause-reads g c = λ nodes leaf.
     let p = err_from_is_err_and c.from_residual-in_err-content-in-Bytes.result c.from_residual-in_err-content-in-Bytes.ensures.1 in
-    rw (ap node_of c.in-Bytes.is, p.1, p.2) (counted_refused nodes (Node.bytes) (BytesBreaks c.count.new.self.blob) c.in_ok-count.ensures.counted (λ f b. b) c.in_err-content-in-Bytes.ensures.refused)
+    rw (ap node_of c.in-Bytes.is, p.1, p.2) (counted_refused nodes Node.bytes (BytesBreaks c.count.new.self.blob) c.in_ok-count.ensures.counted (λ f b. b) c.in_err-content-in-Bytes.ensures.refused)
 
 pub returns-in_err-text-in-Str-clause-reads : goal.returns-in_err-text-in-Str-clause-reads
 returns-in_err-text-in-Str-clause-reads g c = λ nodes leaf.
     let p = err_from_is_err_and c.from_residual-in_err-text-in-Str.result c.from_residual-in_err-text-in-Str.ensures.1 in
-    rw (ap node_of c.in-Str.is, p.1, p.2) (counted_refused nodes (Node.string) (StringBreaks c.count.new.self.blob) c.in_ok-count.ensures.counted (λ f b. b) c.in_err-text-in-Str.ensures.refused)
+    rw (ap node_of c.in-Str.is, p.1, p.2) (counted_refused nodes Node.string (StringBreaks c.count.new.self.blob) c.in_ok-count.ensures.counted (λ f b. b) c.in_err-text-in-Str.ensures.refused)
 
 pub returns-in_err-index-in-Enum-clause-reads : goal.returns-in_err-index-in-Enum-clause-reads
 returns-in_err-index-in-Enum-clause-reads g c = λ nodes leaf.
@@ -141,6 +141,6 @@ returns-in_ok-leaf-in_default-clause-reads g c = λ nodes leaf.
     let counted = c.count.new.self in
     let made = c.in_ok-leaf-in_default in
     let is = rest_is_null c.args.node.now c.in_default.not-Boolean c.in_default.not-Int c.in_default.not-Long c.in_default.not-Bytes c.in_default.not-Str c.in_default.not-Enum c.in_default.not-Fixed leaf in
-    rw (is)
+    rw is
     (counted_found nodes Node.null c.args.cursor.now counted counted made.field-0 c.in_ok-count.ensures.counted refl
     (null_found nodes (inside_of counted) made.field-0 (λ fit. (made.ensures.kept, made.ensures.stands nodes Node.null fit))))
