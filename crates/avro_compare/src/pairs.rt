@@ -33,7 +33,8 @@ pub fn first_match(writer: &Schema, w: NodeId, reader: &Schema, r: NodeId) -> Op
 
 /// Where a pair of nodes leads.
 pub fn aim(writer: &Schema, w: NodeId, reader: &Schema, r: NodeId) -> Aim
-    ensures { IsAim (schema_nodes writer.now) (schema_nodes reader.now)
+    ensures aims { result ≡ aim_at (schema_nodes writer.now) (schema_nodes reader.now) w r }
+    ensures leads { IsAim (schema_nodes writer.now) (schema_nodes reader.now)
         (node_at (schema_nodes writer.now) w.0) (node_at (schema_nodes reader.now) r.0) result }
 {
     aim_by(None, writer, w, reader, r)

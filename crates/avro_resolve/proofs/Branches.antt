@@ -16,7 +16,7 @@ use Rattle.avro_resolve.proofs.AtMatch.{FitsAt, IsPlain}
 use Rattle.avro_compare.proofs.public.Rules.{MeetRules}
 
 -- the first match stands among the branches
-first_match-within : (index : ℕ) (writer reader : List Node) (w : Node) (bs : List ℕ) (k : ℕ) → first_match_from index writer reader w bs ≡ Some k → k < index + length bs
+pub first_match-within : (index : ℕ) (writer reader : List Node) (w : Node) (bs : List ℕ) (k : ℕ) → first_match_from index writer reader w bs ≡ Some k → k < index + length bs
 first_match-within index writer reader w [] k e = absurd (cc)
 first_match-within index writer reader w (b ∷ bs) k e =
     either (is_match writer reader w (node_at reader b)) (first_match_from (suc index) writer reader w bs) e (first_match-within (suc index) writer reader w bs k)
@@ -38,7 +38,7 @@ there test (p ∷ ids) zero low h = h
 there test (p ∷ ids) (suc k) low h = there test ids k (omega arith) h
 
 -- no branch of a union is one
-plain-branch : (reader : List Node) (ids : List ℕ) (k : ℕ) → is_union reader ids ≡ true → k < length ids → IsPlain (branch_node reader ids k)
+pub plain-branch : (reader : List Node) (ids : List ℕ) (k : ℕ) → is_union reader ids ≡ true → k < length ids → IsPlain (branch_node reader ids k)
 plain-branch reader ids k h low = all-at (λ id. is_some (branch_kind (node_at reader id))) ids k (all-plain h) low
   where
     all-plain : is_union reader ids ≡ true → list_all (λ id. is_some (branch_kind (node_at reader id))) ids ≡ true

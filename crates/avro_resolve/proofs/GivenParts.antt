@@ -1,22 +1,30 @@
 -- Parts of a datum that fits its node, one by one.
-use Rattle.std.proofs.Common.{◌≡◌, ℕ, zero, suc, ◌+◌, ◌<◌, ◌≤◌, true, List, [], ◌∷◌, ◌++◌, drop, length, map, Some, Result, Ok, Err, refl, sym, ap, ◌∙◌, subst, arith}
-use Rattle.std.specs.Prelude.{IfOk, slice_index_or, slice_get, String}
+use Rattle.std.proofs.Common.{◌≡◌, ℕ, zero, suc, ◌+◌, ◌<◌, ◌≤◌, true, List, [], ◌∷◌, ◌++◌, drop, length, map, Option, Some, Result, Ok, Err, refl, sym, ap, ◌∙◌, subst, arith}
+use Rattle.std.specs.Prelude.{IfOk, false, slice_index_or, slice_get, String, unwrap_or}
 use Rattle.std.specs.Global.{Box, Vec}
 use Rattle.std.specs.declared.alloc.Global.{Global}
 use Rattle.std.specs.declared.alloc.AllocError.{AllocError}
 use Rattle.std.proofs.lemmas.Bool.{and_parts, false≢true}
 use Rattle.std.proofs.lemmas.List.{append-nil, append_assoc}
 use Rattle.std.proofs.Math.ListN.{drop_of_length-le}
-use Rattle.avro_schema.specs.Value.{Value, value}
+use Rattle.avro_schema.specs.Value.{Entries, Value, Values, value, values_count}
 use Rattle.avro_schema.specs.Node.{Node, node_at}
-use Rattle.avro_schema.specs.Fits.{fits, each_fits, entries_fit, fields_fit}
+use Rattle.avro_schema.specs.Fits.{fits, each_fits, entries_fit, fields_fit, is_count}
+use Rattle.avro_schema.specs.WellFormed.{meets_its_rules}
 use Rattle.avro_schema.specs.Seen.{value_of, values_of, entries_of, pair_of, view_step}
 use Rattle.avro_schema.specs.declared.datum.Datum.{Datum}
 use Rattle.avro_schema.specs.declared.datum.Datum.TheOpen.{Datum-F}
 use Rattle.avro_schema.specs.declared.datum.Datum.TheViews as view
 use Rattle.avro_schema.specs.declared.datum.Datum.TheVariants as variants
 use Rattle.avro_schema.specs.declared.datum.Datum.TheFolds.{fold-roll-Datum}
+use Rattle.avro_schema.proofs.public.FitsParts.{MapFits-from_fits}
+use Rattle.avro_binary.specs.Places.{is_union}
+use Rattle.avro_compare.specs.Pairs.{value_id}
+use Rattle.avro_compare.specs.Resolve.{branch_node}
 use Rattle.avro_compare.proofs.public.Lists.{next_in}
+use Rattle.avro_compare.proofs.public.Rules.{MeetRules}
+use Rattle.avro_resolve.proofs.Arriving.{no_union}
+use Rattle.avro_resolve.proofs.Branches.{plain-branch}
 
 -- what a result stands for, by the same node and datum
 pub stands_same : {O : Type 0} (S : Node → O → Value → Type 0) (n m : Node) (v u : Value) (result : Result O AllocError) → n ≡ m → v ≡ u
@@ -93,3 +101,25 @@ module _ (entries : List (String Global × Datum)) (i : ℕ) (e : String Global 
   entry_fits nodes n h =
       and_parts (fits nodes n (value_of e.1)) (entries_fit nodes n (entries_of (drop (i + 1) entries)))
       (subst (λ (es : List (String Global × Datum)). entries_fit nodes n (entries_of es) ≡ true) entry_next h)
+
+-- ---- The parts of a node at hand
+
+pub array_parts : (nodes : List Node) (id : ℕ) (vs : Values) → fits nodes (Node.array id) (Value.array vs) ≡ true → each_fits nodes (node_at nodes id) vs ≡ true
+array_parts nodes id vs h = (and_parts (is_count (values_count vs)) (each_fits nodes (node_at nodes id) vs) h).1
+
+pub map_parts : (nodes : List Node) (id : ℕ) (es : Entries) → fits nodes (Node.map_of id) (Value.map_of es) ≡ true → entries_fit nodes (node_at nodes id) es ≡ true
+map_parts nodes id es h =
+    let f = MapFits-from_fits nodes (Node.map_of id) es h in
+    let same : f.id ≡ id = sym (ap value_id f.is_map) in
+    subst (λ (i : ℕ). entries_fit nodes (node_at nodes i) es ≡ true) same f.fitting
+
+-- no branch of a union is one
+pub no_union_within : (nodes : List Node) (id : ℕ) (ids : List ℕ) (k p : ℕ) → MeetRules nodes → node_at nodes id ≡ Node.union ids → slice_get ids k ≡ Some p → is_union (node_at nodes p) ≡ false
+no_union_within nodes id ids k p rules is got =
+    subst (λ (i : ℕ). is_union (node_at nodes i) ≡ false) (ap (λ (o : Option ℕ). unwrap_or o 0) got)
+    (no_union (branch_node nodes ids k) (plain-branch nodes ids k (subst (λ (m : Node). meets_its_rules nodes m ≡ true) is (rules id)) (got_below ids k p got)))
+  where
+    got_below : (ids : List ℕ) (k p : ℕ) → slice_get ids k ≡ Some p → k < length ids
+    got_below [] k p e = absurd cc
+    got_below (i ∷ ids) zero p e = omega arith
+    got_below (i ∷ ids) (suc k) p e = let more : k < length ids = got_below ids k p e in omega (arith, more)

@@ -1,20 +1,18 @@
 -- What is resolved as it is read.
 use Rattle.std.proofs.Common.{◌≡◌, ℕ, suc, List, [], ◌∷◌, ◌++◌, length, Option, Some, None, Result, Ok, Err, refl, sym, ap, ◌∙◌, subst}
-use Rattle.std.specs.Prelude.{IfOk, slice_get, unwrap_or}
+use Rattle.std.specs.Prelude.{slice_get, unwrap_or}
 use Rattle.std.specs.Global.{Box}
-use Rattle.std.specs.declared.alloc.AllocError.{AllocError}
 use Rattle.std.proofs.lemmas.List.{append-nil, append_assoc}
 use Rattle.avro_schema.specs.Value.{Value}
 use Rattle.avro_schema.specs.Node.{Node, node_at}
-use Rattle.avro_schema.specs.declared.schema.NodeId.{NodeId}
 use Rattle.avro_resolve.specs.Ends.{turned}
 use Rattle.avro_compare.specs.Fault.{ResolutionFault, fault_in}
-use Rattle.avro_resolve.specs.inside.Guided.{MadeAs, IsNothing, StandsAs, SoFar, branch_for}
-use Rattle.avro_binary.specs.IntoBranch.{in_branch}
-use Rattle.avro_compare.specs.Pairs.{IsAim, wrapped, branch_id}
-use Rattle.avro_compare.specs.Resolve.{Resolved, resolve, inside, result_map, through}
+use Rattle.avro_resolve.specs.inside.Guided.{MadeAs, IsNothing, StandsAs, SoFar, branch_for, of_node}
+use Rattle.avro_binary.specs.Places.{in_branch}
+use Rattle.avro_binary.specs.declared.place.Place.{Place}
+use Rattle.avro_compare.specs.Pairs.{wrapped, branch_id}
+use Rattle.avro_compare.specs.Resolve.{Resolved, resolve, inside, result_map}
 use Rattle.avro_compare.specs.declared.error.Fault.{Fault}
-use Rattle.avro_compare.specs.declared.comparison.Aim.{Aim}
 use Rattle.avro_compare.specs.declared.comparison.At.{At}
 use Rattle.avro_compare.specs.declared.comparison.At.TheVariants.{Ignored, Pair}
 use Rattle.avro_compare.proofs.public.Lists.{one_longer}
@@ -34,38 +32,19 @@ pub made_in : {O : Type 0} (S : O → Value → Type 0) (branch : Option ℕ) (o
 made_in S None out v h = h
 made_in S (Some k) out v h = h
 
--- of a leaf that each reader's node takes as it is
-pub leaf_same : {O : Type 0} (S : O → Value → Type 0) (writer reader nodes : List Node) (n : Node) (at : At) (w r : NodeId) (branch : Option ℕ) (q : NodeId) (v : Value) (out : O)
-    → at ≡ Pair w r → resolve writer reader (node_at writer w.0) (node_at reader r.0) v ≡ through writer reader (node_at writer w.0) (node_at reader r.0) (λ m. Ok v)
-    → IsAim writer reader (node_at writer w.0) (node_at reader r.0) (Aim.To branch q) → S out (in_branch branch v)
-    → StandsAs S writer reader nodes n at (Made.Good out) v
-leaf_same S writer reader nodes n at w r branch q v out pair goes leads h =
-    subst (λ (x : At). StandsAs S writer reader nodes n x (Made.Good out) v) (sym pair)
-    (λ are same. subst (MadeAs S (Made.Good out)) (sym (goes ∙ leads (λ m. Ok v))) (made_in S branch out v h))
-
--- of a leaf, by what a pair leads to
-pub leaf_made : {O : Type 0} (S : O → Value → Type 0) (writer reader nodes : List Node) (n : Node) (at : At) (w r : NodeId) (branch : Option ℕ) (q : NodeId) (v : Value) (f : Node → Resolved) (result : Result (Made O) AllocError)
-    → at ≡ Pair w r → resolve writer reader (node_at writer w.0) (node_at reader r.0) v ≡ through writer reader (node_at writer w.0) (node_at reader r.0) f
-    → IsAim writer reader (node_at writer w.0) (node_at reader r.0) (Aim.To branch q) → IfOk result (λ made. MadeAs S made (wrapped branch (f (node_at reader q.0))))
-    → IfOk result (λ made. StandsAs S writer reader nodes n at made v)
-leaf_made S writer reader nodes n at w r branch q v f (Err e) pair goes leads h = tt
-leaf_made S writer reader nodes n at w r branch q v f (Ok made) pair goes leads h =
-    subst (λ (x : At). StandsAs S writer reader nodes n x made v) (sym pair)
-    (λ are same. subst (MadeAs S made) (sym (goes ∙ leads f)) h)
-
 -- ---- Unions of the writer
 
 pub branch_good : {O : Type 0} (S : O → Value → Type 0) (out : O) (q : Resolved) → MadeAs S (Made.Good out) q → MadeAs S (Made.Good out) (inside 0 q)
 branch_good S out (Ok v) h = h
 branch_good S out (Err f) h = absurd h
 
-pub branch_made : {O : Type 0} (S : O → Value → Type 0) (writer reader nodes : List Node) (ids : List ℕ) (k p : ℕ) (v : Value) (at : At) (made outer : Made O) → slice_get ids k ≡ Some p
-    → (IsNothing made → IsNothing outer) → ((q : Resolved) → MadeAs S made q → MadeAs S outer (inside 0 q))
+pub branch_made : {O : Type 0} (S : List Node → Node → Place → O → Value → Type 0) (writer reader nodes : List Node) (ids : List ℕ) (k p : ℕ) (v : Value) (at : At) (made outer : Made O) → slice_get ids k ≡ Some p
+    → (IsNothing made → IsNothing outer) → ((id : ℕ) (q : Resolved) → MadeAs (of_node S reader id) made q → MadeAs (of_node S reader id) outer (inside 0 q))
     → StandsAs S writer reader nodes (node_at nodes p) (branch_for writer at k) made v → StandsAs S writer reader nodes (Node.union ids) at outer (Value.union k v)
 branch_made S writer reader nodes ids k p v Ignored made outer e none step h = none h
 branch_made S writer reader nodes ids k p v (Pair w r) made outer e none step h = λ are is.
     let there : p ≡ branch_id (node_at writer w.0) k = sym (ap (λ (o : Option ℕ). unwrap_or o 0) e) ∙ ap (λ (n : Node). branch_id n k) is in
-    step (resolve writer reader (node_at writer (branch_id (node_at writer w.0) k)) (node_at reader r.0) v)
+    step r.0 (resolve writer reader (node_at writer (branch_id (node_at writer w.0) k)) (node_at reader r.0) v)
     (h are (ap (λ (ns : List Node). node_at ns p) are ∙ ap (node_at writer) there))
 
 pub branch_bad : (fault outer : Box Fault) (q : Resolved) → turned outer.value ≡ fault_in 0 (turned fault.value) → q ≡ Err (turned fault.value) → inside 0 q ≡ Err (turned outer.value)

@@ -20,3 +20,7 @@ pub mod Flagging
 pub mod PiecesMade
 pub mod Places
 pub mod GivenParts
+pub mod Arriving
+pub mod Filled
+pub mod Copies
+pub mod Telling

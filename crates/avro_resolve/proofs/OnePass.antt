@@ -7,10 +7,11 @@ use Rattle.avro_schema.specs.Fits.{LimitValues}
 use Rattle.avro_schema.specs.declared.datum.Datum.{Datum}
 use Rattle.avro_schema.specs.declared.schema.NodeId.{NodeId}
 use Rattle.avro_binary.specs.Reading.{BuildsExactly}
+use Rattle.avro_binary.specs.declared.place.Place.{Place}
 use Rattle.avro_cursor.specs.Seen.{read_fault, UnlessOutOfMemory as UnlessMemory}
 use Rattle.avro_cursor.specs.declared.error.ReadError.{ReadError}
 use Rattle.avro_resolve.specs.Ends.{turned, IsSeen}
-use Rattle.avro_resolve.specs.inside.Guided.{MadeAs, StandsAs}
+use Rattle.avro_resolve.specs.inside.Guided.{MadeAs, StandsAs, of_node}
 use Rattle.avro_resolve.specs.Reading.{ReadsAs, BuildsResolved, ReadsResolved}
 use Rattle.avro_compare.specs.Resolve.{Resolved, resolve, resolve_root}
 use Rattle.avro_compare.specs.Seen.{fault_of}
@@ -31,14 +32,14 @@ abbrev pub IsAtRoots : At → Type 0
 IsAtRoots at = (w : NodeId) × (r : NodeId) × (at ≡ Pair w r) × (w.0 ≡ 0) × (r.0 ≡ 0)
 
 -- what was made there, by a maker that is kept
-pub at_roots : {O : Type 0} (S : O → Value → Type 0) (writer reader ws rs : List Node) (n : Node) (at : At) (made : Made O) (v : Value) → AreGuides writer reader ws rs → n ≡ root_of writer → IsAtRoots at
-    → StandsAs S ws rs writer n at made v → MadeAs S made (resolve_root writer reader v)
+pub at_roots : {O : Type 0} (S : List Node → Node → Place → O → Value → Type 0) (writer reader ws rs : List Node) (n : Node) (at : At) (made : Made O) (v : Value) → AreGuides writer reader ws rs → n ≡ root_of writer → IsAtRoots at
+    → StandsAs S ws rs writer n at made v → MadeAs (of_node S reader 0) made (resolve_root writer reader v)
 at_roots S writer reader ws rs n at made v kept root roots h =
     let w = roots.0 in
     let r = roots.1 in
     let here = subst (λ (g : List Node × List Node). StandsAs S g.0 g.1 writer n (Pair w r) made v) (sym kept) (subst (λ (x : At). StandsAs S ws rs writer n x made v) roots.2 h) in
-    subst (λ (i : ℕ). MadeAs S made (resolve writer reader (root_of writer) (node_at reader i) v)) roots.4
-    (subst (λ (i : ℕ). MadeAs S made (resolve writer reader (node_at writer i) (node_at reader r.0) v)) roots.3 (here refl (root ∙ ap (node_at writer) (sym roots.3))))
+    subst (λ (i : ℕ). MadeAs (of_node S reader i) made (resolve writer reader (root_of writer) (node_at reader i) v)) roots.4
+    (subst (λ (i : ℕ). MadeAs (of_node S reader r.0) made (resolve writer reader (node_at writer i) (node_at reader r.0) v)) roots.3 (here refl (root ∙ ap (node_at writer) (sym roots.3))))
 
 pub guide_is : (writer reader ws rs xs ys : List Node) → writer ≡ ws → reader ≡ rs → AreGuides ws rs xs ys → AreGuides writer reader xs ys
 guide_is writer reader ws rs xs ys e f kept = both_are ∙ kept

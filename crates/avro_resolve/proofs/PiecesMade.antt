@@ -1,5 +1,7 @@
 -- What is made of the pieces of a record.
-use Rattle.std.proofs.Common.{◌≡◌, ℕ, List, Some, map, refl, sym, ap, ◌∙◌, subst}
+use Rattle.std.proofs.Common.{◌≡◌, ℕ, List, Some, None, map, refl, sym, ap, ◌∙◌, subst}
+use Rattle.std.specs.Prelude.{unwrap_or}
+use Rattle.avro_schema.specs.Value.{Value}
 use Rattle.avro_schema.specs.Node.{Node, FieldNode, node_at}
 use Rattle.avro_schema.specs.Seen.{values_from}
 use Rattle.avro_cursor.specs.Encoding.{plain}
@@ -28,3 +30,7 @@ value_copied reader ws rs found bytes ends f k content e is h same spelled =
   where
     sourced : field_value ws found f ≡ sourced_at found k
     sourced = rw e refl
+
+-- a field's value, which has no source
+pub value_given : (ws : List FieldNode) (found : Sourced) (f : FieldNode) → source_of ws f ≡ None → field_value ws found f ≡ unwrap_or f.default Value.null
+value_given ws found f e = rw e refl

@@ -1,17 +1,21 @@
 -- Fields of a record that are resolved as they are read.
 use Rattle.std.proofs.Common.{◌≡◌, ℕ, suc, ◌+◌, List, [], ◌∷◌, ◌++◌, length, Option, Some, None, Result, Ok, Err, refl, sym, ap, ◌∙◌, subst, arith}
-use Rattle.std.specs.Prelude.{slice_get, unwrap_or}
+use Rattle.std.specs.Prelude.{IfOk, slice_get, true, unwrap_or}
 use Rattle.std.specs.Global.{Vec, Box}
+use Rattle.std.specs.declared.alloc.AllocError.{AllocError}
 use Rattle.std.proofs.lemmas.List.{append-nil, append_assoc}
 use Rattle.avro_name.specs.Name.{Name}
 use Rattle.avro_schema.specs.Value.{Value}
 use Rattle.avro_schema.specs.Node.{Node, FieldNode, node_at, field_ids}
+use Rattle.avro_schema.specs.Fits.{fits, fields_fit}
+use Rattle.avro_schema.specs.WellFormed.{is_schema}
 use Rattle.avro_schema.specs.Seen.{values_from}
 use Rattle.avro_schema.specs.declared.schema.NodeId.{NodeId}
 use Rattle.avro_resolve.specs.Ends.{turned, before, AllBelow, SlotsAre}
 use Rattle.avro_compare.specs.Fault.{ResolutionFault, fault_in}
-use Rattle.avro_resolve.specs.inside.Guided.{MadeAs, StandsAs, Leads, FieldsGood, FieldsStandAs}
-use Rattle.avro_binary.specs.IntoBranch.{in_branch}
+use Rattle.avro_resolve.specs.inside.Guided.{Arrives, MadeAs, StandsAs, Leads, LeadsTo, FieldsGood, FieldsStandAs, of_node}
+use Rattle.avro_binary.specs.Places.{in_branch, placed}
+use Rattle.avro_binary.specs.declared.place.Place.{Place}
 use Rattle.avro_compare.specs.Pairs.{wrapped, part_to, field_for}
 use Rattle.avro_compare.specs.Resolve.{Resolved, Sourced, resolve, resolve_sources, with_sourced, both, inside, result_map, field_values, fields_at, record_or_missing}
 use Rattle.avro_compare.specs.Source.{missing_field, reader_field}
@@ -21,8 +25,9 @@ use Rattle.avro_compare.specs.declared.comparison.At.TheVariants.{Ignored, Pair}
 use Rattle.avro_resolve.specs.declared.resolving.guided.Made.{Made}
 use Rattle.avro_resolve.specs.declared.resolving.guided.Slots.{Slots}
 use Rattle.avro_compare.proofs.public.Lists.{one_longer}
-use Rattle.avro_resolve.proofs.Guiding.{as_fault, good_made, made_in, wrapped_fault, so_far_none, so_far_more, so_far_fails, so_far_whole}
-use Rattle.avro_resolve.proofs.Slots.{below_more, below_last, slots_none, slots_some}
+use Rattle.avro_resolve.proofs.Arriving.{arrived_record, fits_there, wrapped_ok}
+use Rattle.avro_resolve.proofs.Guiding.{as_fault, good_made, wrapped_fault, so_far_none, so_far_more, so_far_fails, so_far_whole}
+use Rattle.avro_resolve.proofs.Slots.{below_more, below_last, no_slots_yet, slots_none, slots_some}
 
 -- ---- Steps over the writer's fields
 
@@ -55,25 +60,28 @@ module _ (writer reader : List Node) (ws rs : List FieldNode) (k : ℕ) (v : Val
   field_none found is = ap (λ (o : Option FieldNode). result_map (before found) (with_sourced o k value_for sources_after)) is
 
 -- no fields yet, where a pair leads to a record of which no field is missing
-pub no_slots : {O F : Type 0} (S : O → Value → Type 0) (T : Option ℕ → F → List Value → Type 0) (writer reader nodes : List Node) (fs : List FieldNode) (at : At) (w r : NodeId) (slots : Vec (Option O)) (start : F) (branch : Option ℕ) (q : NodeId)
-    → at ≡ Pair w r → slots.items ≡ [] → T branch start [] → Leads writer reader (node_at writer w.0) (node_at reader r.0) branch q.0
+pub no_slots : {O F : Type 0} (S : List Node → Node → Place → O → Value → Type 0) (T : List Node → List FieldNode → Place → F → List Value → Type 0) (writer reader nodes : List Node) (fs : List FieldNode) (at : At) (w r : NodeId) (slots : Vec (Option O)) (start : F) (branch : Option ℕ) (q : NodeId)
+    → at ≡ Pair w r → slots.items ≡ [] → T reader (fields_at (node_at reader q.0)) (placed branch q.0) start [] → Leads writer reader (node_at writer w.0) (node_at reader r.0) branch q.0
+    → Arrives writer reader (node_at writer w.0) r.0 branch q.0
     → missing_field (fields_at (node_at writer w.0)) (fields_at (node_at reader q.0)) ≡ None → FieldsStandAs S T writer reader nodes fs at (Slots.Good slots start branch w q) []
-no_slots {O = O} S T writer reader nodes fs at w r slots start branch q pair none starts leads complete =
+no_slots {O = O} S T writer reader nodes fs at w r slots start branch q pair none starts leads arrives complete =
     subst (λ (x : At). FieldsStandAs S T writer reader nodes fs x (Slots.Good slots start branch w q) []) (sym pair) (λ are same. record {
       leads = leads;
+      arrives = arrives;
       of_writer = refl;
       complete = complete;
       counted = ap length none;
       found = [];
       below = tt;
       so_far = so_far_none (λ (k : ℕ) (us : List Value). resolve_sources writer reader (fields_at (node_at writer w.0)) (fields_at (node_at reader q.0)) k (values_from us)) before [] (λ a. refl);
-      stands = subst (λ (xs : List (Option O)). SlotsAre S [] xs) (sym none) (λ k. refl);
+      stands = subst (λ (xs : List (Option O)). SlotsAre (of_node S reader) (fields_at (node_at writer w.0)) (fields_at (node_at reader q.0)) [] xs) (sym none)
+          (no_slots_yet (of_node S reader) (fields_at (node_at writer w.0)) (fields_at (node_at reader q.0)));
       starts = starts;
     })
 
 -- ---- What a good run of fields leads to
 
-module _ {O F : Type 0} (S : O → Value → Type 0) (T : Option ℕ → F → List Value → Type 0) (writer reader : List Node) (w r : Node) (slots : List (Option O)) (start : F) (branch : Option ℕ) (a b : NodeId) (vs : List Value) (good : FieldsGood S T writer reader w r slots start branch a b vs) where
+module _ {O F : Type 0} (S : List Node → Node → Place → O → Value → Type 0) (T : List Node → List FieldNode → Place → F → List Value → Type 0) (writer reader : List Node) (w : Node) (r : ℕ) (slots : List (Option O)) (start : F) (branch : Option ℕ) (a b : NodeId) (vs : List Value) (good : FieldsGood S T writer reader w r slots start branch a b vs) where
   abbrev pub writes : List FieldNode
   writes = fields_at (node_at writer a.0)
 
@@ -83,20 +91,20 @@ module _ {O F : Type 0} (S : O → Value → Type 0) (T : Option ℕ → F → L
   abbrev fields_run : ℕ → List Value → Result Sourced ResolutionFault
   fields_run k us = resolve_sources writer reader writes reads k (values_from us)
 
-  record_leads : (xs : List Value) → resolve writer reader w r (Value.record_of (values_from xs)) ≡ wrapped branch (result_map (λ found. Value.record_of (field_values writes found reads)) (fields_run 0 xs))
+  record_leads : (xs : List Value) → resolve writer reader w (node_at reader r) (Value.record_of (values_from xs)) ≡ wrapped branch (result_map (λ found. Value.record_of (field_values writes found reads)) (fields_run 0 xs))
   record_leads xs =
       good.leads (λ q. record_or_missing (fields_at w) (fields_at q) (missing_field (fields_at w) (fields_at q)) (resolve_sources writer reader (fields_at w) (fields_at q) 0 (values_from xs)))
       ∙ ap (λ (o : Option ℕ). wrapped branch (record_or_missing (fields_at w) reads o (resolve_sources writer reader (fields_at w) reads 0 (values_from xs)))) good.complete
       ∙ ap (λ (n : Node). wrapped branch (result_map (λ found. Value.record_of (field_values (fields_at n) found reads)) (resolve_sources writer reader (fields_at n) reads 0 (values_from xs)))) (sym good.of_writer)
 
-  record_whole : resolve writer reader w r (Value.record_of (values_from vs)) ≡ wrapped branch (Ok (Value.record_of (field_values writes good.found reads)))
+  record_whole : resolve writer reader w (node_at reader r) (Value.record_of (values_from vs)) ≡ wrapped branch (Ok (Value.record_of (field_values writes good.found reads)))
   record_whole =
       record_leads vs ∙ ap (λ (x : Result Sourced ResolutionFault). wrapped branch (result_map (λ found. Value.record_of (field_values writes found reads)) x)) (so_far_whole fields_run before vs good.found good.so_far)
       ∙ ap (λ (found : Sourced). wrapped branch (Ok (Value.record_of (field_values writes found reads)))) (append-nil good.found)
 
   record_fails : (v : Value) (f : FieldNode) (g : ResolutionFault) → reader_field writes reads (length vs) ≡ Some f
       → resolve writer reader (node_at writer (unwrap_or (slice_get (field_ids writes) (length vs)) 0)) (node_at reader f.node) v ≡ Err g
-      → (more : List Value) → resolve writer reader w r (Value.record_of (values_from ((vs ++ v ∷ []) ++ more))) ≡ Err (fault_in (length slots) g)
+      → (more : List Value) → resolve writer reader w (node_at reader r) (Value.record_of (values_from ((vs ++ v ∷ []) ++ more))) ≡ Err (fault_in (length slots) g)
   record_fails v f g is e more =
       record_leads ((vs ++ v ∷ []) ++ more)
       ∙ ap (λ (x : Result Sourced ResolutionFault). wrapped branch (result_map (λ found. Value.record_of (field_values writes found reads)) x))
@@ -117,12 +125,12 @@ module _ {O F : Type 0} (S : O → Value → Type 0) (T : Option ℕ → F → L
 
 -- ---- What is made of one field, by what it is for
 
-module _ {O : Type 0} (S : O → Value → Type 0) (writer reader nodes : List Node) (n : Node) (j : ℕ) (v : Value) (are : nodes ≡ writer) (there : n ≡ node_at writer j) where
+module _ {O : Type 0} (S : List Node → Node → Place → O → Value → Type 0) (writer reader nodes : List Node) (n : Node) (j : ℕ) (v : Value) (are : nodes ≡ writer) (there : n ≡ node_at writer j) where
   sourced_good : (o : Option FieldNode) (out : O) → StandsAs S writer reader nodes n (part_to j o) (Made.Good out) v
-      → (f : FieldNode) × (u : Value) × (o ≡ Some f) × (resolve writer reader (node_at writer j) (node_at reader f.node) v ≡ Ok u) × S out u
+      → (f : FieldNode) × (u : Value) × (o ≡ Some f) × (resolve writer reader (node_at writer j) (node_at reader f.node) v ≡ Ok u) × of_node S reader f.node out u
   sourced_good None out h = absurd h
   sourced_good (Some f) out h =
-      let made = good_made S out (resolve writer reader (node_at writer j) (node_at reader f.node) v) (h are there) in
+      let made = good_made (of_node S reader f.node) out (resolve writer reader (node_at writer j) (node_at reader f.node) v) (h are there) in
       (f, made.0, refl, made.1, made.2)
 
   sourced_bad : (o : Option FieldNode) (fault : Box Fault) → StandsAs S writer reader nodes n (part_to j o) (Made.Faulty fault) v
@@ -136,7 +144,7 @@ module _ {O : Type 0} (S : O → Value → Type 0) (writer reader nodes : List N
 
 -- ---- Fields of a run
 
-module _ {O F : Type 0} (S : O → Value → Type 0) (T : Option ℕ → F → List Value → Type 0) (writer reader nodes : List Node) (fs : List FieldNode) (id : ℕ) (vs : List Value) (v : Value) (is_field : slice_get (field_ids fs) (length vs) ≡ Some id) where
+module _ {O F : Type 0} (S : List Node → Node → Place → O → Value → Type 0) (T : List Node → List FieldNode → Place → F → List Value → Type 0) (writer reader nodes : List Node) (fs : List FieldNode) (id : ℕ) (vs : List Value) (v : Value) (is_field : slice_get (field_ids fs) (length vs) ≡ Some id) where
   abbrev stands_at : NodeId → NodeId → ℕ → Made O → Type 0
   stands_at a b k made = StandsAs S writer reader nodes (node_at nodes id) (field_for (fields_at (node_at writer a.0)) (fields_at (node_at reader b.0)) k) made v
 
@@ -149,26 +157,26 @@ module _ {O F : Type 0} (S : O → Value → Type 0) (T : Option ℕ → F → L
   good_field Ignored slots after start branch a b out pushed h stands = absurd h
   good_field (Pair w r) slots after start branch a b out pushed h stands = λ are of_record.
       let wn = node_at writer w.0 in
-      let rn = node_at reader r.0 in
       let ws = fields_at (node_at writer a.0) in
       let rs = fields_at (node_at reader b.0) in
       let good = h are of_record in
       let got = sourced_good S writer reader nodes (node_at nodes id) (unwrap_or (slice_get (field_ids ws) (length vs)) 0) v are
-      (field_there S T writer reader wn rn slots.items start branch a b vs good nodes fs id are of_record is_field)
+      (field_there S T writer reader wn r.0 slots.items start branch a b vs good nodes fs id are of_record is_field)
       (reader_field ws rs (length vs)) out (at_count a b (Made.Good out) (length slots.items) good.counted stands) in
       let found = good.found ++ (length vs, got.1) ∷ [] in
       let one : length vs + 1 ≡ length (vs ++ v ∷ []) = omega (arith, one_longer vs v) in
-      subst (λ (xs : List (Option O)). FieldsGood S T writer reader wn rn xs start branch a b (vs ++ v ∷ [])) (sym pushed)
+      subst (λ (xs : List (Option O)). FieldsGood S T writer reader wn r.0 xs start branch a b (vs ++ v ∷ [])) (sym pushed)
       (record {
         leads = good.leads;
+        arrives = good.arrives;
         of_writer = good.of_writer;
         complete = good.complete;
-        counted = counted_more S T writer reader wn rn slots.items start branch a b vs good (Some out) v;
+        counted = counted_more S T writer reader wn r.0 slots.items start branch a b vs good (Some out) v;
         found = found;
         below = subst (λ (m : ℕ). AllBelow m found) one (below_last (length vs) good.found got.1 good.below);
         so_far = so_far_more (λ k us. resolve_sources writer reader ws rs k (values_from us)) before vs v good.found found good.so_far
             (λ more. field_good writer reader ws rs (length vs) v more good.found got.0 got.1 got.2 got.3);
-        stands = slots_some S good.found slots.items (length vs) good.counted good.below good.stands out got.1 got.4;
+        stands = slots_some (of_node S reader) ws rs good.found slots.items (length vs) good.counted good.below good.stands got.0 out got.1 got.2 got.4;
         starts = good.starts;
       })
 
@@ -178,25 +186,25 @@ module _ {O F : Type 0} (S : O → Value → Type 0) (T : Option ℕ → F → L
   no_field Ignored slots after start branch a b pushed h stands = absurd h
   no_field (Pair w r) slots after start branch a b pushed h stands = λ are of_record.
       let wn = node_at writer w.0 in
-      let rn = node_at reader r.0 in
       let ws = fields_at (node_at writer a.0) in
       let rs = fields_at (node_at reader b.0) in
       let good = h are of_record in
       let none = sourced_none S writer reader nodes (node_at nodes id) (unwrap_or (slice_get (field_ids ws) (length vs)) 0) v are
-      (field_there S T writer reader wn rn slots.items start branch a b vs good nodes fs id are of_record is_field)
+      (field_there S T writer reader wn r.0 slots.items start branch a b vs good nodes fs id are of_record is_field)
       (reader_field ws rs (length vs)) (at_count a b Made.Nothing (length slots.items) good.counted stands) in
       let one : length vs + 1 ≡ length (vs ++ v ∷ []) = omega (arith, one_longer vs v) in
-      subst (λ (xs : List (Option O)). FieldsGood S T writer reader wn rn xs start branch a b (vs ++ v ∷ [])) (sym pushed)
+      subst (λ (xs : List (Option O)). FieldsGood S T writer reader wn r.0 xs start branch a b (vs ++ v ∷ [])) (sym pushed)
       (record {
         leads = good.leads;
+        arrives = good.arrives;
         of_writer = good.of_writer;
         complete = good.complete;
-        counted = counted_more S T writer reader wn rn slots.items start branch a b vs good None v;
+        counted = counted_more S T writer reader wn r.0 slots.items start branch a b vs good None v;
         found = good.found;
         below = subst (λ (m : ℕ). AllBelow m good.found) one (below_more (length vs) good.found good.below);
         so_far = so_far_more (λ k us. resolve_sources writer reader ws rs k (values_from us)) before vs v good.found good.found good.so_far
             (λ more. field_none writer reader ws rs (length vs) v more good.found none);
-        stands = slots_none S good.found slots.items (length vs) good.counted good.below good.stands;
+        stands = slots_none (of_node S reader) ws rs good.found slots.items (length vs) good.counted good.below good.stands;
         starts = good.starts;
       })
 
@@ -206,17 +214,16 @@ module _ {O F : Type 0} (S : O → Value → Type 0) (T : Option ℕ → F → L
   faulty_field Ignored slots start branch a b fault outer step h stands = absurd h
   faulty_field (Pair w r) slots start branch a b fault outer step h stands = λ are of_record more.
       let wn = node_at writer w.0 in
-      let rn = node_at reader r.0 in
       let ws = fields_at (node_at writer a.0) in
       let rs = fields_at (node_at reader b.0) in
       let good = h are of_record in
       let got = sourced_bad S writer reader nodes (node_at nodes id) (unwrap_or (slice_get (field_ids ws) (length vs)) 0) v are
-      (field_there S T writer reader wn rn slots.items start branch a b vs good nodes fs id are of_record is_field)
+      (field_there S T writer reader wn r.0 slots.items start branch a b vs good nodes fs id are of_record is_field)
       (reader_field ws rs (length vs)) fault (at_count a b (Made.Faulty fault) (length slots.items) good.counted stands) in
-      record_fails S T writer reader wn rn slots.items start branch a b vs good v got.0 (turned fault.value) got.1 got.2 more ∙ ap as_fault (sym step)
+      record_fails S T writer reader wn r.0 slots.items start branch a b vs good v got.0 (turned fault.value) got.1 got.2 more ∙ ap as_fault (sym step)
 
 -- more fields, where one before has a fault
-pub fields_after_fault : {O F : Type 0} (S : O → Value → Type 0) (T : Option ℕ → F → List Value → Type 0) (writer reader nodes : List Node) (fs : List FieldNode) (vs ws : List Value) (at : At) (fault : Box Fault)
+pub fields_after_fault : {O F : Type 0} (S : List Node → Node → Place → O → Value → Type 0) (T : List Node → List FieldNode → Place → F → List Value → Type 0) (writer reader nodes : List Node) (fs : List FieldNode) (vs ws : List Value) (at : At) (fault : Box Fault)
     → FieldsStandAs S T writer reader nodes fs at (Slots.Faulty fault) vs → FieldsStandAs S T writer reader nodes fs at (Slots.Faulty fault) (vs ++ ws)
 fields_after_fault S T writer reader nodes fs vs ws Ignored fault h = absurd h
 fields_after_fault S T writer reader nodes fs vs ws (Pair w r) fault h = λ are of_record more.
@@ -225,17 +232,32 @@ fields_after_fault S T writer reader nodes fs vs ws (Pair w r) fault h = λ are 
 
 -- ---- Records
 
-module _ {O F : Type 0} (S : O → Value → Type 0) (T : Option ℕ → F → List Value → Type 0) (writer reader nodes : List Node) (name : Name) (aliases : List Name) (fs : List FieldNode) (vs : List Value) where
-  pub good_record : (at : At) (slots : Vec (Option O)) (start : F) (branch : Option ℕ) (a b : NodeId) (SN : O → Value → Type 0) (out : O)
-      → ((found : Sourced) → SlotsAre S found slots.items → T branch start []
-      → SN out (in_branch branch (Value.record_of (field_values (fields_at (node_at writer a.0)) found (fields_at (node_at reader b.0))))))
+module _ {O F : Type 0} (S : List Node → Node → Place → O → Value → Type 0) (T : List Node → List FieldNode → Place → F → List Value → Type 0) (writer reader nodes : List Node) (name : Name) (aliases : List Name) (fs : List FieldNode) (vs : List Value) where
+  -- what was found of a reader's record that a record leads to, by its node
+  abbrev MakesRecord : Vec (Option O) → F → Option ℕ → NodeId → NodeId → (List Node → Node → Place → O → Value → Type 0) → Result (Made O) AllocError → Type 0
+  MakesRecord slots start branch a b SN result =
+      (r : ℕ) (found : Sourced) (name : Name) (aliases : List Name) → LeadsTo reader r branch b.0 → node_at reader b.0 ≡ Node.record_of name aliases (fields_at (node_at reader b.0))
+      → fields_fit reader (field_ids (fields_at (node_at reader b.0))) (field_values (fields_at (node_at writer a.0)) found (fields_at (node_at reader b.0))) ≡ true
+      → SlotsAre (of_node S reader) (fields_at (node_at writer a.0)) (fields_at (node_at reader b.0)) found slots.items → T reader (fields_at (node_at reader b.0)) (placed branch b.0) start []
+      → IfOk result (λ made. MadeAs (of_node SN reader r) made (Ok (in_branch branch (Value.record_of (field_values (fields_at (node_at writer a.0)) found (fields_at (node_at reader b.0)))))))
+
+  pub good_record : (at : At) (slots : Vec (Option O)) (start : F) (branch : Option ℕ) (a b : NodeId) (SN : List Node → Node → Place → O → Value → Type 0) (result : Result (Made O) AllocError)
+      → is_schema reader ≡ true → fields_fit nodes (field_ids fs) (values_from vs) ≡ true → MakesRecord slots start branch a b SN result
       → FieldsStandAs S T writer reader nodes fs at (Slots.Good slots start branch a b) vs
-      → StandsAs SN writer reader nodes (Node.record_of name aliases fs) at (Made.Good out) (Value.record_of (values_from vs))
-  good_record Ignored slots start branch a b SN out law h = absurd h
-  good_record (Pair w r) slots start branch a b SN out law h = λ are is.
+      → IfOk result (λ made. StandsAs SN writer reader nodes (Node.record_of name aliases fs) at made (Value.record_of (values_from vs)))
+  good_record at slots start branch a b SN (Err e) formed fit law h = tt
+  good_record Ignored slots start branch a b SN (Ok made) formed fit law h = absurd h
+  good_record (Pair w r) slots start branch a b SN (Ok made) formed fit law h = λ are is.
+      let wn = node_at writer w.0 in
+      let v = Value.record_of (values_from vs) in
       let good = h are (sym (ap fields_at is)) in
-      subst (MadeAs SN (Made.Good out)) (sym (record_whole S T writer reader (node_at writer w.0) (node_at reader r.0) slots.items start branch a b vs good))
-      (made_in SN branch out (Value.record_of (field_values (fields_at (node_at writer a.0)) good.found (fields_at (node_at reader b.0)))) (law good.found good.stands good.starts))
+      let u = Value.record_of (field_values (fields_at (node_at writer a.0)) good.found (fields_at (node_at reader b.0))) in
+      let whole = record_whole S T writer reader wn r.0 slots.items start branch a b vs good in
+      let fit_whole : fits nodes (Node.record_of name aliases fs) v ≡ true = fit in
+      let fit_here = subst (λ (m : Node). fits writer m v ≡ true) is (subst (λ (ns : List Node). fits ns (Node.record_of name aliases fs) v ≡ true) are fit_whole) in
+      let there = arrived_record writer reader wn r.0 branch b.0 good.arrives name aliases fs is in
+      let fit_there = subst (λ (m : Node). fits reader m u ≡ true) there.2 (fits_there writer reader formed wn r.0 branch b.0 v u fit_here whole good.arrives.into) in
+      subst (MadeAs (of_node SN reader r.0) made) (sym (whole ∙ wrapped_ok branch u)) (law r.0 good.found there.0 there.1 good.arrives.into there.2 fit_there good.stands good.starts)
 
   pub faulty_record : (at : At) (fault : Box Fault) → FieldsStandAs S T writer reader nodes fs at (Slots.Faulty fault) vs
       → StandsAs S writer reader nodes (Node.record_of name aliases fs) at (Made.Faulty fault) (Value.record_of (values_from vs))

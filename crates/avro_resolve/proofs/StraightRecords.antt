@@ -6,11 +6,14 @@ use Rattle.avro_name.specs.Name.{Name}
 use Rattle.avro_schema.specs.Value.{Value}
 use Rattle.avro_schema.specs.Node.{Node, FieldNode, node_at, field_ids}
 use Rattle.avro_schema.specs.Fits.{fits, fields_fit}
+use Rattle.avro_schema.specs.WellFormed.{is_schema}
 use Rattle.avro_schema.specs.Seen.{values_from}
 use Rattle.avro_schema.specs.declared.schema.NodeId.{NodeId}
 use Rattle.avro_schema.proofs.public.FitsKind.{FitsKind-from_fits}
 use Rattle.avro_cursor.specs.Encoding.{plain}
+use Rattle.avro_binary.specs.LeafValue.{has_no_parts}
 use Rattle.avro_binary.specs.Pieces.{ArePieces, piece}
+use Rattle.avro_binary.specs.declared.place.Place.{Place}
 use Rattle.avro_compare.specs.Fields.{IsField, here, later}
 use Rattle.avro_compare.specs.Resolve.{Resolved, Sourced, sourced_at, field_values, fields_at, with_sourced, both, inside, resolve, resolve_sources, record_or_missing, result_map}
 use Rattle.avro_compare.specs.Source.{is_index, missing_field, reader_field, source_of}
@@ -19,8 +22,9 @@ use Rattle.avro_compare.specs.declared.comparison.At.{At}
 use Rattle.avro_compare.specs.declared.comparison.At.TheVariants.{Pair}
 use Rattle.avro_compare.proofs.public.Sources.{is_index-same}
 use Rattle.avro_resolve.specs.declared.resolving.guided.Made.{Made}
-use Rattle.avro_resolve.specs.inside.Guided.{MadeAs, StandsAs}
-use Rattle.avro_resolve.specs.Copied.{AreCopied, ArePlain, IsStraight}
+use Rattle.avro_resolve.specs.inside.Guided.{AreLeaves, MadeAs, StandsAs, of_node}
+use Rattle.avro_resolve.specs.Copied.{AreCopied, ArePlain, IsStraight, is_as_written}
+use Rattle.avro_resolve.proofs.Arriving.{arrived_record, fits_there, own_arrives}
 use Rattle.avro_resolve.proofs.CopiedLeaves.{copied_spelling, copied_value}
 
 -- ---- Values that fit some fields
@@ -163,21 +167,61 @@ module _ (writer reader : List Node) (ws rs : List FieldNode) where
         itself : (k : ℕ) → k ≡ 0 + k
         itself k = omega arith
 
+-- ---- Leaves
+
+not_array : (n : Node) (id : ℕ) → is_as_written n (Node.array id) ≡ true → ⊥
+not_array Node.null id h = false≢true h
+not_array _ id h = false≢true h
+
+not_map : (n : Node) (id : ℕ) → is_as_written n (Node.map_of id) ≡ true → ⊥
+not_map Node.null id h = false≢true h
+not_map _ id h = false≢true h
+
+not_union : (n : Node) (ids : List ℕ) → is_as_written n (Node.union ids) ≡ true → ⊥
+not_union Node.null ids h = false≢true h
+not_union _ ids h = false≢true h
+
+not_record : (n : Node) (name : Name) (aliases : List Name) (fs : List FieldNode) → is_as_written n (Node.record_of name aliases fs) ≡ true → ⊥
+not_record Node.null name aliases fs h = false≢true h
+not_record _ name aliases fs h = false≢true h
+
+-- a node that a leaf's encoding is copied for is a leaf's
+no_parts : (n m : Node) → is_as_written n m ≡ true → has_no_parts m ≡ true
+no_parts n (Node.array id) h = absurd (not_array n id h)
+no_parts n (Node.map_of id) h = absurd (not_map n id h)
+no_parts n (Node.union ids) h = absurd (not_union n ids h)
+no_parts n (Node.record_of name aliases fs) h = absurd (not_record n name aliases fs h)
+no_parts n _ h = refl
+
+copied_leaves : (writer reader : List Node) (ws rs : List FieldNode) → AreCopied writer reader ws rs → AreLeaves reader ws rs
+copied_leaves writer reader ws rs copied = λ f is k src.
+    let c = copied f is k src in
+    no_parts (node_at writer c.0) (node_at reader f.node) c.2.kinds
+
 -- a record that is made of what was found
-pub straight_record : {O : Type 0} (S : O → Value → Type 0) (writer reader nodes : List Node) (name : Name) (aliases : List Name) (fs : List FieldNode) (vs : List Value) (bytes ends : List ℕ) (at : At) (w r : NodeId) (out : O)
-    → at ≡ Pair w r → IsStraight writer reader w r → ArePieces vs bytes ends → fields_fit nodes (field_ids fs) (values_from vs) ≡ true
-    → ((found : Sourced) → ArePlain reader (fields_at (node_at writer w.0)) (fields_at (node_at reader r.0)) found bytes ends
-    → S out (Value.record_of (field_values (fields_at (node_at writer w.0)) found (fields_at (node_at reader r.0)))))
+pub straight_record : {O : Type 0} (S : List Node → Node → Place → O → Value → Type 0) (writer reader nodes : List Node) (name : Name) (aliases : List Name) (fs : List FieldNode) (vs : List Value) (bytes ends : List ℕ) (at : At) (w r : NodeId) (out : O)
+    → is_schema reader ≡ true → at ≡ Pair w r → IsStraight writer reader w r → ArePieces vs bytes ends → fields_fit nodes (field_ids fs) (values_from vs) ≡ true
+    → ((found : Sourced) (own : Name) (others : List Name) → node_at reader r.0 ≡ Node.record_of own others (fields_at (node_at reader r.0))
+    → fields_fit reader (field_ids (fields_at (node_at reader r.0))) (field_values (fields_at (node_at writer w.0)) found (fields_at (node_at reader r.0))) ≡ true
+    → ArePlain reader (fields_at (node_at writer w.0)) (fields_at (node_at reader r.0)) found bytes ends → AreLeaves reader (fields_at (node_at writer w.0)) (fields_at (node_at reader r.0))
+    → of_node S reader r.0 out (Value.record_of (field_values (fields_at (node_at writer w.0)) found (fields_at (node_at reader r.0)))))
     → StandsAs S writer reader nodes (Node.record_of name aliases fs) at (Made.Good out) (Value.record_of (values_from vs))
-straight_record S writer reader nodes name aliases fs vs bytes ends at w r out pair straight spelled fit law =
+straight_record S writer reader nodes name aliases fs vs bytes ends at w r out formed pair straight spelled fit law =
     subst (λ (x : At). StandsAs S writer reader nodes (Node.record_of name aliases fs) x (Made.Good out) (Value.record_of (values_from vs))) (sym pair) (λ are is.
     let wn = node_at writer w.0 in
     let rn = node_at reader r.0 in
     let ws = fields_at wn in
     let rs = fields_at rn in
-    let fit_here = subst (λ (gs : List FieldNode). fields_fit writer (field_ids gs) (values_from vs) ≡ true) (ap fields_at is) (subst (λ (ns : List Node). fields_fit ns (field_ids fs) (values_from vs) ≡ true) are fit) in
+    let v = Value.record_of (values_from vs) in
+    let fit_whole : fits nodes (Node.record_of name aliases fs) v ≡ true = fit in
+    let fit_writer = subst (λ (ns : List Node). fits ns (Node.record_of name aliases fs) v ≡ true) are fit_whole in
+    let fit_node = subst (λ (m : Node). fits writer m v ≡ true) is fit_writer in
+    let fit_here = subst (λ (gs : List FieldNode). fields_fit writer (field_ids gs) (values_from vs) ≡ true) (ap fields_at is) fit_writer in
     let found = straight_found writer reader ws rs vs bytes ends fit_here spelled straight.copied in
+    let u = Value.record_of (field_values ws found.0 rs) in
     let resolves = straight.leads (λ q. record_or_missing ws (fields_at q) (missing_field ws (fields_at q)) (resolve_sources writer reader ws (fields_at q) 0 (values_from vs)))
     ∙ ap (λ (o : Option ℕ). record_or_missing ws rs o (resolve_sources writer reader ws rs 0 (values_from vs))) straight.complete
     ∙ ap (λ (q : Result Sourced ResolutionFault). result_map (λ x. Value.record_of (field_values ws x rs)) q) found.1 in
-    subst (MadeAs S (Made.Good out)) (sym resolves) (law found.0 found.2))
+    let there = arrived_record writer reader wn r.0 None r.0 (own_arrives writer reader wn r straight.leads) name aliases fs is in
+    let fit_there = subst (λ (m : Node). fits reader m u ≡ true) there.2 (fits_there writer reader formed wn r.0 None r.0 v u fit_node resolves refl) in
+    subst (MadeAs (of_node S reader r.0) (Made.Good out)) (sym resolves) (law found.0 there.0 there.1 there.2 fit_there found.2 (copied_leaves writer reader ws rs straight.copied)))

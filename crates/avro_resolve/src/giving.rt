@@ -8,6 +8,7 @@ ghost use Rattle.avro_schema.specs.Seen.{value_of, values_of as values_seen, ent
 ghost use Rattle.avro_schema.specs.Value.{Value};
 
 use crate::plan::parts::{branch_of, items_of, values_of};
+use crate::plan::plan_pair::node_of_field;
 use avro_binary::{Leaf, Make};
 use avro_compare::fields_of;
 use avro_schema::{Datum, NodeId, Schema};
@@ -39,6 +40,8 @@ pub fn give<M: Make>(
             give_entries(alloc, schema, values_of(schema, id), entries, maker, at)
         }
         Datum::Union(branch, value) => {
+            // Its contract says that the schema is well formed.
+            let _root = schema.root();
             let node = branch_of(schema, id, *branch);
             let part = maker.branch_at(at, *branch, node);
             let made = give(alloc, schema, node, value, maker, part)?;
@@ -114,10 +117,7 @@ fn give_fields<M: Make>(
     let fields = fields_of(schema, id);
     let mut made = maker.fields(alloc, at)?;
     for index in 0..values.len() {
-        let node = match fields.get(index) {
-            Some(field) => field.node,
-            None => id,
-        };
+        let node = node_of_field(fields, index);
         let part = maker.field_at(&made, node);
         let value = give(alloc, schema, node, &values[index], maker, part)?;
         maker.field(alloc, &mut made, value)?;

@@ -10,7 +10,7 @@ use crate::plan::plan_ref::PlanRef;
 use crate::resolving::copying::copy_record;
 use crate::resolving::failing::step_apart;
 use crate::resolving::guided::{Filling, Made, Part, Run};
-use crate::resolving::making::{make_apart, make_leaf};
+use crate::resolving::making::{is_long_leaf, make_apart, make_leaf};
 use crate::resolving::recording::{
     fill_next, make_record, next_field_part, skip_fields, start_filling,
 };
@@ -146,10 +146,10 @@ impl<'p, 'a, 'b, M: Make<At = Place>> Make for Resolving<'p, 'a, 'b, M> {
         at: Part,
         leaf: Leaf<'_>,
     ) -> Result<Made<M::Out>, AllocError> {
-        match leaf {
-            Leaf::Long(value) => make_leaf(alloc, self.maker, self.plan, at, Leaf::Long(value)),
-            other => make_apart(alloc, self.maker, self.plan, at, other),
+        if !is_long_leaf(leaf) {
+            return make_apart(alloc, self.maker, self.plan, at, leaf);
         }
+        make_leaf(alloc, self.maker, self.plan, at, leaf)
     }
 
     fn branch_at(&self, at: Part, branch: u32, _node: NodeId) -> Part {

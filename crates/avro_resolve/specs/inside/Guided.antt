@@ -1,14 +1,15 @@
 -- What reading with resolution makes of a writer's datum, part by part.
-use Rattle.std.specs.Prelude.{◌≡◌, ℕ, ◌+◌, ◌++◌, List, [], true, false, IfSome, Option, Some, None, length, slice_get, Result, Ok, Err}
+use Rattle.std.specs.Prelude.{◌≡◌, ℕ, ◌+◌, ◌++◌, List, [], true, false, IfSome, Option, Some, None, length, is_some, slice_get, Result, Ok, Err}
 use Rattle.avro_schema.specs.Value.{Value}
 use Rattle.avro_schema.specs.Node.{Node, FieldNode, node_at}
 use Rattle.avro_schema.specs.Seen.{values_from, entries_from}
 use Rattle.avro_schema.specs.declared.schema.NodeId.{NodeId}
-use Rattle.avro_binary.specs.LeafValue.{leaf_value}
+use Rattle.avro_binary.specs.LeafValue.{has_no_parts, leaf_value}
 use Rattle.avro_binary.specs.Places.{alone, is_union, placed}
 use Rattle.avro_binary.specs.declared.place.Place.{Place}
 use Rattle.avro_binary.specs.declared.leaf.Leaf.{Leaf}
 use Rattle.avro_schema.specs.Fits.{fits}
+use Rattle.avro_schema.specs.WellFormed.{branch_kind}
 use Rattle.avro_compare.specs.Fields.{IsField}
 use Rattle.avro_compare.specs.Fault.{ResolutionFault, fault_here}
 use Rattle.avro_compare.specs.Seen.{cause_of}
@@ -17,10 +18,12 @@ use Rattle.avro_resolve.specs.Ends.{turned, SlotsAre, AllBelow, values_before, e
 use denote.Ref.{Bor}
 use Rattle.avro_compare.specs.Entries.{first_entry}
 use Rattle.avro_compare.specs.Planned.{AreFor, AreForFrom, part_or_none}
+use Rattle.avro_compare.specs.Match.{is_match}
 use Rattle.avro_compare.specs.Pairs.{IsAim, wrapped, item_id, value_id, branch_id, field_for}
 use Rattle.avro_compare.specs.Resolve.{Resolved, Sourced, bytes_as, enum_as, fields_at, int_as, resolve, resolve_entries, resolve_items, resolve_sources, result_map, string_as, symbol_at, through}
-use Rattle.avro_compare.specs.Source.{missing_field}
-use Rattle.avro_compare.specs.declared.comparison.Aim.TheVariants.{To}
+use Rattle.avro_compare.specs.Source.{missing_field, source_of}
+use Rattle.avro_compare.specs.declared.comparison.Aim.{Aim}
+use Rattle.avro_compare.specs.declared.comparison.Aim.TheVariants.{Fault, To}
 use Rattle.avro_compare.specs.declared.comparison.At.{At}
 use Rattle.avro_compare.specs.declared.comparison.At.TheVariants.{Ignored, Pair}
 use Rattle.avro_resolve.specs.declared.resolving.guided.Made.{Made}
@@ -63,6 +66,22 @@ branch_for writer (Pair w r) k = Pair (record { 0 = branch_id (node_at writer w.
 abbrev pub Leads : List Node → List Node → Node → Node → Option ℕ → ℕ → Type 0
 Leads writer reader w r branch q = (resolve : Node → Resolved) → through writer reader w r resolve ≡ wrapped branch (resolve (node_at reader q))
 
+-- a node is the branch of a union, which is of no union, or the same
+abbrev pub LeadsTo : List Node → ℕ → Option ℕ → ℕ → Type 0
+LeadsTo nodes r None q = r ≡ q
+LeadsTo nodes r (Some k) q = (ids : List ℕ) × (node_at nodes r ≡ Node.union ids) × (slice_get ids k ≡ Some q) × (is_union (node_at nodes q) ≡ false)
+
+-- a writer's node leads from a reader's node to one that matches it and is no union: to that node itself, or to the branch of a union
+pub record Arrives (writer reader : List Node) (w : Node) (r : ℕ) (branch : Option ℕ) (q : ℕ) : Type 0 where
+  pub into : LeadsTo reader r branch q
+  pub matches : is_match writer reader w (node_at reader q) ≡ true
+  pub plain : is_some (branch_kind (node_at reader q)) ≡ true
+
+-- the same of where a pair leads, if it leads to a node
+abbrev pub ArrivesAt : List Node → List Node → Node → ℕ → Aim → Type 0
+ArrivesAt writer reader w r (Fault kind) = Unit {0}
+ArrivesAt writer reader w r (To branch q) = Arrives writer reader w r branch q.0
+
 -- Of some parts, whatever follows them: resolution goes on behind them, and what it gave of them is put before the rest.
 abbrev pub SoFar : {E A M : Type 0} → (ℕ → List E → Result A ResolutionFault) → (M → A → A) → List E → M → Type 0
 SoFar {E = E} run join xs made = (more : List E) → run 0 (xs ++ more) ≡ result_map (join made) (run (length xs) more)
@@ -70,9 +89,10 @@ SoFar {E = E} run join xs made = (more : List E) → run 0 (xs ++ more) ≡ resu
 -- ---- Items
 
 -- items that were made so far, none of which has a fault
-pub record ItemsGood {I : Type 0} (S : List Node → ℕ → Place → I → List Value → Type 0) (writer reader : List Node) (w r : Node) (items : I) (count : ℕ) (branch : Option ℕ) (a b : NodeId) (vs : List Value) : Type 0 where
+pub record ItemsGood {I : Type 0} (S : List Node → ℕ → Place → I → List Value → Type 0) (writer reader : List Node) (w : Node) (r : ℕ) (items : I) (count : ℕ) (branch : Option ℕ) (a b : NodeId) (vs : List Value) : Type 0 where
   pub to : ℕ
-  pub leads : Leads writer reader w r branch to
+  pub leads : Leads writer reader w (node_at reader r) branch to
+  pub arrives : Arrives writer reader w r branch to
   pub of_writer : a.0 ≡ item_id w
   pub of_reader : b.0 ≡ item_id (node_at reader to)
   pub counted : count ≡ length vs
@@ -81,10 +101,10 @@ pub record ItemsGood {I : Type 0} (S : List Node → ℕ → Place → I → Lis
   pub stands : S reader b.0 (placed branch to) items made
 
 -- a run is good so far, or one of its items has a fault, whatever follows
-abbrev pub RunAs : {I : Type 0} → (List Node → ℕ → Place → I → List Value → Type 0) → List Node → List Node → Node → Node → Run I → List Value → Type 0
+abbrev pub RunAs : {I : Type 0} → (List Node → ℕ → Place → I → List Value → Type 0) → List Node → List Node → Node → ℕ → Run I → List Value → Type 0
 RunAs S writer reader w r (Run.Good items count branch a b) vs = ItemsGood S writer reader w r items count branch a b vs
 RunAs S writer reader w r (Run.Faulty fault) vs =
-    (more : List Value) → resolve writer reader w r (Value.array (values_from (vs ++ more))) ≡ Err (turned fault.value)
+    (more : List Value) → resolve writer reader w (node_at reader r) (Value.array (values_from (vs ++ more))) ≡ Err (turned fault.value)
 RunAs S writer reader w r Run.Nothing vs = ⊥
 
 abbrev pub IsNoRun : {I : Type 0} → Run I → Type 0
@@ -94,14 +114,15 @@ IsNoRun run = ⊥
 abbrev pub ItemsStandAs : {I : Type 0} → (List Node → ℕ → Place → I → List Value → Type 0) → List Node → List Node → List Node → ℕ → At → Run I → List Value → Type 0
 ItemsStandAs S writer reader nodes id Ignored items vs = IsNoRun items
 ItemsStandAs S writer reader nodes id (Pair w r) items vs =
-    nodes ≡ writer → Node.array id ≡ node_at writer w.0 → RunAs S writer reader (node_at writer w.0) (node_at reader r.0) items vs
+    nodes ≡ writer → Node.array id ≡ node_at writer w.0 → RunAs S writer reader (node_at writer w.0) r.0 items vs
 
 -- ---- Entries
 
 -- the same of entries
-pub record EntriesGood {I : Type 0} (S : List Node → ℕ → Place → I → List (List ℕ × Value) → Type 0) (writer reader : List Node) (w r : Node) (items : I) (count : ℕ) (branch : Option ℕ) (a b : NodeId) (vs : List (List ℕ × Value)) : Type 0 where
+pub record EntriesGood {I : Type 0} (S : List Node → ℕ → Place → I → List (List ℕ × Value) → Type 0) (writer reader : List Node) (w : Node) (r : ℕ) (items : I) (count : ℕ) (branch : Option ℕ) (a b : NodeId) (vs : List (List ℕ × Value)) : Type 0 where
   pub to : ℕ
-  pub leads : Leads writer reader w r branch to
+  pub leads : Leads writer reader w (node_at reader r) branch to
+  pub arrives : Arrives writer reader w r branch to
   pub of_writer : a.0 ≡ value_id w
   pub of_reader : b.0 ≡ value_id (node_at reader to)
   pub counted : count ≡ length vs
@@ -109,16 +130,16 @@ pub record EntriesGood {I : Type 0} (S : List Node → ℕ → Place → I → L
   pub so_far : SoFar (λ k us. resolve_entries writer reader (node_at writer a.0) (node_at reader b.0) k (entries_from us)) entries_before vs made
   pub stands : S reader b.0 (placed branch to) items made
 
-abbrev pub MapRunAs : {I : Type 0} → (List Node → ℕ → Place → I → List (List ℕ × Value) → Type 0) → List Node → List Node → Node → Node → Run I → List (List ℕ × Value) → Type 0
+abbrev pub MapRunAs : {I : Type 0} → (List Node → ℕ → Place → I → List (List ℕ × Value) → Type 0) → List Node → List Node → Node → ℕ → Run I → List (List ℕ × Value) → Type 0
 MapRunAs S writer reader w r (Run.Good items count branch a b) vs = EntriesGood S writer reader w r items count branch a b vs
 MapRunAs S writer reader w r (Run.Faulty fault) vs =
-    (more : List (List ℕ × Value)) → resolve writer reader w r (Value.map_of (entries_from (vs ++ more))) ≡ Err (turned fault.value)
+    (more : List (List ℕ × Value)) → resolve writer reader w (node_at reader r) (Value.map_of (entries_from (vs ++ more))) ≡ Err (turned fault.value)
 MapRunAs S writer reader w r Run.Nothing vs = ⊥
 
 abbrev pub EntriesStandAs : {I : Type 0} → (List Node → ℕ → Place → I → List (List ℕ × Value) → Type 0) → List Node → List Node → List Node → ℕ → At → Run I → List (List ℕ × Value) → Type 0
 EntriesStandAs S writer reader nodes id Ignored items vs = IsNoRun items
 EntriesStandAs S writer reader nodes id (Pair w r) items vs =
-    nodes ≡ writer → Node.map_of id ≡ node_at writer w.0 → MapRunAs S writer reader (node_at writer w.0) (node_at reader r.0) items vs
+    nodes ≡ writer → Node.map_of id ≡ node_at writer w.0 → MapRunAs S writer reader (node_at writer w.0) r.0 items vs
 
 -- what the next item or entry is for
 abbrev pub next_at : {I : Type 0} → Run I → At
@@ -129,8 +150,9 @@ next_at Run.Nothing = Ignored
 -- ---- Fields
 
 -- fields that were made so far, none of which has a fault, and the start of the reader's, by the branch that these go into
-pub record FieldsGood {O F : Type 0} (S : List Node → Node → Place → O → Value → Type 0) (T : List Node → List FieldNode → Place → F → List Value → Type 0) (writer reader : List Node) (w r : Node) (slots : List (Option O)) (start : F) (branch : Option ℕ) (a b : NodeId) (vs : List Value) : Type 0 where
-  pub leads : Leads writer reader w r branch b.0
+pub record FieldsGood {O F : Type 0} (S : List Node → Node → Place → O → Value → Type 0) (T : List Node → List FieldNode → Place → F → List Value → Type 0) (writer reader : List Node) (w : Node) (r : ℕ) (slots : List (Option O)) (start : F) (branch : Option ℕ) (a b : NodeId) (vs : List Value) : Type 0 where
+  pub leads : Leads writer reader w (node_at reader r) branch b.0
+  pub arrives : Arrives writer reader w r branch b.0
   pub of_writer : node_at writer a.0 ≡ w
   pub complete : missing_field (fields_at w) (fields_at (node_at reader b.0)) ≡ None
   pub counted : length slots ≡ length vs
@@ -140,10 +162,10 @@ pub record FieldsGood {O F : Type 0} (S : List Node → Node → Place → O →
   pub stands : SlotsAre (of_node S reader) (fields_at (node_at writer a.0)) (fields_at (node_at reader b.0)) found slots
   pub starts : T reader (fields_at (node_at reader b.0)) (placed branch b.0) start []
 
-abbrev pub SlotsStand : {O F : Type 0} → (List Node → Node → Place → O → Value → Type 0) → (List Node → List FieldNode → Place → F → List Value → Type 0) → List Node → List Node → Node → Node → Slots O F → List Value → Type 0
+abbrev pub SlotsStand : {O F : Type 0} → (List Node → Node → Place → O → Value → Type 0) → (List Node → List FieldNode → Place → F → List Value → Type 0) → List Node → List Node → Node → ℕ → Slots O F → List Value → Type 0
 SlotsStand S T writer reader w r (Slots.Good slots start branch a b) vs = FieldsGood S T writer reader w r slots.items start branch a b vs
 SlotsStand S T writer reader w r (Slots.Faulty fault) vs =
-    (more : List Value) → resolve writer reader w r (Value.record_of (values_from (vs ++ more))) ≡ Err (turned fault.value)
+    (more : List Value) → resolve writer reader w (node_at reader r) (Value.record_of (values_from (vs ++ more))) ≡ Err (turned fault.value)
 SlotsStand S T writer reader w r Slots.Nothing vs = ⊥
 
 abbrev pub AreNoSlots : {O F : Type 0} → Slots O F → Type 0
@@ -153,7 +175,7 @@ AreNoSlots slots = ⊥
 abbrev pub FieldsStandAs : {O F : Type 0} → (List Node → Node → Place → O → Value → Type 0) → (List Node → List FieldNode → Place → F → List Value → Type 0) → List Node → List Node → List Node → List FieldNode → At → Slots O F → List Value → Type 0
 FieldsStandAs S T writer reader nodes fs Ignored slots vs = AreNoSlots slots
 FieldsStandAs S T writer reader nodes fs (Pair w r) slots vs =
-    nodes ≡ writer → fields_at (node_at writer w.0) ≡ fs → SlotsStand S T writer reader (node_at writer w.0) (node_at reader r.0) slots vs
+    nodes ≡ writer → fields_at (node_at writer w.0) ≡ fs → SlotsStand S T writer reader (node_at writer w.0) r.0 slots vs
 
 -- what the next field is for
 abbrev pub next_field : {O F : Type 0} → List Node → List Node → Slots O F → At
@@ -241,11 +263,10 @@ abbrev pub IsLeafFor : Resolved → Result Leaf FaultKind → Type 0
 IsLeafFor resolved (Ok leaf) = resolved ≡ Ok (leaf_value leaf)
 IsLeafFor resolved (Err kind) = resolved ≡ Err (fault_here (cause_of kind))
 
--- a node is the branch of a union, which is of no union, or the same
-abbrev pub LeadsTo : List Node → ℕ → Option ℕ → ℕ → Type 0
-LeadsTo nodes r None q = r ≡ q
-LeadsTo nodes r (Some k) q = (ids : List ℕ) × (node_at nodes r ≡ Node.union ids) × (slice_get ids k ≡ Some q) × (is_union (node_at nodes q) ≡ false)
+-- the value of each of some fields is a datum of its node
+abbrev pub AreFitting : List Node → List FieldNode → (FieldNode → Value) → Type 0
+AreFitting nodes fs worth = (f : FieldNode) → IsField f fs → fits nodes (node_at nodes f.node) (worth f) ≡ true
 
--- the default of each of some fields is a datum of its node
-abbrev pub AreDefaultsFit : List Node → List FieldNode → Type 0
-AreDefaultsFit nodes fs = (f : FieldNode) → IsField f fs → IfSome f.default (λ v. fits nodes (node_at nodes f.node) v ≡ true)
+-- the node of each of some fields that has a source is a leaf's
+abbrev pub AreLeaves : List Node → List FieldNode → List FieldNode → Type 0
+AreLeaves nodes ws rs = (f : FieldNode) → IsField f rs → (k : ℕ) → source_of ws f ≡ Some k → has_no_parts (node_at nodes f.node) ≡ true

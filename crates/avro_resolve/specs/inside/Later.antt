@@ -20,7 +20,9 @@ Implies {O = O} {V = V} S T = (o : O) (v : V) → S o v → T o v
 
 pub made_later : {O : Type 0} (S T : O → Value → Type 0) → Implies S T → (made : Made O) (resolved : Resolved) → MadeAs S made resolved → MadeAs T made resolved
 made_later S T law (Made.Good out) (Ok v) h = law out v h
+made_later S T law (Made.Good out) (Err fault) h = elim h [ ]
 made_later S T law (Made.Faulty fault) resolved h = h
+made_later S T law Made.Nothing resolved h = elim h [ ]
 
 pub stands_later : {O : Type 0} (S T : List Node → Node → Place → O → Value → Type 0) → ((nodes : List Node) (n : Node) (at : Place) → Implies (S nodes n at) (T nodes n at)) → (writer reader nodes : List Node) (n : Node) (at : At) (out : Made O) (v : Value)
     → StandsAs S writer reader nodes n at out v → StandsAs T writer reader nodes n at out v
@@ -36,6 +38,7 @@ items_later S T law writer reader nodes id (Pair w r) (Run.Good items count bran
     record {
       to = good.to;
       leads = good.leads;
+      arrives = good.arrives;
       of_writer = good.of_writer;
       of_reader = good.of_reader;
       counted = good.counted;
@@ -54,6 +57,7 @@ entries_later S T law writer reader nodes id (Pair w r) (Run.Good entries count 
     record {
       to = good.to;
       leads = good.leads;
+      arrives = good.arrives;
       of_writer = good.of_writer;
       of_reader = good.of_reader;
       counted = good.counted;
@@ -76,13 +80,14 @@ pub slots_for_later : {O : Type 0} (S T : ℕ → O → Value → Type 0) → ((
 slots_for_later S T law ws rest found slots h = λ g is k src. slotted_later (S g.node) (T g.node) (law g.node) (slice_get slots k) (sourced_at found k) (h g is k src)
 
 module _ {O F : Type 0} (S T : List Node → Node → Place → O → Value → Type 0) (law : (nodes : List Node) (n : Node) (at : Place) → Implies (S nodes n at) (T nodes n at))
-  (U V : List Node → List FieldNode → Place → F → List Value → Type 0) (begins : (nodes : List Node) (fs : List FieldNode) (at : Place) (start : F) (vs : List Value) → U nodes fs at start vs → V nodes fs at start vs) (writer reader nodes : List Node) (fs : List FieldNode) where
+    (U V : List Node → List FieldNode → Place → F → List Value → Type 0) (begins : (nodes : List Node) (fs : List FieldNode) (at : Place) (start : F) (vs : List Value) → U nodes fs at start vs → V nodes fs at start vs) (writer reader nodes : List Node) (fs : List FieldNode) where
   pub fields_later : (at : At) (slots : Slots O F) (vs : List Value) → FieldsStandAs S U writer reader nodes fs at slots vs → FieldsStandAs T V writer reader nodes fs at slots vs
   fields_later Ignored slots vs h = h
   fields_later (Pair w r) (Slots.Good slots start branch a b) vs h = λ are is.
       let good = h are is in
       record {
         leads = good.leads;
+        arrives = good.arrives;
         of_writer = good.of_writer;
         complete = good.complete;
         counted = good.counted;

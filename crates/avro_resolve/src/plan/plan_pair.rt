@@ -129,7 +129,7 @@ impl PlanPair {
 }
 
 /// The node of the field at an index.
-fn node_of_field(fields: &[Field], index: usize) -> NodeId
+pub(crate) fn node_of_field(fields: &[Field], index: usize) -> NodeId
     ensures { result.0 ≡ unwrap_or (slice_get (field_ids (seen_fields fields.now)) index) 0 }
 {
     if index < fields.len() {

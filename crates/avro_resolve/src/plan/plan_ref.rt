@@ -55,9 +55,10 @@ impl<'a> PlanRef<'a> {
     ghost use Rattle.avro_schema.specs.SeenSchema.{schema_nodes};
     ghost use Rattle.avro_schema.specs.declared.schema.NodeId.{NodeId};
     ghost use Rattle.avro_compare.specs.declared.comparison.At.TheVariants.{Pair};
-    ghost use Rattle.avro_resolve.specs.inside.Guided.{IsWhole, branch_part, known_part, of_node};
+    ghost use Rattle.avro_resolve.specs.inside.Guided.{ArrivesAt, IsWhole, branch_part, known_part, of_node};
     ghost use Rattle.avro_binary.specs.Places.{AreTold};
-    ghost use Rattle.avro_compare.specs.Pairs.{IsAim, IsSymbol, field_for, item_id, value_id, branch_id};
+    ghost use Rattle.avro_schema.specs.WellFormed.{is_schema};
+    ghost use Rattle.avro_compare.specs.Pairs.{IsAim, IsSymbol, aim_at, field_for, item_id, value_id, branch_id};
     ghost use Rattle.avro_compare.specs.Planned.{AreComparisons, AreFor, AreInside, AreSources, IsComparison};
     ghost use Rattle.avro_resolve.specs.Copied.{AreFlags, IsStraight};
     ghost use Rattle.avro_resolve.specs.Reading.{BuildsResolved};
@@ -237,9 +238,13 @@ impl<'a> PlanRef<'a> {
     /// Where a pair of nodes leads.
     #[inline(always)]
     pub(crate) fn aim(&self, index: u32, w: NodeId, r: NodeId) -> Aim
-        ensures { IsAim (schema_nodes self.now.0) (schema_nodes self.now.1)
+        ensures leads { IsAim (schema_nodes self.now.0) (schema_nodes self.now.1)
             (node_at (schema_nodes self.now.0) w.0) (node_at (schema_nodes self.now.1) r.0) result }
+        ensures arrives { ArrivesAt (schema_nodes self.now.0) (schema_nodes self.now.1) (node_at (schema_nodes self.now.0) w.0) r.0 result }
+        ensures formed { is_schema (schema_nodes self.now.1) ≡ true }
     {
+        // Its contract says that the schema is well formed.
+        let _root = self.reader.root();
         match pair_of(self.pairs, index, w, r) {
             Some(pair) => pair.aim,
             None => self.aim_by(w, r),
@@ -250,8 +255,7 @@ impl<'a> PlanRef<'a> {
     #[cold]
     #[inline(never)]
     fn aim_by(&self, w: NodeId, r: NodeId) -> Aim
-        ensures { IsAim (schema_nodes self.now.0) (schema_nodes self.now.1)
-            (node_at (schema_nodes self.now.0) w.0) (node_at (schema_nodes self.now.1) r.0) result }
+        ensures { result ≡ aim_at (schema_nodes self.now.0) (schema_nodes self.now.1) w r }
     {
         match self.pair_by(w, r) {
             Some(pair) => pair.aim,

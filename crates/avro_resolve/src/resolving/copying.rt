@@ -2,7 +2,7 @@
 
 ghost use Rattle.std.specs.Prelude.{◌≡◌, [], true, IfOk, IfSome, List, OnOk, None, map};
 ghost use Rattle.avro_name.specs.Name.{Name};
-ghost use Rattle.avro_schema.specs.Fits.{fields_fit};
+ghost use Rattle.avro_schema.specs.Fits.{fields_fit, fits};
 ghost use Rattle.avro_schema.specs.Node.{FieldNode, Node as SeenNode, field_ids, node_at};
 ghost use Rattle.avro_schema.specs.Seen.{field_of, node_of, seen_fields, values_from};
 ghost use Rattle.avro_schema.specs.SeenSchema.{schema_nodes};
@@ -15,7 +15,7 @@ ghost use Rattle.avro_compare.specs.Source.{source_of};
 ghost use Rattle.avro_resolve.specs.Copied.{ArePlain, IsAsSpelled, begins_with_number};
 ghost use Rattle.avro_binary.specs.Places.{AreTold};
 ghost use Rattle.avro_binary.specs.declared.place.Place.{Place as SeenPlace};
-ghost use Rattle.avro_resolve.specs.inside.Guided.{StandsAs, of_node};
+ghost use Rattle.avro_resolve.specs.inside.Guided.{AreFitting, AreLeaves, StandsAs, of_node};
 
 use crate::plan::plan_ref::PlanRef;
 use crate::resolving::filling::make_default;
@@ -46,6 +46,8 @@ pub(crate) fn copy_record<M: Make<At = Place>>(
         At::Pair(w, r) => match plan.straight(plan.index_of(part), w, r) {
             Some(sources) => {
                 let reader = plan.reader();
+                // Its contract says that the schema is well formed.
+                let _root = reader.root();
                 let reads = fields_of(reader, r);
                 let pieces = Pieces { bytes, ends: &ends };
                 let start = maker.fields(alloc, Place::of(r))?;
@@ -76,7 +78,8 @@ fn copy_fields<M: Make<At = Place>>(
 ) -> Result<Option<M::Fields>, AllocError>
     ensures kept { OnOk result (M.keeps maker.old maker.new) }
     ensures stands { (ws : List FieldNode) (found : Sourced) (at : SeenPlace) → AreTold M.branch_at M.item_at M.entry_at M.field_at → AreSources ws (seen_fields reads.now) sources.now
-        → ArePlain (schema_nodes reader.now) ws (seen_fields reads.now) found pieces.entry.bytes.now pieces.entry.ends.now → M.fields_stand_for maker.old (schema_nodes reader.now) (seen_fields reads.now) at start []
+        → ArePlain (schema_nodes reader.now) ws (seen_fields reads.now) found pieces.entry.bytes.now pieces.entry.ends.now → AreLeaves (schema_nodes reader.now) ws (seen_fields reads.now)
+        → AreFitting (schema_nodes reader.now) (seen_fields reads.now) (field_value ws found) → M.fields_stand_for maker.old (schema_nodes reader.now) (seen_fields reads.now) at start []
         → IfOk result (λ o. IfSome o (λ fields. M.fields_stand_for maker.new (schema_nodes reader.now) (seen_fields reads.now) at fields (map (field_value ws found) (seen_fields reads.now)))) }
 {
     let mut fields = start;
@@ -105,6 +108,7 @@ fn copy_field<M: Make<At = Place>>(
 ) -> Result<Option<M::Out>, AllocError>
     ensures kept { OnOk result (M.keeps maker.old maker.new) }
     ensures stands { (ws rs : List FieldNode) (found : Sourced) → source ≡ source_of ws (field_of f.now) → IsField (field_of f.now) rs → ArePlain (schema_nodes reader.now) ws rs found pieces.entry.bytes.now pieces.entry.ends.now
+        → AreLeaves (schema_nodes reader.now) ws rs → fits (schema_nodes reader.now) (node_at (schema_nodes reader.now) f.now.node.0) (field_value ws found (field_of f.now)) ≡ true
         → IfOk result (λ o. IfSome o (λ out. of_node (M.stands_for maker.new) (schema_nodes reader.now) f.now.node.0 out (field_value ws found (field_of f.now)))) }
 {
     match source {

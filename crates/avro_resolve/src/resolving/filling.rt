@@ -1,4 +1,4 @@
-ghost use Rattle.std.specs.Prelude.{◌≡◌, ◌+◌, ◌++◌, ◌∷◌, [], ℕ, true, IfOk, IfSome, List, OnOk, Option, Some, map, slice_get, bytes_eq};
+ghost use Rattle.std.specs.Prelude.{◌≡◌, ◌+◌, ◌++◌, ◌∷◌, [], ℕ, true, IfOk, IfSome, List, OnOk, Option, Some, map, slice_get, unwrap_or, bytes_eq};
 ghost use Rattle.std.specs.List.{flat_map};
 ghost use Rattle.avro_schema.specs.Fits.{fits};
 ghost use Rattle.avro_schema.specs.Node.{FieldNode, node_at};
@@ -6,7 +6,7 @@ ghost use Rattle.avro_schema.specs.SeenSchema.{schema_nodes};
 ghost use Rattle.avro_schema.specs.Value.{Value};
 ghost use Rattle.avro_binary.specs.Places.{AreTold};
 ghost use Rattle.avro_binary.specs.declared.place.Place.{Place as SeenPlace};
-ghost use Rattle.avro_resolve.specs.inside.Guided.{AreDefaultsFit, of_node};
+ghost use Rattle.avro_resolve.specs.inside.Guided.{AreFitting, of_node};
 ghost use Rattle.avro_schema.specs.Distinct.{are_distinct};
 ghost use Rattle.avro_schema.specs.WellFormed.{field_names};
 ghost use Rattle.avro_schema.specs.Seen.{field_of, seen_fields};
@@ -36,7 +36,7 @@ pub(crate) fn fill<M: Make<At = Place>>(
     requires distinct { are_distinct bytes_eq (flat_map field_names (seen_fields reads.now)) ≡ true }
     requires sources { IfSome sources (λ ss. AreSources (seen_fields writes.now) (seen_fields reads.now) ss.now) }
     ensures kept { OnOk result (M.keeps maker.old maker.new) }
-    ensures stands { (found : Sourced) (at : SeenPlace) → AreTold M.branch_at M.item_at M.entry_at M.field_at → AreDefaultsFit (schema_nodes reader.now) (seen_fields reads.now)
+    ensures stands { (found : Sourced) (at : SeenPlace) → AreTold M.branch_at M.item_at M.entry_at M.field_at → AreFitting (schema_nodes reader.now) (seen_fields reads.now) (field_value (seen_fields writes.now) found)
         → SlotsAre (of_node (M.stands_for maker.old) (schema_nodes reader.now)) (seen_fields writes.now) (seen_fields reads.now) found slots.items → M.fields_stand_for maker.old (schema_nodes reader.now) (seen_fields reads.now) at start []
         → IfOk result (λ filled. M.fields_stand_for maker.new (schema_nodes reader.now) (seen_fields reads.now) at filled.1 (map (field_value (seen_fields writes.now) found) (seen_fields reads.now))) }
 {
@@ -108,7 +108,7 @@ fn value_of_field<M: Make<At = Place>>(
     }
 }
 
-/// What is made of the default of a reader's field.
+/// What is made of the default of a reader's field, or of null where it has none.
 #[inline(always)]
 pub(crate) fn make_default<M: Make<At = Place>>(
     alloc: Global,
@@ -117,8 +117,8 @@ pub(crate) fn make_default<M: Make<At = Place>>(
     f: &Field,
 ) -> Result<M::Out, AllocError>
     ensures kept { OnOk result (M.keeps maker.old maker.new) }
-    ensures stands { (u : Value) → (field_of f.now).default ≡ Some u → fits (schema_nodes reader.now) (node_at (schema_nodes reader.now) f.now.node.0) u ≡ true
-        → IfOk result (λ out. of_node (M.stands_for maker.new) (schema_nodes reader.now) f.now.node.0 out u) }
+    ensures stands { fits (schema_nodes reader.now) (node_at (schema_nodes reader.now) f.now.node.0) (unwrap_or (field_of f.now).default Value.null) ≡ true
+        → IfOk result (λ out. of_node (M.stands_for maker.new) (schema_nodes reader.now) f.now.node.0 out (unwrap_or (field_of f.now).default Value.null)) }
 {
     let at = Place::of(f.node);
     match &f.default {

@@ -9,6 +9,7 @@ ghost use Rattle.avro_binary.specs.LeafValue.{leaf_value};
 ghost use Rattle.avro_binary.specs.Places.{AreTold, in_branch, placed};
 ghost use Rattle.avro_resolve.specs.inside.Guided.{IsLeafFor, LeadsTo, MadeAs, StandsAs, leaf_as, of_node};
 ghost use Rattle.avro_compare.specs.Pairs.{Tells};
+ghost use Rattle.avro_compare.specs.Resolve.{bytes_as as kept_bytes, int_as as kept_int, string_as as kept_string};
 
 use crate::plan::plan_ref::PlanRef;
 use crate::resolving::failing::fault_apart;
@@ -37,15 +38,27 @@ pub(crate) fn make_leaf<M: Make<At = Place>>(
     };
     let index = plan.index_of(part);
     match plan.aim(index, w, r) {
-        Aim::Fault(kind) => Ok(Made::Faulty(fault_apart(alloc, kind)?)),
+        Aim::Fault(kind) => {
+            let lost = fault_apart(alloc, kind)?;
+            Ok(Made::Faulty(lost))
+        }
         Aim::To(branch, q) => match leaf_for(plan, plan.index_to(index, branch), w, q, leaf) {
-            Ok(leaf) => {
-                let out = maker.leaf(alloc, Place { node: q, branch }, leaf)?;
+            Ok(taken) => {
+                let out = maker.leaf(alloc, Place { node: q, branch }, taken)?;
                 into_branch(alloc, maker, branch, out)
             }
-            Err(kind) => Ok(Made::Faulty(fault_apart(alloc, kind)?)),
+            Err(kind) => {
+                let bad = fault_apart(alloc, kind)?;
+                Ok(Made::Faulty(bad))
+            }
         },
     }
+}
+
+/// Whether a leaf is a long, which is made in place.
+#[inline(always)]
+pub(crate) fn is_long_leaf(leaf: Leaf<'_>) -> bool {
+    matches!(leaf, Leaf::Long(_))
 }
 
 /// The same by a call, so that what reads a leaf is small enough to be inlined.
@@ -77,7 +90,10 @@ pub(crate) fn into_branch<M: Make<At = Place>>(
         → IfOk result (λ made. MadeAs (of_node (M.stands_for maker.new) nodes r) made (Ok (in_branch branch v))) }
 {
     match branch {
-        Some(branch) => Ok(Made::Good(maker.branch(alloc, branch, out)?)),
+        Some(branch) => {
+            let outer = maker.branch(alloc, branch, out)?;
+            Ok(Made::Good(outer))
+        }
         None => Ok(Made::Good(out)),
     }
 }
@@ -94,19 +110,56 @@ fn leaf_for<'d>(
 ) -> Result<Leaf<'d>, FaultKind>
     ensures { IsLeafFor (leaf_as (node_at (schema_nodes plan.now.0) w.0) (leaf_value leaf.entry) (node_at (schema_nodes plan.now.1) q.0)) result }
 {
+    let reader = plan.reader();
     match leaf {
-        Leaf::Int(value) if is_long(plan.reader(), q) => Ok(Leaf::Long(i64::from(value))),
-        Leaf::Bytes(content) if is_text(plan.reader(), q) => match text_of(content) {
-            Ok(text) => Ok(Leaf::Text(text)),
-            Err(_) => Err(FaultKind::NotUtf8),
-        },
-        Leaf::Text(text) if is_bytes(plan.reader(), q) => Ok(Leaf::Bytes(text.as_bytes())),
+        Leaf::Null => Ok(Leaf::Null),
+        Leaf::Boolean(value) => Ok(Leaf::Boolean(value)),
+        Leaf::Int(value) => Ok(int_for(reader, q, value)),
+        Leaf::Long(value) => Ok(Leaf::Long(value)),
+        Leaf::Bytes(content) => bytes_for(reader, q, content),
+        Leaf::Text(text) => Ok(text_for(reader, q, text)),
+        Leaf::Fixed(content) => Ok(Leaf::Fixed(content)),
         Leaf::Symbol(symbol) => match plan.symbol(index, w, symbol, q) {
-            Some(symbol) => Ok(Leaf::Symbol(symbol)),
+            Some(taken) => Ok(Leaf::Symbol(taken)),
             None => Err(FaultKind::NoSymbol),
         },
-        other => Ok(other),
     }
+}
+
+/// What a reader's node takes of an int: a long where it is one.
+#[inline(always)]
+fn int_for<'d>(reader: &Schema, q: NodeId, value: i32) -> Leaf<'d>
+    ensures { kept_int value (node_at (schema_nodes reader.now) q.0) ≡ Ok (leaf_value result) }
+{
+    if is_long(reader, q) {
+        return Leaf::Long(i64::from(value));
+    }
+    Leaf::Int(value)
+}
+
+/// What a reader's node takes of bytes: the text whose UTF-8 they are where it is a string.
+#[inline(always)]
+fn bytes_for<'d>(reader: &Schema, q: NodeId, content: &'d [u8]) -> Result<Leaf<'d>, FaultKind>
+    ensures { IsLeafFor (kept_bytes content.now (node_at (schema_nodes reader.now) q.0)) result }
+{
+    if !is_text(reader, q) {
+        return Ok(Leaf::Bytes(content));
+    }
+    match text_of(content) {
+        Ok(text) => Ok(Leaf::Text(text)),
+        Err(_) => Err(FaultKind::NotUtf8),
+    }
+}
+
+/// What a reader's node takes of a text: its UTF-8 where it is bytes.
+#[inline(always)]
+fn text_for<'d>(reader: &Schema, q: NodeId, text: &'d str) -> Leaf<'d>
+    ensures { kept_string text.now (node_at (schema_nodes reader.now) q.0) ≡ Ok (leaf_value result) }
+{
+    if is_bytes(reader, q) {
+        return Leaf::Bytes(text.as_bytes());
+    }
+    Leaf::Text(text)
 }
 
 /// Whether a node is a long.

@@ -1,6 +1,7 @@
 ghost use denote.Ref.{Bor};
 ghost use Rattle.std.specs.Prelude.{◌≡◌, ◌+◌, ◌++◌, ◌∷◌, [], ℕ, IfOk, IfSome, List, OnOk, Option, Some, length, slice_get, true};
 ghost use Rattle.avro_name.specs.Name.{Name};
+ghost use Rattle.avro_schema.specs.Fits.{fields_fit};
 ghost use Rattle.avro_schema.specs.Node.{FieldNode, Node, field_ids, node_at};
 ghost use Rattle.avro_schema.specs.Seen.{values_from};
 ghost use Rattle.avro_schema.specs.SeenSchema.{schema_nodes};
@@ -257,7 +258,10 @@ fn put_field<M: Make<At = Place>>(
 
 /// Whether nothing is kept of the fields that follow, since nothing is asked or a fault was met.
 #[inline(always)]
-pub(crate) fn skip_fields<M: Make<At = Place>>(_maker: &M, fields: &Slots<M::Out, M::Fields>) -> bool
+pub(crate) fn skip_fields<M: Make<At = Place>>(
+    _maker: &M,
+    fields: &Slots<M::Out, M::Fields>,
+) -> bool
     ensures { AreTold M.branch_at M.item_at M.entry_at M.field_at → (writer reader nodes : List Node) (fs : List FieldNode) (at : At) (vs ws : List Value) → result ≡ true → FieldsStandAs (M.stands_for _maker.now) (M.fields_stand_for _maker.now) writer reader nodes fs at fields.now vs
         → FieldsStandAs (M.stands_for _maker.now) (M.fields_stand_for _maker.now) writer reader nodes fs at fields.now (vs ++ ws) }
 {
@@ -279,11 +283,13 @@ pub(crate) fn make_record<M: Make<At = Place>>(
 ) -> Result<Made<M::Out>, AllocError>
     ensures kept { OnOk result (M.keeps maker.old maker.new) }
     ensures stands { AreTold M.branch_at M.item_at M.entry_at M.field_at → (nodes : List Node) (name : Name) (aliases : List Name) (fs : List FieldNode) (at : At) (vs : List Value) → FieldsStandAs (M.stands_for maker.old) (M.fields_stand_for maker.old) (schema_nodes plan.now.0) (schema_nodes plan.now.1) nodes fs at fields vs
-        → IfOk result (λ made. StandsAs (M.stands_for maker.new) (schema_nodes plan.now.0) (schema_nodes plan.now.1) nodes (Node.record_of name aliases fs) at made (Value.record_of (values_from vs))) }
+        → fields_fit nodes (field_ids fs) (values_from vs) ≡ true → IfOk result (λ made. StandsAs (M.stands_for maker.new) (schema_nodes plan.now.0) (schema_nodes plan.now.1) nodes (Node.record_of name aliases fs) at made (Value.record_of (values_from vs))) }
 {
     match fields {
         Slots::Good(slots, start, branch, w, q) => {
             let reader = plan.reader();
+            // Its contract says that the schema is well formed.
+            let _root = reader.root();
             let writes = fields_of(plan.writer(), w);
             let reads = fields_of(reader, q);
             let sources = plan.sources(index, w, q);

@@ -5,8 +5,8 @@ use Rattle.avro_compare.specs.Pairs.{IsAim}
 use Rattle.avro_compare.proofs.public.Leading.{pair_leads}
 use Rattle.avro_compare.proofs.pairs.aim.Goals as goal
 
-pub returns : goal.returns
-returns c =
+pub returns-clause-leads : goal.returns-clause-leads
+returns-clause-leads c =
     let writer = schema_nodes c.args.writer.now in
     let reader = schema_nodes c.args.reader.now in
     subst (λ a. IsAim writer reader (node_at writer c.args.w.0) (node_at reader c.args.r.0) a) (sym c.aim_by.ensures) (pair_leads writer reader c.args.w c.args.r)

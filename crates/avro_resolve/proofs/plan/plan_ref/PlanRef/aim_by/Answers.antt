@@ -1,8 +1,6 @@
-use Rattle.std.proofs.Common.{◌∙◌, ap, sym, subst}
-use Rattle.avro_schema.specs.Node.{node_at}
+use Rattle.std.proofs.Common.{◌∙◌, ap}
 use Rattle.avro_schema.specs.SeenSchema.{schema_nodes}
-use Rattle.avro_compare.specs.Pairs.{IsAim, aim_at}
-use Rattle.avro_compare.proofs.public.Leading.{pair_leads}
+use Rattle.avro_compare.specs.Pairs.{aim_at}
 use Rattle.avro_resolve.proofs.plan.plan_ref.PlanRef.aim_by.Goals as goal
 
 pub returns-in-Some : goal.returns-in-Some
@@ -10,5 +8,4 @@ returns-in-Some c =
     let writer = schema_nodes c.args.self.now.0 in
     let reader = schema_nodes c.args.self.now.1 in
     let kept = c.in-Some.ensures in
-    let same = kept.0.aims ∙ ap (λ n. aim_at writer reader n c.in-Some.pair.now.r) kept.1 ∙ ap (λ n. aim_at writer reader c.args.w n) kept.2 in
-    subst (λ a. IsAim writer reader (node_at writer c.args.w.0) (node_at reader c.args.r.0) a) (sym same) (pair_leads writer reader c.args.w c.args.r)
+    kept.0.aims ∙ ap (λ n. aim_at writer reader n c.in-Some.pair.now.r) kept.1 ∙ ap (λ n. aim_at writer reader c.args.w n) kept.2

@@ -1,0 +1,5 @@
+use Rattle.avro_resolve.proofs.Telling.{ok_told}
+use Rattle.avro_resolve.proofs.resolving.ResolvingMake.items.Goals as goal
+
+pub returns-clause-stands : goal.returns-clause-stands
+returns-clause-stands g c = λ nodes id. ok_told _ _ c.start_items.result (λ told. c.start_items.ensures.stands told nodes id)
