@@ -3,5 +3,6 @@ mod Made
 mod Taken
 mod Objects
 mod Composed
-mod Leaves
+mod Opened
+mod Spelled
 mod Wholes

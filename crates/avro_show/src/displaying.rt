@@ -23,17 +23,14 @@ pub(crate) struct Displaying<'a> {
 }
 
 impl<'a> Displaying<'a> {
-    ghost use Rattle.std.specs.Prelude.{◌≡◌, List, ℕ};
-    ghost use Rattle.serde_json.specs.Data.{Data};
-    ghost use Rattle.serde_json.specs.Written.{compact_text};
     ghost use Rattle.avro_schema.specs.Node.{node_at};
     ghost use Rattle.avro_schema.specs.SeenSchema.{schema_nodes};
-    ghost use Rattle.avro_show.specs.Spans.{opened, tree_in};
+    ghost use Rattle.avro_show.specs.Spans.{IsOpening};
 
     /// The text that opens the value of a branch at a place, if it is one that is opened: null is not.
     #[inline(always)]
     fn opening(&self, at: Place) -> Option<&'a [u8]>
-        ensures { (d : Data) → opened result (compact_text d) ≡ compact_text (tree_in at.branch (node_at (schema_nodes self.now.table.now) at.node.0) d) }
+        ensures { IsOpening result (node_at (schema_nodes self.now.table.now) at.node.0) at.branch }
     {
         let table = self.table;
         match at.branch {
