@@ -6,3 +6,4 @@ mod Composed
 mod Opened
 mod Spelled
 mod Wholes
+mod Read

@@ -41,7 +41,7 @@ impl<'a> Displaying<'a> {
 }
 
 impl<'a> Make for Displaying<'a> {
-    ghost use Rattle.std.specs.Prelude.{refl};
+    ghost use Rattle.std.specs.Prelude.{◌≡◌, refl};
     ghost use Rattle.std.proofs.Common.{◌∙◌};
     ghost use Rattle.avro_binary.specs.Places.{alone, branch_place};
     ghost use Rattle.avro_show.specs.Spans.{EntriesStandFor, FieldsStandFor, ItemsStandFor, Keeps, StandsFor};
@@ -58,7 +58,7 @@ impl<'a> Make for Displaying<'a> {
 
     type Fields = Spans;
 
-    ghost keeps = { λ s t. Keeps s.table.now s.room.now.text t.table.now t.room.now.text };
+    ghost keeps = { λ s t. Keeps s.table.now s.room.now.text t.table.now t.room.now.text × (t.room.ghost_name ≡ s.room.ghost_name) };
 
     ghost begins = { λ _ _. Unit {0} };
 
@@ -78,17 +78,17 @@ impl<'a> Make for Displaying<'a> {
 
     ghost field_at = { λ _ fields id. alone id };
 
-    ghost keeps_itself = { λ s. (refl, grows_none s.room.now.text) };
+    ghost keeps_itself = { λ s. ((refl, grows_none s.room.now.text), refl) };
 
-    ghost keeps_on = { λ s t u before after. (after.0 ∙ before.0, grows_on s.room.now.text t.room.now.text u.room.now.text before.1 after.1) };
+    ghost keeps_on = { λ s t u before after. ((after.0.0 ∙ before.0.0, grows_on s.room.now.text t.room.now.text u.room.now.text before.0.1 after.0.1), after.1 ∙ before.1) };
 
-    ghost items_kept = { λ s t nodes id at items vs kept stand. items_later s.table.now t.table.now s.room.now.text t.room.now.text nodes id at items vs kept.0 kept.1 stand };
+    ghost items_kept = { λ s t nodes id at items vs kept stand. items_later s.table.now t.table.now s.room.now.text t.room.now.text nodes id at items vs kept.0.0 kept.0.1 stand };
 
-    ghost entries_kept = { λ s t nodes id at entries es kept stand. entries_later s.table.now t.table.now s.room.now.text t.room.now.text nodes id at entries es kept.0 kept.1 stand };
+    ghost entries_kept = { λ s t nodes id at entries es kept stand. entries_later s.table.now t.table.now s.room.now.text t.room.now.text nodes id at entries es kept.0.0 kept.0.1 stand };
 
-    ghost fields_kept = { λ s t nodes fs at fields vs kept stand. fields_later s.table.now t.table.now s.room.now.text t.room.now.text nodes fs at fields vs kept.0 kept.1 stand };
+    ghost fields_kept = { λ s t nodes fs at fields vs kept stand. fields_later s.table.now t.table.now s.room.now.text t.room.now.text nodes fs at fields vs kept.0.0 kept.0.1 stand };
 
-    ghost still_stands = { λ s t nodes n at out v kept stand. stands_later s.table.now t.table.now s.room.now.text t.room.now.text nodes n at out v kept.0 kept.1 stand };
+    ghost still_stands = { λ s t nodes n at out v kept stand. stands_later s.table.now t.table.now s.room.now.text t.room.now.text nodes n at out v kept.0.0 kept.0.1 stand };
 
     ghost branch_at_kept = { λ s t at branch id kept. refl };
 
@@ -238,6 +238,6 @@ impl<'a> Make for Displaying<'a> {
     }
 
     fn keep_slots(&mut self, _slots: Vec<Option<Span>>)
-        ensures kept { Keeps self.old.table.now self.old.room.now.text self.new.table.now self.new.room.now.text }
+        ensures kept { Keeps self.old.table.now self.old.room.now.text self.new.table.now self.new.room.now.text × (self.new.room.ghost_name ≡ self.old.room.ghost_name) }
     {}
 }

@@ -30,4 +30,4 @@ returns-clause-kept c =
     let text = c.args.self.now.room.now.text in
     let begun = c.begin.new.self.text in
     let made = c.append_leaf.new.text in
-    on_ok (λ ended. (refl, grows_on text made c.end.new.self.text (grows_on text begun made c.in_ok-start.ensures.kept c.in_ok-append_leaf.ensures.kept) ended)) c.end.result c.end.ensures.kept
+    on_ok (λ ended. ((refl, grows_on text made c.end.new.self.text (grows_on text begun made c.in_ok-start.ensures.kept c.in_ok-append_leaf.ensures.kept) ended), refl)) c.end.result c.end.ensures.kept
