@@ -9,7 +9,6 @@ use Rattle.avro_schema.specs.SeenSchema.{schema_nodes}
 use Rattle.avro_schema.specs.Value.{Value}
 use Rattle.avro_schema.specs.declared.schema.Schema.{Schema}
 use Rattle.avro_schema.proofs.public.FitsKind.{FitsKind, FitsKind-from_fits}
-use Rattle.serde_json.specs.Data.{Data}
 use Rattle.serde_json.specs.Written.{compact_text}
 use Rattle.avro_binary.specs.Places.{branch_place, is_union}
 use Rattle.avro_binary.specs.declared.place.Place.{Place}

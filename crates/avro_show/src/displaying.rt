@@ -232,7 +232,12 @@ impl<'a> Make for Displaying<'a> {
         let members = self.table.members(fields.owner.node);
         let room = &mut *self.room;
         room.whole.clear();
-        append_members(&mut room.whole, room.text.as_slice(), members, &fields.parts)?;
+        append_members(
+            &mut room.whole,
+            room.text.as_slice(),
+            members,
+            &fields.parts,
+        )?;
         room.keep_spans(fields);
         room.composed(opening)
     }

@@ -23,5 +23,5 @@ returns-clause-stands c = λ nodes n v alone fit plain of.
     let spelled = subst (λ (b : List ℕ). Spells v b) plain (plain_spelled nodes n v few alone fit) in
     let shown = c.in_ok-append_encoded.ensures.shown nodes v (subst (λ (x : Node). fits nodes x v ≡ true) (sym is) fit) spelled in
     let made = made_text t at nodes n v text begun c.append_encoded.new.text c.opening-opening.result c.opening-opening.ensures of (null_alone nodes n v fit) c.in_ok-start.ensures.begun
-            (shown ∙ ap (λ (x : Node). begun ++ display_text nodes x v) is) in
+    (shown ∙ ap (λ (x : Node). begun ++ display_text nodes x v) is) in
     c.in_ok-end.ensures.stands text (text_of t at v) made c.in_ok-start.ensures.start

@@ -1,4 +1,4 @@
-use Rattle.std.proofs.Common.{◌≡◌, ◌∙◌, ◌++◌, true, List, ℕ, ap, refl, subst, sym}
+use Rattle.std.proofs.Common.{◌≡◌, ◌∙◌, ◌++◌, true, ap, refl, subst, sym}
 use Rattle.avro_schema.specs.Fits.{fits}
 use Rattle.avro_schema.specs.Node.{Node, node_at}
 use Rattle.avro_schema.specs.Seen.{node_of}
@@ -22,7 +22,7 @@ returns-clause-stands c = λ nodes n fit. given _ c.end.result (λ of.
     let is : node_of c.get-node.result.now ≡ n = c.get-node.ensures.node ∙ ap (λ (s : Schema). node_at (schema_nodes s) at.node.0) c.schema.ensures ∙ sym of.1 in
     let shown = c.in_ok-append_leaf.ensures.shown nodes (subst (λ (x : Node). fits nodes x v ≡ true) (sym is) fit) in
     let made = made_text t at nodes n v text c.begin.new.self.text c.append_leaf.new.text c.opening-opening.result c.opening-opening.ensures of (null_alone nodes n v fit) c.in_ok-start.ensures.begun
-            (shown ∙ ap (λ (x : Node). c.begin.new.self.text ++ display_text nodes x v) is) in
+    (shown ∙ ap (λ (x : Node). c.begin.new.self.text ++ display_text nodes x v) is) in
     c.end.ensures.stands text (text_of t at v) made c.in_ok-start.ensures.start)
 
 pub returns-clause-kept : goal.returns-clause-kept

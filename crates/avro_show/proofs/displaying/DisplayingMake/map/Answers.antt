@@ -18,5 +18,5 @@ returns-clause-stands c = λ nodes id at es entries. given _ c.composed.result (
     let (own, are) = entries of in
     let shown = c.in_ok-append_entries.ensures (display_entries (schema_nodes t) (node_at (schema_nodes t) id) (entries_from es) no_members) (rw c.as_slice.ensures are) in
     let whole = whole_text t at c.args.entries.owner (Node.map_of id) v c.opening-opening.result c.append_entries.new.whole c.opening-opening.ensures own of.1 (λ e. absurd (cc (e)))
-            (shown ∙ ap (λ (b : List ℕ). b ++ display_text (schema_nodes t) (Node.map_of id) v) c.clear.ensures) in
+    (shown ∙ ap (λ (b : List ℕ). b ++ display_text (schema_nodes t) (Node.map_of id) v) c.clear.ensures) in
     subst (λ (b : List ℕ). IfOk c.composed.result (λ span. StandsIn c.composed.new.self.text span b)) whole c.composed.ensures.stands)

@@ -22,5 +22,5 @@ returns-clause-stands c = λ nodes name aliases fs vs pieces fit of.
     let there = pieces_there nodes c.args.bytes.now c.args.ends.items fs vs fit pieces ms members.each in
     let shown = c.in_ok-append_pieces.ensures.shown (field_tree nodes fs (values_from vs)) (rw (c.deref.ensures.value, ← of.0) there) in
     let made = made_text t at nodes n v text begun c.keep_ends.new.self.text c.opening-opening.result c.opening-opening.ensures of (λ e. absurd (cc (e))) c.in_ok-start.ensures.begun
-            (c.keep_ends.ensures ∙ shown ∙ ap (λ (b : List ℕ). begun ++ b) (record_shown nodes name aliases fs vs ms fit members)) in
+    (c.keep_ends.ensures ∙ shown ∙ ap (λ (b : List ℕ). begun ++ b) (record_shown nodes name aliases fs vs ms fit members)) in
     c.in_ok-end.ensures.stands text (text_of t at v) made c.in_ok-start.ensures.start

@@ -1,4 +1,4 @@
-use Rattle.std.proofs.Common.{◌∙◌, ◌++◌, List, ℕ, ap, subst, sym}
+use Rattle.std.proofs.Common.{◌∙◌, List, ℕ, ap, subst, sym}
 use Rattle.std.specs.Prelude.{IfOk}
 use Rattle.avro_schema.specs.Node.{FieldNode, Node, node_at}
 use Rattle.avro_schema.specs.Seen.{values_from}
@@ -24,5 +24,5 @@ returns-clause-stands c = λ nodes name aliases fs at vs fields fit. given _ c.c
     let spans = spans_there nodes c.args.self.now.room.now.text fs c.args.fields.parts.items vs fit are ms members.each in
     let shown = c.in_ok-append_members.ensures (field_tree nodes fs (values_from vs)) (rw (c.as_slice.ensures, c.deref.ensures.value) spans) in
     let whole = whole_text t at c.args.fields.owner n v c.opening-opening.result c.keep_spans.new.self.whole c.opening-opening.ensures own of.1 (λ e. absurd (cc (e)))
-            (c.keep_spans.ensures.whole ∙ shown ∙ rw c.clear.ensures (record_shown nodes name aliases fs vs ms fit members ∙ ap (λ (ns : List Node). display_text ns n v) of.0)) in
+    (c.keep_spans.ensures.whole ∙ shown ∙ rw c.clear.ensures (record_shown nodes name aliases fs vs ms fit members ∙ ap (λ (ns : List Node). display_text ns n v) of.0)) in
     subst (λ (b : List ℕ). IfOk c.composed.result (λ span. StandsIn c.composed.new.self.text span b)) whole c.composed.ensures.stands)
