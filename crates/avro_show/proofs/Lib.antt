@@ -3,5 +3,7 @@ mod Made
 mod Taken
 mod Objects
 mod Composed
-mod Leaves
+mod Opened
+mod Spelled
 mod Wholes
+mod Read

@@ -1,11 +1,11 @@
 -- The parts of what is read, one more of them, and their whole.
-use Rattle.std.proofs.Common.{◌≡◌, ℕ, zero, suc, ◌<◌, ◌≤◌, List, [], ◌∷◌, ◌++◌, length, Result, Ok, Err, true, Option, Some, refl, sym, ap, subst, ◌∙◌, arith, Ordering, Less, Equal, Greater}
+use Rattle.std.proofs.Common.{◌≡◌, ℕ, zero, suc, ◌<◌, ◌≤◌, List, [], ◌∷◌, ◌++◌, length, Result, Ok, Err, true, Some, refl, sym, ap, subst, arith, Ordering, Less, Equal, Greater}
 use Rattle.std.proofs.lemmas.Bool.{and_parts, false≢true}
 use Rattle.std.specs.BTreeMap.{insert_entry}
 use Rattle.std.specs.List.{AllByRecursion}
 use Rattle.std.specs.String.{string_cmp}
 use Rattle.std.specs.Ordering.{match_ordering}
-use Rattle.std.specs.Prelude.{IfOk, String, option_map, slice_get, string_bytes}
+use Rattle.std.specs.Prelude.{IfOk, String, slice_get, string_bytes}
 use Rattle.std.specs.declared.alloc.Global.{Global}
 use Rattle.avro_name.specs.Name.{Name}
 use Rattle.avro_schema.specs.Fits.{fields_fit, fits}
@@ -15,13 +15,14 @@ use Rattle.avro_schema.specs.SeenSchema.{schema_nodes}
 use Rattle.avro_schema.specs.Value.{Value, values_count}
 use Rattle.avro_schema.specs.declared.schema.Schema.{Schema}
 use Rattle.avro_binary.specs.Pieces.{ArePieces}
+use Rattle.avro_binary.specs.Places.{alone}
 use Rattle.serde_json.specs.Data.{Data, Members, no_members, put}
 use Rattle.serde_json.specs.Written.{compact_text}
-use Rattle.avro_display.specs.DisplayTree.{display_entries, display_items, display_text, display_tree, part_at, record_fields}
+use Rattle.avro_display.specs.DisplayTree.{display_entries, display_items, display_text, display_tree}
 use Rattle.avro_display.specs.Displayed.{object_text}
 use Rattle.avro_display.specs.Table.{AreMembers, IsMember, field_id, field_tree, value_at}
 use Rattle.avro_display.specs.declared.member.Member.{Member}
-use Rattle.avro_show.specs.Spans.{AreFieldsAt, AreItemsAt, AreMembersAt, IsOf, IsPieceOf, IsSpanAt, StandsIn, field_id_at, item_id, text_of, value_id}
+use Rattle.avro_show.specs.Spans.{AreFieldsAt, AreItemsAt, AreMembersAt, IsOf, IsPieceOf, IsSpanAt, StandsIn}
 use Rattle.avro_show.specs.declared.spans.Span.{Span}
 use Rattle.avro_show.proofs.Objects.{members_shown}
 
@@ -48,11 +49,9 @@ module _ (text : List ℕ) (nodes : List Node) where
 
 -- ---- Which node a part is of
 
-pub item_of : (t : Schema) (nodes : List Node) (id : ℕ) (at owner : Option ℕ) → IsOf t nodes (Node.array id) at → owner ≡ at → IsOf t nodes (node_at nodes id) (item_id t owner)
-item_of t nodes id at owner (same, is) own = (same, rw (own, ← is, same) refl)
-
-pub value_of_map : (t : Schema) (nodes : List Node) (id : ℕ) (at owner : Option ℕ) → IsOf t nodes (Node.map_of id) at → owner ≡ at → IsOf t nodes (node_at nodes id) (value_id t owner)
-value_of_map t nodes id at owner (same, is) own = (same, rw (own, ← is, same) refl)
+-- the place of a part by its node alone is a place of the node
+pub part_of : (t : Schema) (nodes : List Node) (id : ℕ) → nodes ≡ schema_nodes t → IsOf t nodes (node_at nodes id) (alone id)
+part_of t nodes id same = (same, ap (λ (ns : List Node). node_at ns id) same, λ e. refl)
 
 -- ---- Fields that fit
 
@@ -99,35 +98,11 @@ pieces_there nodes bytes ends fs vs fit are (m ∷ ms) each =
     let same = each.0.1 in
     ((v, rw same there.1, are m.field v there.0, rw same refl), pieces_there nodes bytes ends fs vs fit are ms each.1)
 
--- ---- The node of the next field
-
-fields_count : (nodes : List Node) (text : List ℕ) (fs : List FieldNode) (spans : List Span) (vs : List Value) → AreFieldsAt nodes text fs spans vs → length spans ≡ length vs
-fields_count nodes text fs [] vs are = ap length (sym are)
-fields_count nodes text (f ∷ fs) (s ∷ ss) (v ∷ vs) are = ap suc (fields_count nodes text fs ss vs are.1)
-fields_count nodes text (f ∷ fs) (s ∷ ss) [] are = absurd are
-fields_count nodes text [] (s ∷ ss) vs are = absurd are
-
-id_there : (fs : List FieldNode) (k : ℕ) → slice_get (field_ids fs) k ≡ option_map (λ f. f.node) (slice_get fs k)
-id_there [] k = refl
-id_there (f ∷ fs) zero = refl
-id_there (f ∷ fs) (suc k) = id_there fs k
-
-pub field_of_next : (t : Schema) (nodes : List Node) (text : List ℕ) (fs : List FieldNode) (id : ℕ) (at owner : Option ℕ) (spans : List Span) (vs : List Value) → fs ≡ record_fields (part_at (schema_nodes t) at)
-    → owner ≡ at → AreFieldsAt nodes text fs spans vs → slice_get (field_ids fs) (length vs) ≡ Some id → field_id_at t owner (length spans) ≡ Some id
-field_of_next t nodes text fs id at owner spans vs is own are got =
-    rw (own, ← is, fields_count nodes text fs spans vs are) (sym (id_there fs (length vs)) ∙ got)
-
 -- ---- The display of a record
 
-pub record_shown : (t : Schema) (nodes : List Node) (name : Name) (aliases : List Name) (fs : List FieldNode) (at : Option ℕ) (vs : List Value) (ms : List Member) → IsOf t nodes (Node.record_of name aliases fs) at
-    → fields_fit nodes (field_ids fs) (values_from vs) ≡ true → AreMembers fs ms → object_text (field_tree nodes fs (values_from vs)) ms ≡ text_of t at (Value.record_of (values_from vs))
-record_shown t nodes name aliases fs at vs ms (same, is) fit are =
-    sym (members_shown nodes fs (values_from vs) ms (fitting_count nodes fs vs fit) are) ∙ rw (← is, ← same) refl
-
--- its members
-pub record_members : (t : Schema) (nodes : List Node) (name : Name) (aliases : List Name) (fs : List FieldNode) (at id : Option ℕ) (ms : List Member) → IsOf t nodes (Node.record_of name aliases fs) at → id ≡ at
-    → AreMembers (record_fields (part_at (schema_nodes t) id)) ms → AreMembers fs ms
-record_members t nodes name aliases fs at id ms (same, is) own are = subst (λ (l : List FieldNode). AreMembers l ms) (ap (λ (o : Option ℕ). record_fields (part_at (schema_nodes t) o)) own ∙ ap record_fields (sym is)) are
+pub record_shown : (nodes : List Node) (name : Name) (aliases : List Name) (fs : List FieldNode) (vs : List Value) (ms : List Member)
+    → fields_fit nodes (field_ids fs) (values_from vs) ≡ true → AreMembers fs ms → object_text (field_tree nodes fs (values_from vs)) ms ≡ display_text nodes (Node.record_of name aliases fs) (Value.record_of (values_from vs))
+record_shown nodes name aliases fs vs ms fit are = sym (members_shown nodes fs (values_from vs) ms (fitting_count nodes fs vs fit) are)
 
 pub given : {A E X : Type 0} (P : A → Type 0) (r : Result A E) → (X → IfOk r P) → IfOk r (λ a. X → P a)
 given P (Ok a) h = h

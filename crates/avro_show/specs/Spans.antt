@@ -70,6 +70,10 @@ abbrev pub tree_in : Option ℕ → Node → Data → Data
 tree_in None n d = d
 tree_in (Some k) n d = branch_tree n d
 
+-- the text opens the value of a branch where there is one; the display of null is the same there
+abbrev pub IsOpening : Option (Bor (List ℕ)) → Node → Option ℕ → Type 0
+IsOpening opening n branch = (d : Data) → (n ≡ Node.null → d ≡ Data.null) → opened opening (compact_text d) ≡ compact_text (tree_in branch n d)
+
 -- a part of a datum is of a node of the schema that is displayed, and at a place of it
 abbrev pub IsOf : Schema → List Node → Node → Place → Type 0
 IsOf t nodes n at = (nodes ≡ schema_nodes t) × (n ≡ node_at (schema_nodes t) at.node.0) × MayBeAt n at

@@ -23,17 +23,14 @@ pub(crate) struct Displaying<'a> {
 }
 
 impl<'a> Displaying<'a> {
-    ghost use Rattle.std.specs.Prelude.{◌≡◌, List, ℕ};
-    ghost use Rattle.serde_json.specs.Data.{Data};
-    ghost use Rattle.serde_json.specs.Written.{compact_text};
     ghost use Rattle.avro_schema.specs.Node.{node_at};
     ghost use Rattle.avro_schema.specs.SeenSchema.{schema_nodes};
-    ghost use Rattle.avro_show.specs.Spans.{opened, tree_in};
+    ghost use Rattle.avro_show.specs.Spans.{IsOpening};
 
     /// The text that opens the value of a branch at a place, if it is one that is opened: null is not.
     #[inline(always)]
     fn opening(&self, at: Place) -> Option<&'a [u8]>
-        ensures { (d : Data) → opened result (compact_text d) ≡ compact_text (tree_in at.branch (node_at (schema_nodes self.now.table.now) at.node.0) d) }
+        ensures { IsOpening result (node_at (schema_nodes self.now.table.now) at.node.0) at.branch }
     {
         let table = self.table;
         match at.branch {
@@ -44,7 +41,7 @@ impl<'a> Displaying<'a> {
 }
 
 impl<'a> Make for Displaying<'a> {
-    ghost use Rattle.std.specs.Prelude.{refl};
+    ghost use Rattle.std.specs.Prelude.{◌≡◌, refl};
     ghost use Rattle.std.proofs.Common.{◌∙◌};
     ghost use Rattle.avro_binary.specs.Places.{alone, branch_place};
     ghost use Rattle.avro_show.specs.Spans.{EntriesStandFor, FieldsStandFor, ItemsStandFor, Keeps, StandsFor};
@@ -61,7 +58,7 @@ impl<'a> Make for Displaying<'a> {
 
     type Fields = Spans;
 
-    ghost keeps = { λ s t. Keeps s.table.now s.room.now.text t.table.now t.room.now.text };
+    ghost keeps = { λ s t. Keeps s.table.now s.room.now.text t.table.now t.room.now.text × (t.room.ghost_name ≡ s.room.ghost_name) };
 
     ghost begins = { λ _ _. Unit {0} };
 
@@ -81,17 +78,17 @@ impl<'a> Make for Displaying<'a> {
 
     ghost field_at = { λ _ fields id. alone id };
 
-    ghost keeps_itself = { λ s. (refl, grows_none s.room.now.text) };
+    ghost keeps_itself = { λ s. ((refl, grows_none s.room.now.text), refl) };
 
-    ghost keeps_on = { λ s t u before after. (after.0 ∙ before.0, grows_on s.room.now.text t.room.now.text u.room.now.text before.1 after.1) };
+    ghost keeps_on = { λ s t u before after. ((after.0.0 ∙ before.0.0, grows_on s.room.now.text t.room.now.text u.room.now.text before.0.1 after.0.1), after.1 ∙ before.1) };
 
-    ghost items_kept = { λ s t nodes id at items vs kept stand. items_later s.table.now t.table.now s.room.now.text t.room.now.text nodes id at items vs kept.0 kept.1 stand };
+    ghost items_kept = { λ s t nodes id at items vs kept stand. items_later s.table.now t.table.now s.room.now.text t.room.now.text nodes id at items vs kept.0.0 kept.0.1 stand };
 
-    ghost entries_kept = { λ s t nodes id at entries es kept stand. entries_later s.table.now t.table.now s.room.now.text t.room.now.text nodes id at entries es kept.0 kept.1 stand };
+    ghost entries_kept = { λ s t nodes id at entries es kept stand. entries_later s.table.now t.table.now s.room.now.text t.room.now.text nodes id at entries es kept.0.0 kept.0.1 stand };
 
-    ghost fields_kept = { λ s t nodes fs at fields vs kept stand. fields_later s.table.now t.table.now s.room.now.text t.room.now.text nodes fs at fields vs kept.0 kept.1 stand };
+    ghost fields_kept = { λ s t nodes fs at fields vs kept stand. fields_later s.table.now t.table.now s.room.now.text t.room.now.text nodes fs at fields vs kept.0.0 kept.0.1 stand };
 
-    ghost still_stands = { λ s t nodes n at out v kept stand. stands_later s.table.now t.table.now s.room.now.text t.room.now.text nodes n at out v kept.0 kept.1 stand };
+    ghost still_stands = { λ s t nodes n at out v kept stand. stands_later s.table.now t.table.now s.room.now.text t.room.now.text nodes n at out v kept.0.0 kept.0.1 stand };
 
     ghost branch_at_kept = { λ s t at branch id kept. refl };
 
@@ -235,12 +232,17 @@ impl<'a> Make for Displaying<'a> {
         let members = self.table.members(fields.owner.node);
         let room = &mut *self.room;
         room.whole.clear();
-        append_members(&mut room.whole, room.text.as_slice(), members, &fields.parts)?;
+        append_members(
+            &mut room.whole,
+            room.text.as_slice(),
+            members,
+            &fields.parts,
+        )?;
         room.keep_spans(fields);
         room.composed(opening)
     }
 
     fn keep_slots(&mut self, _slots: Vec<Option<Span>>)
-        ensures kept { Keeps self.old.table.now self.old.room.now.text self.new.table.now self.new.room.now.text }
+        ensures kept { Keeps self.old.table.now self.old.room.now.text self.new.table.now self.new.room.now.text × (self.new.room.ghost_name ≡ self.old.room.ghost_name) }
     {}
 }

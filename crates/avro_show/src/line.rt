@@ -49,7 +49,10 @@ pub fn display_read(
     room.text.clear();
     let schema = table.schema();
     let root = schema.root();
-    let mut displaying = Displaying { table, room: &mut *room };
+    let mut displaying = Displaying {
+        table,
+        room: &mut *room,
+    };
     let place = Place::of(root);
     let (shown, len) = read_made(alloc, schema, root, bytes, limits, &mut displaying, place)?;
     room.shown = shown;
@@ -75,7 +78,10 @@ pub fn display_resolved(
     ensures refused { IfUnread result (λ e. IfSome (read_fault e) (Breaks (schema_nodes plan.now.0) limits.now (root_of (schema_nodes plan.now.0)) bytes.now)) }
 {
     room.text.clear();
-    let mut displaying = Displaying { table, room: &mut *room };
+    let mut displaying = Displaying {
+        table,
+        room: &mut *room,
+    };
     let (shown, len) = plan.put(alloc, bytes, limits, &mut displaying)?;
     room.shown = shown;
     Ok(len)

@@ -83,7 +83,8 @@ impl Room {
 
     /// Keeps the list of some parts for later, where few are kept. If memory runs out it is dropped.
     pub(crate) fn keep_spans(&mut self, spans: Spans)
-        ensures { self.new.text ≡ self.old.text }
+        ensures text { self.new.text ≡ self.old.text }
+        ensures whole { self.new.whole ≡ self.old.whole }
     {
         if self.lists.len() < LISTS {
             match self.lists.push(spans.parts) {
@@ -98,6 +99,7 @@ impl Room {
     pub(crate) fn begin(&mut self, opening: Option<&[u8]>) -> Result<usize, AllocError>
         ensures begun { (bytes : List ℕ) → OnOk result (self.new.text ++ closed opening.entry bytes ≡ self.old.text ++ opened opening.entry bytes) }
         ensures start { IfOk result (λ start. start ≡ length self.old.text) }
+        ensures whole { self.new.whole ≡ self.old.whole }
         ensures kept { OnOk result (Grows self.old.text self.new.text) }
     {
         let start = self.text.len();
