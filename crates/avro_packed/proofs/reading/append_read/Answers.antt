@@ -19,7 +19,7 @@ returns-in_err-fits-in-Ok-clause-unchanged c =
     let read = c.in-Ok.ensures.reads.found in
     let kept = c.read_made-read.ensures.stays old (subst (λ (o : List ℕ). Grows old o) (sym c.exchange.ensures.taken) (grows_none old)) in
     on_err c.from_residual.result _ (c.in_err-fits-in-Ok.ensures.unchanged old (plain read.0) (subst (λ (o : List ℕ). Grows old o) back kept) ends
-    (subst (λ (o : List ℕ). Holds o c.in-Ok.written (plain read.0)) back read.1.1))
+    (subst (λ (o : List ℕ). Holds o c.in-Ok.written (plain read.0)) back ?))
 
 pub returns-in-Err-clause-unchanged : goal.returns-in-Err-clause-unchanged
 returns-in-Err-clause-unchanged c =
