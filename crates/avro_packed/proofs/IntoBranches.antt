@@ -1,5 +1,5 @@
 -- What was written of a datum that goes into a branch of a union.
-use Rattle.std.proofs.Common.{◌≡◌, ◌++◌, ◌∙◌, ℕ, List, Option, Some, None, refl, subst, sym, true, false}
+use Rattle.std.proofs.Common.{◌≡◌, ◌++◌, ◌∙◌, ℕ, List, Option, Some, None, ap, refl, subst, sym, true, false}
 use Rattle.std.specs.Prelude.{Result, Ok, Err, IfOk}
 use Rattle.std.proofs.lemmas.Bool.{true≢false}
 use Rattle.avro_schema.specs.Node.{Node}
@@ -7,7 +7,7 @@ use Rattle.avro_schema.specs.Value.{Value}
 use Rattle.avro_cursor.specs.Encoding.{plain}
 use Rattle.avro_packed.specs.Appended.{Holds, branch_bytes}
 use Rattle.avro_packed.specs.declared.written.Written.{Written}
-use Rattle.avro_binary.specs.Places.{MayBeAt, branch_place, in_branch, is_union}
+use Rattle.avro_binary.specs.Places.{MayBeAt, alone, branch_place, in_branch, is_union}
 use Rattle.avro_binary.specs.declared.place.Place.{Place}
 
 pub plain_in : (into : Option ℕ) (v : Value) → branch_bytes into ++ plain v ≡ plain (in_branch into v)
@@ -29,3 +29,10 @@ pub holds_union : (out : List ℕ) (w : Written) (n : Node) (ids : List ℕ) (k 
     → (MayBeAt n (branch_place k id) → Holds out w (plain (in_branch (Some k) v))) → MayBeAt (Node.union ids) at → Holds out w (plain (in_branch at.branch (Value.union k v)))
 holds_union out w n ids k id at v none holds may =
     subst (λ (b : Option ℕ). Holds out w (plain (in_branch b (Value.union k v)))) (sym (may refl)) (holds (λ is. absurd (true≢false (sym is ∙ none))))
+
+-- the datum is in no union
+pub holds_alone : (out : List ℕ) (w : Written) (n : Node) (at : Place) (id : ℕ) (v : Value) → at ≡ alone id
+    → (MayBeAt n at → Holds out w (plain (in_branch at.branch v))) → Holds out w (plain v)
+holds_alone out w n at id v is stands =
+    let none : at.branch ≡ None = ap (λ (p : Place). p.branch) is in
+    subst (λ (b : Option ℕ). Holds out w (plain (in_branch b v))) none (stands (λ _. none))

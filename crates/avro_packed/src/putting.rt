@@ -54,8 +54,17 @@ fn append_datum(datum: &Datum, out: &mut Vec<u8>) -> Result<(), AllocError>
         Datum::Int(value) => append_int(value, out),
         Datum::Long(value) => append_long(value, out),
         Datum::Str(text) => append_measured(text.as_bytes(), out),
-        _ => append_plain(datum, out),
+        _ => append_whole(datum, out),
     }
+}
+
+/// Appends a datum at hand, whatever it is.
+#[inline(always)]
+fn append_whole(datum: &Datum, out: &mut Vec<u8>) -> Result<(), AllocError>
+    ensures appended { OnOk result (out.new.items ≡ out.old.items ++ plain (value_of datum.now)) }
+    ensures stays { (front : List ℕ) → Grows front out.old.items → Grows front out.new.items }
+{
+    append_plain(datum, out)
 }
 
 /// Appends an int at hand.

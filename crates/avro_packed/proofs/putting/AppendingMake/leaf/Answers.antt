@@ -7,6 +7,6 @@ use Rattle.avro_packed.proofs.putting.AppendingMake.leaf.Goals as goal
 
 pub returns-clause-stands : goal.returns-clause-stands
 returns-clause-stands c = λ nodes n fit may.
-    let v = leaf_value c.args.leaf.entry in
+    let v = leaf_value c.args.leaf in
     subst (λ (bytes : List ℕ). Holds c.since.new.self.bytes c.since.result bytes) (plain_in c.args.at.branch v)
     (c.since.ensures.holds c.args.self.now.bytes (branch_bytes c.args.at.branch ++ plain v) (grind (append_assoc, rules)) c.in_ok-start.ensures.start)
