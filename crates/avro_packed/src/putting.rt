@@ -167,12 +167,7 @@ impl Make for Appending {
     }
 
     #[inline(always)]
-    fn leaf(
-        &mut self,
-        _alloc: Global,
-        at: Place,
-        leaf: Leaf<'_>,
-    ) -> Result<Written, AllocError> {
+    fn leaf(&mut self, _alloc: Global, at: Place, leaf: Leaf<'_>) -> Result<Written, AllocError> {
         let start = self.begin(at.branch)?;
         append_leaf(leaf, &mut self.out)?;
         Ok(self.since(start))
