@@ -2,6 +2,7 @@
 use Rattle.std.proofs.Common.{◌≡◌, ℕ, List, ◌++◌, length, take, sym, ap, subst, ◌∙◌, append_assoc, length-append, arith, Bool, true, false, if◌then◌else◌}
 use Rattle.std.specs.Prelude.{Result, Ok, Err, OnOk, OnErr}
 use Rattle.std.proofs.lemmas.List.{take_at}
+use Rattle.avro_binary.specs.Growing.{grows_on}
 use Rattle.avro_binary.specs.Outputs.{Grows, StandsAt}
 
 -- what it had
@@ -31,3 +32,12 @@ kept_by (Err e) old out new bytes kept left same = subst (λ (l : List ℕ). Gro
 pub kept_behind : (b : Bool) (old mid new bytes more : List ℕ) → mid ≡ old ++ bytes → new ≡ (if b then mid ++ more else mid) → Grows old new
 kept_behind true old mid new bytes more left added = grows_by old new (bytes ++ more) (added ∙ ap (λ (l : List ℕ). l ++ more) left ∙ append_assoc old bytes more)
 kept_behind false old mid new bytes more left added = grows_by old new bytes (added ∙ left)
+
+-- what it had before that is still in front, where a call appends or leaves it as it was
+pub stays_by : {T E : Type 0} (r : Result T E) (old new bytes : List ℕ) → OnOk r (new ≡ old ++ bytes) → OnErr r (new ≡ old) → (front : List ℕ) → Grows front old → Grows front new
+stays_by (Ok u) old new bytes added same front kept = grows_on front old new kept (grows_by old new bytes added)
+stays_by (Err e) old new bytes added same front kept = subst (λ (l : List ℕ). Grows front l) (sym same) kept
+
+pub stays_if : (b : Bool) (old new bytes : List ℕ) → new ≡ (if b then old ++ bytes else old) → (front : List ℕ) → Grows front old → Grows front new
+stays_if true old new bytes added front kept = grows_on front old new kept (grows_by old new bytes added)
+stays_if false old new bytes added front kept = subst (λ (l : List ℕ). Grows front l) (sym added) kept

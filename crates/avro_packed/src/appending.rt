@@ -190,11 +190,7 @@ impl Appending {
     }
 
     /// The one block of items or entries, if there are any, and the end.
-    pub(crate) fn block(
-        &mut self,
-        alloc: Global,
-        gathered: Gathered,
-    ) -> Result<Written, AllocError>
+    pub(crate) fn block(&mut self, alloc: Global, gathered: Gathered) -> Result<Written, AllocError>
         ensures kept { OnOk result (Keeps self.old self.new) }
         ensures holds { (bytes : List ℕ) → Holds self.old.bytes gathered.written bytes
             → IfOk result (λ out. Holds self.new.bytes out (branch_bytes gathered.into ++ plain_blocks gathered.count bytes)) }

@@ -436,7 +436,8 @@ fn close(alloc: Global, spares: &mut Vec<Box<Apart>>, block: &mut Written) -> Re
 /// Appends a length, and the bytes.
 #[inline(always)]
 pub(crate) fn append_measured(content: &[u8], to: &mut Vec<u8>) -> Result<(), AllocError>
-    ensures { OnOk result (to.new.items ≡ to.old.items ++ plain_bytes content.now) }
+    ensures appended { OnOk result (to.new.items ≡ to.old.items ++ plain_bytes content.now) }
+    ensures stays { (front : List ℕ) → Grows front to.old.items → Grows front to.new.items }
 {
     append_number(content.len() as i64, to)?;
     to.extend_from_slice(content)

@@ -1,41 +1,102 @@
 //! Appending the plain encodings of what data are for a reader.
 
+ghost use Rattle.std.specs.Prelude.{◌≡◌, ◌++◌, ℕ, List, OnOk};
+ghost use Rattle.avro_schema.specs.Seen.{value_of};
+ghost use Rattle.avro_zigzag.specs.Number.{number_bytes};
+ghost use Rattle.avro_cursor.specs.Encoding.{plain};
+ghost use Rattle.avro_binary.specs.LeafValue.{leaf_value};
+ghost use Rattle.avro_binary.specs.Outputs.{Grows};
+
 use crate::appending::Appending;
 use crate::gathered::Gathered;
-use crate::moving::{is_nothing, join, join_key, join_near};
+use crate::moving::{append_measured, is_nothing, join, join_key, join_near};
+use crate::numbers::{append_byte, append_number};
 use crate::spares::{give_list, list};
 use crate::written::Written;
 use avro_binary::{Leaf, Make, Place, append_plain};
 use avro_schema::{Datum, NodeId};
 use std::alloc::{AllocError, Global};
 
+/// Appends a datum without parts.
+#[inline(always)]
+fn append_leaf(leaf: Leaf<'_>, out: &mut Vec<u8>) -> Result<(), AllocError>
+    ensures appended { OnOk result (out.new.items ≡ out.old.items ++ plain (leaf_value leaf.entry)) }
+    ensures stays { (front : List ℕ) → Grows front out.old.items → Grows front out.new.items }
+{
+    match leaf {
+        Leaf::Null => Ok(()),
+        Leaf::Boolean(value) => append_byte(u8::from(value), out),
+        Leaf::Int(value) => append_number(i64::from(value), out),
+        Leaf::Long(value) => append_number(value, out),
+        Leaf::Bytes(content) => append_measured(content, out),
+        Leaf::Text(text) => append_measured(text.as_bytes(), out),
+        Leaf::Fixed(content) => append_bytes(content, out),
+        Leaf::Symbol(index) => append_number(i64::from(index), out),
+    }
+}
+
+/// Appends bytes at hand.
+#[inline(always)]
+fn append_bytes(content: &[u8], out: &mut Vec<u8>) -> Result<(), AllocError>
+    ensures appended { OnOk result (out.new.items ≡ out.old.items ++ content.now) }
+    ensures stays { (front : List ℕ) → Grows front out.old.items → Grows front out.new.items }
+{
+    out.extend_from_slice(content)
+}
+
+/// Appends a datum at hand.
+#[inline(always)]
+fn append_datum(datum: &Datum, out: &mut Vec<u8>) -> Result<(), AllocError>
+    ensures appended { OnOk result (out.new.items ≡ out.old.items ++ plain (value_of datum.now)) }
+    ensures stays { (front : List ℕ) → Grows front out.old.items → Grows front out.new.items }
+{
+    match datum {
+        Datum::Int(value) => append_int(value, out),
+        Datum::Long(value) => append_long(value, out),
+        Datum::Str(text) => append_measured(text.as_bytes(), out),
+        _ => append_whole(datum, out),
+    }
+}
+
+/// Appends a datum at hand, whatever it is.
+#[inline(always)]
+fn append_whole(datum: &Datum, out: &mut Vec<u8>) -> Result<(), AllocError>
+    ensures appended { OnOk result (out.new.items ≡ out.old.items ++ plain (value_of datum.now)) }
+    ensures stays { (front : List ℕ) → Grows front out.old.items → Grows front out.new.items }
+{
+    append_plain(datum, out)
+}
+
+/// Appends an int at hand.
+#[inline(always)]
+fn append_int(value: &i32, out: &mut Vec<u8>) -> Result<(), AllocError>
+    ensures appended { OnOk result (out.new.items ≡ out.old.items ++ number_bytes value.now) }
+    ensures stays { (front : List ℕ) → Grows front out.old.items → Grows front out.new.items }
+{
+    append_number(i64::from(*value), out)
+}
+
+/// Appends a long at hand.
+#[inline(always)]
+fn append_long(value: &i64, out: &mut Vec<u8>) -> Result<(), AllocError>
+    ensures appended { OnOk result (out.new.items ≡ out.old.items ++ number_bytes value.now) }
+    ensures stays { (front : List ℕ) → Grows front out.old.items → Grows front out.new.items }
+{
+    append_number(*value, out)
+}
+
 impl Appending {
-    ghost use Rattle.std.specs.Prelude.{◌++◌, ℕ, List, IfOk, OnOk};
-    ghost use Rattle.avro_schema.specs.Seen.{value_of};
-    ghost use Rattle.avro_cursor.specs.Encoding.{plain};
-    ghost use Rattle.avro_binary.specs.Outputs.{Grows};
+    ghost use Rattle.std.specs.Prelude.{IfOk};
     ghost use Rattle.avro_packed.specs.Appended.{Holds, Keeps, branch_bytes};
 
-    /// Writes a datum at hand.
-    fn whole(&mut self, branch: Option<u32>, datum: &Datum) -> Result<Written, AllocError>
-        ensures kept { OnOk result (Keeps self.old self.new) }
-        ensures holds { IfOk result (λ out. Holds self.new.bytes out (branch_bytes branch ++ plain (value_of datum.now))) }
-        ensures stays { (front : List ℕ) → Grows front self.old.bytes → Grows front self.new.bytes }
-    {
-        let start = self.begin(branch)?;
-        append_plain(datum, &mut self.out)?;
-        Ok(self.since(start))
-    }
-
-    /// Writes bytes at hand.
+    /// Writes the index of a branch, if there is one, and nothing behind it.
     #[inline(always)]
-    fn copy_of(&mut self, branch: Option<u32>, content: &[u8]) -> Result<Written, AllocError>
+    fn begun(&mut self, branch: Option<u32>) -> Result<Written, AllocError>
         ensures kept { OnOk result (Keeps self.old self.new) }
-        ensures holds { IfOk result (λ out. Holds self.new.bytes out (branch_bytes branch ++ content.now)) }
+        ensures holds { IfOk result (λ out. Holds self.new.bytes out (branch_bytes branch)) }
         ensures stays { (front : List ℕ) → Grows front self.old.bytes → Grows front self.new.bytes }
     {
         let start = self.begin(branch)?;
-        self.out.extend_from_slice(content)?;
         Ok(self.since(start))
     }
 }
@@ -101,28 +162,15 @@ impl Make for Appending {
 
     #[inline(always)]
     fn empty(&mut self, _alloc: Global, at: Place) -> Result<Option<Written>, AllocError> {
-        let start = self.begin(at.branch)?;
-        Ok(Some(self.since(start)))
+        let begun = self.begun(at.branch)?;
+        Ok(Some(begun))
     }
 
     #[inline(always)]
-    fn leaf(
-        &mut self,
-        _alloc: Global,
-        at: Place,
-        leaf: Leaf<'_>,
-    ) -> Result<Written, AllocError> {
-        let into = at.branch;
-        match leaf {
-            Leaf::Null => self.copy_of(into, &[]),
-            Leaf::Boolean(value) => self.copy_of(into, &[u8::from(value)]),
-            Leaf::Int(value) => self.number(into, i64::from(value)),
-            Leaf::Long(value) => self.number(into, value),
-            Leaf::Bytes(content) => self.measured(into, content),
-            Leaf::Text(text) => self.measured(into, text.as_bytes()),
-            Leaf::Fixed(content) => self.copy_of(into, content),
-            Leaf::Symbol(index) => self.number(into, i64::from(index)),
-        }
+    fn leaf(&mut self, _alloc: Global, at: Place, leaf: Leaf<'_>) -> Result<Written, AllocError> {
+        let start = self.begin(at.branch)?;
+        append_leaf(leaf, &mut self.out)?;
+        Ok(self.since(start))
     }
 
     #[inline(always)]
@@ -147,13 +195,9 @@ impl Make for Appending {
         at: Place,
         datum: &Datum,
     ) -> Result<Option<Written>, AllocError> {
-        let written = match datum {
-            Datum::Int(value) => self.number(at.branch, i64::from(*value))?,
-            Datum::Long(value) => self.number(at.branch, *value)?,
-            Datum::Str(text) => self.measured(at.branch, text.as_bytes())?,
-            _ => self.whole(at.branch, datum)?,
-        };
-        Ok(Some(written))
+        let start = self.begin(at.branch)?;
+        append_datum(datum, &mut self.out)?;
+        Ok(Some(self.since(start)))
     }
 
     #[inline(always)]
@@ -163,8 +207,9 @@ impl Make for Appending {
         at: Place,
         content: &[u8],
     ) -> Result<Option<Written>, AllocError> {
-        let copied = self.copy_of(at.branch, content)?;
-        Ok(Some(copied))
+        let start = self.begin(at.branch)?;
+        append_bytes(content, &mut self.out)?;
+        Ok(Some(self.since(start)))
     }
 
     #[inline(always)]
@@ -249,7 +294,7 @@ impl Make for Appending {
     fn fields(&mut self, _alloc: Global, at: Place) -> Result<Written, AllocError> {
         match at.branch {
             None => Ok(self.here()),
-            Some(_) => self.copy_of(at.branch, &[]),
+            Some(_) => self.begun(at.branch),
         }
     }
 

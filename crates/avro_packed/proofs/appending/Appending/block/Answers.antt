@@ -12,7 +12,7 @@ pub returns-in_ok-head-in-Ok-clause-holds : goal.returns-in_ok-head-in-Ok-clause
 returns-in_ok-head-in-Ok-clause-holds c = λ bytes holds.
     let old = c.args.self.now.bytes in
     let new = c.number.new.self.bytes in
-    let front = branch_bytes c.args.branch in
+    let front = branch_bytes c.args.gathered.into in
     let k = number_bytes (pos c.args.gathered.count) in
     let fits : FitsSigned w64 c.in-Ok.count = search rules in
     let named : c.in-Ok.count ≡ pos c.args.gathered.count = search rules in

@@ -1,0 +1,16 @@
+use Rattle.std.proofs.Common.{List, ℕ, subst}
+use Rattle.std.specs.Prelude.{IfOk}
+use Rattle.avro_schema.specs.Node.{Node}
+use Rattle.avro_schema.specs.Seen.{entries_from}
+use Rattle.avro_schema.specs.Value.{Value}
+use Rattle.avro_cursor.specs.Encoding.{plain_entries}
+use Rattle.avro_packed.specs.Appended.{Holds}
+use Rattle.avro_packed.proofs.Gathering.{block_of_entries}
+use Rattle.avro_packed.proofs.IntoBranches.{holds_at}
+use Rattle.avro_packed.proofs.putting.AppendingMake.map.Goals as goal
+
+pub returns-clause-stands : goal.returns-clause-stands
+returns-clause-stands c = λ nodes id at es are.
+    holds_at c.block.result c.block.new.self.bytes (Node.map_of id) at (Value.map_of (entries_from es))
+    (subst (λ (bytes : List ℕ). IfOk c.block.result (λ out. Holds c.block.new.self.bytes out bytes)) (block_of_entries c.args.self.now.bytes at.branch c.args.entries es are.0 are.1)
+    (c.block.ensures.holds (plain_entries (entries_from es)) are.1.1))
