@@ -1,18 +1,19 @@
 -- The lines of data, one after another, as they are held and put.
-use Rattle.std.proofs.Common.{◌≡◌, ℕ, suc, ◌+◌, ◌<◌, ◌≤◌, false, List, [], ◌++◌, length, take, drop, refl, sym, ap, subst, ◌∙◌, arith, append_assoc, append-nil}
+use Rattle.std.proofs.Common.{◌≡◌, ℕ, suc, ◌+◌, ◌<◌, ◌≤◌, false, List, [], ◌++◌, length, take, drop, inl, inr, refl, sym, ap, subst, ◌∙◌, arith, append_assoc, append-nil}
 use Rattle.std.proofs.Math.Seq.{take-add}
-use Rattle.std.proofs.lemmas.List.{length-drop, take-append-drop}
+use Rattle.std.specs.List.{concat}
+use Rattle.std.proofs.lemmas.List.{length-drop, take_all, take_at, take-append-drop}
 use Rattle.avro_schema.specs.Node.{Node}
-use Rattle.avro_schema.specs.Value.{Value, Values}
+use Rattle.avro_schema.specs.Value.{Value, Values, no_values}
 use Rattle.avro_display.specs.Pieces.{PutsText}
 use Rattle.avro_display.proofs.public.Putting.{puts_both}
 use Rattle.avro_file.specs.BlockFails.{BlockReading, DataAreWhole}
-use Rattle.avro_file.proofs.public.Data.{add, not_copied, whole-more}
+use Rattle.avro_file.proofs.public.Data.{add, not_copied, whole-more, whole-none}
 use Rattle.avro_file.proofs.public.Known.{Prefix}
-use Rattle.avro_lines.specs.Lines.{line_of}
-use Rattle.avro_lines.specs.inside.DataShown.{HasShown, HoldsMore, HoldsNext, PutsPart, Stands, first_of, text_of}
-use Rattle.avro_lines.proofs.Firsts.{first-split, lines-first, next-stands, text-add}
-use Rattle.avro_lines.proofs.Parts.{part-after, part-longer, part-out, puts-more, puts-out}
+use Rattle.avro_lines.specs.Lines.{line_of, lines_of}
+use Rattle.avro_lines.specs.inside.DataShown.{HasShown, HoldsMore, HoldsNext, PutsPart, ShowsFirst, ShowsPart, Stands, first_of, text_of}
+use Rattle.avro_lines.proofs.Firsts.{first-split, lines-count, lines-first, made-count, text-add}
+use Rattle.avro_lines.proofs.Parts.{part-longer, part-out, part-still, puts-more, puts-out, puts-still}
 
 -- one datum more is whole
 pub whole-next : (r : BlockReading) (done start len : ℕ) (body : List ℕ) (us : Values) (u : Value) → r.copied ≡ false
@@ -50,6 +51,17 @@ holds-more r nodes some done start len body before text after alone had next =
       held = next.held ∙ ap (λ (b : List ℕ). b ++ line) had.held ∙ append_assoc before had.more line;
     }
 
+-- what was held before is cut off again
+pub cut-off : (r : BlockReading) (nodes : List Node) (some : Values) (done count : ℕ) (front before after : List ℕ) → count ≡ length before
+    → HoldsMore r nodes some done front before after → take count after ≡ before
+cut-off r nodes some done count front before after is had = ap (take count) had.held ∙ take_at before had.more count (sym is)
+
+-- all lines of data that are all of a block
+whole-first : (r : BlockReading) (nodes : List Node) (count : ℕ) (body : List ℕ) (made : Values) → DataAreWhole r count body made → text_of nodes made ≡ first_of nodes count made
+whole-first r nodes count body made whole =
+    let all : length (lines_of nodes made) ≡ count = lines-count nodes made ∙ made-count r.resolve whole.values made whole.resolved ∙ whole.counted in
+    ap concat (sym (take_all count (lines_of nodes made) (omega (arith, all))))
+
 module _ {O : Type 0} (keeps : O → List ℕ → O → Type 0) where
   -- more lines are held
   pub shown-held : (r : BlockReading) (nodes : List Node) (some : Values) (done : ℕ) (front : List ℕ) (s t : O) (held left after : List ℕ)
@@ -59,6 +71,16 @@ module _ {O : Type 0} (keeps : O → List ℕ → O → Type 0) where
     whole = more.whole;
     puts = subst (λ (b : List ℕ). PutsText keeps s held b t after) (sym more.lines) (puts-more keeps s t held (text_of nodes some) left more.more after puts more.held);
   }
+
+  -- nothing is shown of a block
+  pub shown-none : ((s : O) → keeps s [] s) → (r : BlockReading) (nodes : List Node) (all count : ℕ) (body : List ℕ) (s : O) (held left : List ℕ) → left ≡ held
+      → ShowsPart keeps r nodes all count body s held s left
+  shown-none none r nodes all count body s held left same = record { bytes = []; puts = part-still keeps none s held [] left same; are = inl refl }
+
+  -- the lines that are held of a block's first data
+  pub shown-first : ((s : O) → keeps s [] s) → (r : BlockReading) (nodes : List Node) (done : ℕ) (front : List ℕ) (s : O) (held after : List ℕ)
+      → HoldsMore r nodes no_values done front held after → HasShown keeps r nodes done front s held s after
+  shown-first none r nodes done front s held after more = shown-held r nodes no_values done front s s held held after (puts-still keeps none s held held refl) more
 
   module _ (chain : (s t u : O) (front back : List ℕ) → keeps s front t → keeps t back u → keeps s (front ++ back) u) where
     -- the line of the next datum was put, and more are held
@@ -105,3 +127,27 @@ module _ {O : Type 0} (keeps : O → List ℕ → O → Type 0) where
         let first = subst (λ (b : List ℕ). PutsPart keeps s held b t left) (sym (text-add nodes made u) ∙ lines) part in
         subst (λ (b : List ℕ). PutsPart keeps s held b t left) (sym (first-split nodes (done + 1) count us fewer))
         (part-longer keeps s t held (first_of nodes (done + 1) us) _ left first)
+
+    -- all of a block is shown
+    pub shown-whole : (r : BlockReading) (nodes : List Node) (count done start : ℕ) (body : List ℕ) (s t v : O) (held text left : List ℕ) → done ≡ count → start ≡ length body
+        → HasShown keeps r nodes done (take start body) s held t text → PutsText keeps t text [] v left → ShowsFirst keeps r nodes count count body s held v left
+    shown-whole r nodes count done start body s t v held text left same all had out =
+        let front : take start body ≡ body = ap (λ (n : ℕ). take n body) all ∙ take_all (length body) body (omega arith) in
+        let whole = subst (λ (n : ℕ). DataAreWhole r n body had.made) same (subst (λ (b : List ℕ). DataAreWhole r done b had.made) front had.whole) in
+        record {
+          made = had.made;
+          whole = whole;
+          puts = subst (λ (b : List ℕ). PutsText keeps s held b v left) (whole-first r nodes count body had.made whole)
+              (puts-out keeps chain s t v held (text_of nodes had.made) text left had.puts out);
+        }
+
+    pub shown-whole-part : (r : BlockReading) (nodes : List Node) (count done start : ℕ) (body : List ℕ) (s t v : O) (held text left : List ℕ) → done ≡ count → start ≡ length body
+        → HasShown keeps r nodes done (take start body) s held t text → PutsPart keeps t text [] v left → ShowsPart keeps r nodes count count body s held v left
+    shown-whole-part r nodes count done start body s t v held text left same all had out =
+        let front : take start body ≡ body = ap (λ (n : ℕ). take n body) all ∙ take_all (length body) body (omega arith) in
+        let whole = subst (λ (n : ℕ). DataAreWhole r n body had.made) same (subst (λ (b : List ℕ). DataAreWhole r done b had.made) front had.whole) in
+        record {
+          bytes = text_of nodes had.made;
+          puts = part-out keeps chain s t v held (text_of nodes had.made) text left had.puts out;
+          are = inr (had.made, whole, whole-first r nodes count body had.made whole);
+        }

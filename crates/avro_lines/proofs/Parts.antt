@@ -10,6 +10,13 @@ module _ {O : Type 0} (keeps : O → List ℕ → O → Type 0) where
   pub puts-all : (s t : O) (held left : List ℕ) → keeps s held t → left ≡ [] → PutsText keeps s held [] t left
   puts-all s t held left kept none = (held, kept, ap (λ (b : List ℕ). held ++ b) (sym none))
 
+  -- all was put, and none
+  pub front-all : (s t : O) (bytes : List ℕ) → keeps s bytes t → PutsFrontOf keeps s t bytes
+  front-all s t bytes kept = record { front = bytes; later = []; kept = kept; split = sym (append-nil bytes) }
+
+  pub front-none : ((s : O) → keeps s [] s) → (s : O) (bytes : List ℕ) → PutsFrontOf keeps s s bytes
+  front-none none s bytes = record { front = []; later = bytes; kept = none s; split = refl }
+
   -- a prefix was put, and nothing is held
   pub part-front : (s t : O) (held bytes left : List ℕ) → PutsFrontOf keeps s t (held ++ bytes) → left ≡ [] → PutsPart keeps s held bytes t left
   part-front s t held bytes left f none =
@@ -47,6 +54,10 @@ module _ {O : Type 0} (keeps : O → List ℕ → O → Type 0) where
   )
 
   module _ (chain : (s t u : O) (front back : List ℕ) → keeps s front t → keeps t back u → keeps s (front ++ back) u) where
+    -- bytes were put, and then none
+    pub put-then : (s t u : O) (bytes : List ℕ) → keeps s bytes t → keeps t [] u → keeps s bytes u
+    put-then s t u bytes put none = subst (λ (b : List ℕ). keeps s b u) (append-nil bytes) (chain s t u bytes [] put none)
+
     -- what is held goes out
     pub puts-out : (s t u : O) (held bytes text left : List ℕ) → PutsText keeps s held bytes t text → PutsText keeps t text [] u left
         → PutsText keeps s held bytes u left

@@ -65,9 +65,11 @@ fn show_part<O: Output>(
 {
     match walk(opened, block) {
         Ok(()) => {
+            let body = block.body();
+            let all = block.count();
             let front = Reached { done: 0, start: 0 };
-            let to = hold_lines(&mut *lines, opened, block.body(), front, count);
-            show_rest(output, lines, opened, block, to, count)?;
+            let to = hold_lines(&mut *lines, opened, body, front, count);
+            show_rest(output, lines, opened, body, all, to, count)?;
             Ok(())
         }
         Err(error) => Err(error),
@@ -98,16 +100,17 @@ fn show_whole<O: Output>(
     ensures error { IfErr result (λ e. file_fault e ≡ None → (e ≡ CopyError.OutputFailed) ⊎ (e ≡ CopyError.OutOfMemory)) }
 {
     let held = lines.text.len();
+    let body = block.body();
     let count = block.count();
     let front = Reached { done: 0, start: 0 };
-    let to = hold_lines(&mut *lines, opened, block.body(), front, count);
-    if to.done == count && to.start == block.body().len() {
+    let to = hold_lines(&mut *lines, opened, body, front, count);
+    if to.done == count && to.start == body.len() {
         put_long(output, lines)?;
         return Ok(());
     }
     match walk(opened, block) {
         Ok(()) => {
-            show_rest(output, lines, opened, block, to, count)?;
+            show_rest(output, lines, opened, body, count, to, count)?;
             Ok(())
         }
         Err(error) => {

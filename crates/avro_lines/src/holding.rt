@@ -106,8 +106,9 @@ pub(crate) fn put_before<O: Output>(
     ensures put { result ≢ CopyError.OutputFailed → O.keeps output.old lines.old.text output.new }
     ensures front { PutsFrontOf O.keeps output.old output.new lines.old.text }
     ensures told { result ≢ CopyError.OutputFailed → result ≡ error }
-    ensures failed { error ≡ CopyError.OutputFailed → output.new ≡ output.old }
-    ensures fails { result ≡ CopyError.OutputFailed → error ≢ CopyError.OutputFailed → (O.failures output.new ≢ O.failures output.old) ⊎ O.stuck output.new }
+    ensures either { (result ≡ error) ⊎ (result ≡ CopyError.OutputFailed) }
+    ensures fails { result ≡ CopyError.OutputFailed → ((error ≡ CopyError.OutputFailed) × (output.new ≡ output.old))
+        ⊎ ((error ≢ CopyError.OutputFailed) × ((O.failures output.new ≢ O.failures output.old) ⊎ O.stuck output.new)) }
 {
     if error == CopyError::OutputFailed {
         return error;

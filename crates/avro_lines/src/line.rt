@@ -77,6 +77,7 @@ fn display(room: &mut Room, opened: &Opened<'_>, bytes: &[u8]) -> Option<usize>
 /// Holds the line of the datum at the front of bytes, and returns the length of its encoding. None, and nothing is held, if the
 /// line is long, the bytes have a fault, or the reader takes no such datum.
 pub(crate) fn hold_line(lines: &mut Lines, opened: &Opened<'_>, bytes: &[u8]) -> Option<usize>
+    ensures inside { IfSome result (λ len. len ≤ length bytes.now) }
     ensures holds { IfSome result (λ len. HoldsNext (reading_for opened.now) (shown_for opened.now) bytes.now len lines.old.text lines.new.text) }
     ensures kept { IfNone result (lines.new.text ≡ lines.old.text) }
 {

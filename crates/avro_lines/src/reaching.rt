@@ -14,7 +14,7 @@ use crate::line::{hold_line, put_read};
 use crate::task::Opened;
 use avro_binary::laws::prefix;
 use avro_device::Output;
-use avro_file::{Block, CopyError};
+use avro_file::CopyError;
 
 /// The most text that is held where more may follow.
 const MOST: usize = 1_048_576;
@@ -94,7 +94,7 @@ fn put_more<O: Output>(
     Ok(hold_lines(lines, opened, body, next, count))
 }
 
-/// Shows the data of a block from a place on, up to a number of data. The block was walked over.
+/// Shows the data of a block from a place on, up to a number of data of all. The block was walked over.
 ///
 /// # Errors
 ///
@@ -103,24 +103,24 @@ pub(crate) fn show_rest<O: Output>(
     output: &mut O,
     lines: &mut Lines,
     opened: &Opened<'_>,
-    block: &Block<'_>,
+    body: &[u8],
+    all: u32,
     from: Reached,
     count: u32,
 ) -> Result<(), CopyError>
-    requires inside { from.start ≤ length block.now.body.items }
-    requires few { (from.done ≤ count) × (count ≤ block.now.count) }
-    ensures shown { (first : O) (held : List ℕ) (all : Values) → DataAreWhole (reading_for opened.now) block.now.count block.now.body.items all
-        → HasShown O.keeps (reading_for opened.now) (shown_for opened.now) from.done (take from.start block.now.body.items) first held output.old lines.old.text
-        → OnOk result (PutsText O.keeps first held (first_of (shown_for opened.now) count all) output.new lines.new.text) }
-    ensures part { (first : O) (held : List ℕ) (all : Values) → DataAreWhole (reading_for opened.now) block.now.count block.now.body.items all
-        → HasShown O.keeps (reading_for opened.now) (shown_for opened.now) from.done (take from.start block.now.body.items) first held output.old lines.old.text
-        → OnErr result (PutsPart O.keeps first held (first_of (shown_for opened.now) count all) output.new lines.new.text) }
+    requires inside { from.start ≤ length body.now }
+    requires few { (from.done ≤ count) × (count ≤ all) }
+    ensures shown { (first : O) (held : List ℕ) (made : Values) → DataAreWhole (reading_for opened.now) all body.now made
+        → HasShown O.keeps (reading_for opened.now) (shown_for opened.now) from.done (take from.start body.now) first held output.old lines.old.text
+        → OnOk result (PutsText O.keeps first held (first_of (shown_for opened.now) count made) output.new lines.new.text) }
+    ensures part { (first : O) (held : List ℕ) (made : Values) → DataAreWhole (reading_for opened.now) all body.now made
+        → HasShown O.keeps (reading_for opened.now) (shown_for opened.now) from.done (take from.start body.now) first held output.old lines.old.text
+        → OnErr result (PutsPart O.keeps first held (first_of (shown_for opened.now) count made) output.new lines.new.text) }
     ensures works { result ≢ Err CopyError.OutputFailed → O.failures output.new ≡ O.failures output.old }
     ensures fails { result ≡ Err CopyError.OutputFailed → (O.failures output.new ≢ O.failures output.old) ⊎ O.stuck output.new }
     ensures error { IfErr result (λ e. (e ≡ CopyError.OutputFailed) ⊎ (e ≡ CopyError.OutOfMemory)) }
 {
     prefix();
-    let body = block.body();
     let mut to = from;
     while to.done < count {
         to = put_more(&mut *output, &mut *lines, opened, body, to, count)?;

@@ -2,6 +2,7 @@
 
 ghost use Rattle.std.specs.Prelude.{◌≡◌, ◌≢◌, ◌⊎◌, ◌+◌, ◌≤◌, ℕ, List, [], true, false, length, take, Some, Err, IfOk, IfNone, IfSome, OnOk, OnErr};
 ghost use Rattle.std.specs.Result.{IfErr};
+ghost use Rattle.avro_file.specs.BlockFails.{max_blocks};
 ghost use Rattle.avro_file.specs.FileFault.{FileFault};
 ghost use Rattle.avro_file.specs.FileSeen.{file_fault};
 ghost use Rattle.avro_file.specs.Named.{IsNamed};
@@ -71,6 +72,7 @@ fn show_next<I: Input, O: Output>(
     requires goes_on { (blocks.old.failed ≡ false) × (blocks.old.ended ≡ false) }
     requires same { (blocks.old.header.now ≡ opened.now.header.now) × (blocks.old.limits ≡ opened.now.task.now.limits) }
     requires marker { length opened.now.header.now.sync ≡ 16 }
+    requires few { blocks.old.number ≤ max_blocks }
     ensures found { IfOk result (λ found. IfSome found (λ count. Moved I.gives O.keeps input.old input.new output.old output.new
         (ShowsNext (limits_for opened.now) (reader_for opened.now) (header_for opened.now) left blocks.old.number count lines.old.text lines.new.text))) }
     ensures none { IfOk result (λ found. IfNone found (I.gives input.old [] input.new)) }
@@ -92,9 +94,10 @@ fn show_next<I: Input, O: Output>(
 {
     match blocks.next(input)? {
         Some(block) => {
-            let count = wanted_of(left, block.count());
-            show_block(output, lines, opened, &block, count)?;
-            Ok(Some(block.count()))
+            let count = block.count();
+            let wanted = wanted_of(left, count);
+            show_block(output, lines, opened, &block, wanted)?;
+            Ok(Some(count))
         }
         None => Ok(None),
     }
