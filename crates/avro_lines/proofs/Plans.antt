@@ -19,7 +19,7 @@ planned-said P schema (Some r) plan e said =
 pub alone-said : (P : List Node → Option (List Node) → Type 0) (schema : Schema) (reader : Option Schema) → None ≡ option_map (λ r. (schema, r)) reader
     → P (schema_nodes schema) None → P (schema_nodes schema) (option_map schema_nodes reader)
 alone-said P schema None e said = said
-alone-said P schema (Some r) e said = absurd (none-some (schema, r) e)
+alone-said P schema (Some r) e said = let pair : Schema × Schema = (schema, r) in absurd (none-some pair e)
 
 -- the schema that is shown
 pub table-planned : (schema table : Schema) (reader : Option Schema) (plan : Schema × Schema) → Some plan ≡ option_map (λ r. (schema, r)) reader
@@ -30,7 +30,7 @@ table-planned schema table (Some r) plan e shown = ap schema_nodes (shown ∙ ap
 pub table-alone : (schema table : Schema) (reader : Option Schema) → None ≡ option_map (λ r. (schema, r)) reader → table ≡ unwrap_or reader schema
     → schema_nodes table ≡ schema_nodes schema
 table-alone schema table None e shown = ap schema_nodes shown
-table-alone schema table (Some r) e shown = absurd (none-some (schema, r) e)
+table-alone schema table (Some r) e shown = let pair : Schema × Schema = (schema, r) in absurd (none-some pair e)
 
 pub table-shown : (schema table : Schema) (reader : Option Schema) → table ≡ unwrap_or reader schema
     → schema_nodes table ≡ read_nodes (schema_nodes schema) (option_map schema_nodes reader)

@@ -57,7 +57,10 @@ fn display_planned(
 {
     match display_resolved(alloc, &plan.by_ref(), table, bytes, limits, room) {
         Ok(len) => Some(len),
-        Err(_) => None,
+        Err(error) => {
+            drop(error);
+            None
+        }
     }
 }
 

@@ -10,8 +10,8 @@ use Rattle.avro_lines.proofs.Helds.{cut-off, shown-first, shown-none, shown-whol
 use Rattle.avro_lines.proofs.Parts.{puts-still}
 use Rattle.avro_lines.proofs.block.show_whole.Goals as goal
 
-pub returns-in_ok-put_long-clause-shown : goal.returns-in_ok-put_long-clause-shown
-returns-in_ok-put_long-clause-shown g c =
+pub returns-then-to-body-clause-shown : goal.returns-then-to-body-clause-shown
+returns-then-to-body-clause-shown g c =
     let r = reading_for c.args.opened.now in
     let nodes = shown_for c.args.opened.now in
     let block = c.args.block.now in

@@ -9,9 +9,9 @@ use Rattle.avro_lines.proofs.reaching.hold_lines.Given as goal
 abbrev pub invariant-loop-done : goal.invariant-loop-done
 invariant-loop-done l =
     (l.start ≤ length l.body)
-    × (l.from.done ≤ l.done)
+    × (l.fn.from.done ≤ l.done)
     × (l.done ≤ l.count)
-    × ((some : Values) → DataAreWhole (reading_for l.opened) l.from.done (take l.from.start l.body) some
+    × ((some : Values) → DataAreWhole (reading_for l.opened) l.fn.from.done (take l.fn.from.start l.body) some
     → HoldsMore (reading_for l.opened) (shown_for l.opened) some l.done (take l.start l.body) l.initial.lines.text l.lines.text)
 
 abbrev pub decreases-loop-done : goal.decreases-loop-done

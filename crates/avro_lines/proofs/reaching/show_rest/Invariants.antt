@@ -11,7 +11,7 @@ invariant-loop-to g l =
     (l.to.start ≤ length l.body)
     × (l.to.done ≤ l.count)
     × ((made : Values) → DataAreWhole (reading_for l.opened) l.all l.body made
-    → Continues g.O.Output.keeps (reading_for l.opened) (shown_for l.opened) l.from.done (take l.from.start l.body) l.initial.output l.initial.lines.text
+    → Continues g.O.Output.keeps (reading_for l.opened) (shown_for l.opened) l.fn.from.done (take l.fn.from.start l.body) l.initial.output l.initial.lines.text
     l.to.done (take l.to.start l.body) l.output l.lines.text)
     × (g.O.Output.failures l.output ≡ g.O.Output.failures l.initial.output)
 

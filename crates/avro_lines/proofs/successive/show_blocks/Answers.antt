@@ -1,6 +1,7 @@
 -- Each block is shown after those before it.
 use Rattle.std.proofs.Common.{◌≡◌, ◌≢◌, ◌+◌, ℕ, Option, Some, ap, sym, subst, ◌∙◌, refl, arith, rules}
 use Rattle.std.proofs.lemmas.Result.{err_from_is_err_and}
+use Rattle.avro_file.proofs.public.Small.{ok_err}
 use Rattle.avro_container.specs.Moved.{Moved}
 use Rattle.avro_display.proofs.public.Fronts.{on_any_err}
 use Rattle.avro_lines.specs.inside.BlocksShown.{Leaves, ShowsBlocks}
@@ -45,7 +46,7 @@ loop-left-preserved g c =
           (subst (λ (left : Option ℕ). Moved g.I.Input.gives g.O.Output.keeps c.args.input.now c.show_next.new.input c.args.output.now c.show_next.new.output
           (ShowsBlocks limits reader h c.args.limit (Leaves c.args.limit (l.blocks.number + 1) left) c.show_next.new.lines.text)) (sym c.left_after.ensures) one);
       takes = step.input_works ∙ inv.takes;
-      puts = search rules;
+      puts = step.output_works (ok_err _ _ _) ∙ inv.puts;
       header = ap (λ r. r.now) step.kept.0 ∙ inv.header;
       limits = step.kept.1 ∙ inv.limits;
       failed = (rw c.in-Some.is at step.more).0;
