@@ -1,5 +1,5 @@
 -- Data that are whole at the front of a block are the first of all of them, and the next one stands behind them.
-use Rattle.std.proofs.Common.{◌≡◌, ℕ, suc, ◌+◌, ◌<◌, ◌≤◌, true, List, [], ◌∷◌, ◌++◌, length, take, drop, Ok, refl, sym, ap, subst, ◌∙◌, arith, append_assoc, append-nil, length-append}
+use Rattle.std.proofs.Common.{◌≡◌, ℕ, zero, suc, ◌+◌, ◌<◌, ◌≤◌, true, List, [], ◌∷◌, ◌++◌, length, take, drop, Ok, refl, sym, ap, subst, ◌∙◌, arith, append_assoc, append-nil, length-append}
 use Rattle.std.specs.List.{concat}
 use Rattle.std.proofs.lemmas.Bool.{and_parts}
 use Rattle.std.proofs.lemmas.List.{take_at, take-append-drop}
@@ -36,8 +36,8 @@ text-add nodes us u =
     ∙ ap (λ (b : List ℕ). text_of nodes us ++ b) (append-nil (line_of nodes u))
 
 take_first : (m n : ℕ) (ls : List (List ℕ)) → m ≤ n → take m (take n ls) ≡ take m ls
-take_first 0 n ls few = refl
-take_first (suc m) 0 ls few = absurd (omega (arith, few))
+take_first zero n ls few = refl
+take_first (suc m) zero ls few = absurd (omega (arith, few))
 take_first (suc m) (suc n) [] few = refl
 take_first (suc m) (suc n) (l ∷ ls) few = ap (λ (q : List (List ℕ)). l ∷ q) (take_first m n ls (omega (arith, few)))
 

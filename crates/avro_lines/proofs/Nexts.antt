@@ -1,5 +1,5 @@
 -- The next block: it is shown, or a part of it, or refused.
-use Rattle.std.proofs.Common.{◌≡◌, ℕ, pos, ◌+◌, ◌<◌, ◌≤◌, List, [], ◌∷◌, ◌++◌, length, take, drop, suc, Option, Some, None, ⊎_elim, refl, sym, ap, subst, ◌∙◌, arith, append-nil, length-append}
+use Rattle.std.proofs.Common.{◌≡◌, ℕ, zero, pos, ◌+◌, ◌<◌, ◌≤◌, List, [], ◌∷◌, ◌++◌, length, take, drop, suc, Option, Some, None, ⊎_elim, refl, sym, ap, subst, ◌∙◌, arith, append-nil, length-append}
 use Rattle.std.specs.Prelude.{◌⊎◌}
 use Rattle.std.specs.List.{concat}
 use Rattle.std.proofs.lemmas.List.{take_at, drop_at}
@@ -74,7 +74,7 @@ none-show limits reader h left number room = record {
   where
     no-lines : (l : Option ℕ) → concat (up_to l []) ≡ []
     no-lines None = refl
-    no-lines (Some 0) = refl
+    no-lines (Some zero) = refl
     no-lines (Some (suc n)) = refl
 
 module _ {I O : Type 0} (gives : I → List ℕ → I → Type 0) (keeps : O → List ℕ → O → Type 0) (limits : FileLimitValues) (reader : Option (List Node)) (h : HeaderValue) (left : Option ℕ) where
@@ -186,9 +186,11 @@ module _ {I O : Type 0} (gives : I → List ℕ → I → Type 0) (keeps : O →
         is_put = puts.1;
         does = (
           sym (append-nil text) ∙ puts.2,
-          fault.0,
-          fault.1,
-          BlockFails.data_fail count (length body) rest room took.stands.begins took.stands.few took.stands.short
-              (omega (arith, long, marker)) marked (subst (λ (b : List ℕ). DataFail r count b fault.0) (sym front) fault.2),
+          (
+            fault.0,
+            fault.1,
+            BlockFails.data_fail count (length body) rest room took.stands.begins took.stands.few took.stands.short
+                (omega (arith, long, marker)) marked (subst (λ (b : List ℕ). DataFail r count b fault.0) (sym front) fault.2),
+          ),
         );
       }

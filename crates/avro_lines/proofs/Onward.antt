@@ -1,5 +1,5 @@
 -- Blocks that are shown, one after another.
-use Rattle.std.proofs.Common.{◌≡◌, ◌≢◌, ℕ, suc, ◌+◌, ◌-◌, ◌<◌, ◌≤◌, List, [], ◌∷◌, ◌++◌, length, take, Option, Some, None, inl, inr, refl, sym, ap, subst, ◌∙◌, arith, append_assoc, append-nil, length-append}
+use Rattle.std.proofs.Common.{◌≡◌, ◌≢◌, ℕ, zero, suc, ◌+◌, ◌-◌, ◌<◌, ◌≤◌, List, [], ◌∷◌, ◌++◌, length, take, Option, Some, None, inl, inr, refl, sym, ap, subst, ◌∙◌, arith, append_assoc, append-nil, length-append}
 use Rattle.std.specs.Prelude.{◌⊎◌}
 use Rattle.std.specs.List.{concat}
 use Rattle.std.proofs.lemmas.List.Folds.{concat-append}
@@ -25,9 +25,9 @@ Chains {D} gives = (s t u : D) (front back : List ℕ) → gives s front t → g
 -- ---- the first lines of both
 
 take-both : (n : ℕ) (xs ys : List (List ℕ)) → take n (xs ++ ys) ≡ take n xs ++ take (n - length xs) ys
-take-both 0 [] ys = refl
+take-both zero [] ys = refl
 take-both (suc n) [] ys = let e : suc n - 0 ≡ suc n = omega arith in sym (ap (λ (k : ℕ). take k ys) e)
-take-both 0 (x ∷ xs) ys = let e : 0 - length (x ∷ xs) ≡ 0 = omega arith in sym (ap (λ (k : ℕ). take k ys) e)
+take-both zero (x ∷ xs) ys = let e : 0 - length (x ∷ xs) ≡ 0 = omega arith in sym (ap (λ (k : ℕ). take k ys) e)
 take-both (suc n) (x ∷ xs) ys =
     let e : suc n - length (x ∷ xs) ≡ n - length xs = omega arith in
     ap (λ (q : List (List ℕ)). x ∷ q) (take-both n xs ys ∙ ap (λ (k : ℕ). take n xs ++ take k ys) (sym e))
@@ -123,7 +123,7 @@ enough-last (Some most) count blocks vs more counted none =
     not-reached most total more = decided (most - total) refl
       where
         decided : (n : ℕ) → most - total ≡ n → total < most
-        decided 0 e = absurd (more (ap Some e))
+        decided zero e = absurd (more (ap Some e))
         decided (suc n) e = omega (arith, e)
 
 leaves-next : (limit left : Option ℕ) (number count : ℕ) (blocks : List Values) (vs : Values) → left ≢ Some 0 → values_count vs ≡ count
@@ -162,7 +162,7 @@ module _ {I O : Type 0} (gives : I → List ℕ → I → Type 0) (keeps : O →
     where
       no-lines : (l : Option ℕ) → concat (up_to l []) ≡ []
       no-lines None = refl
-      no-lines (Some 0) = refl
+      no-lines (Some zero) = refl
       no-lines (Some (suc n)) = refl
       whole : (l : Option ℕ) → l ≡ lessened l 0
       whole None = refl

@@ -16,7 +16,7 @@ planned-said P schema (Some r) plan e said =
     subst (λ (p : Schema × Schema). P (schema_nodes p.0) (Some (schema_nodes p.1))) (same_Some _ _ e) said
 
 -- what is said of a schema where there is no plan
-pub alone-said : (P : List Node → Option (List Node) → Type 0) (schema : Schema) (reader : Option Schema) → None ≡ option_map (λ r. (schema, r)) reader
+pub alone-said : (P : List Node → Option (List Node) → Type 0) (schema : Schema) (reader : Option Schema) → ◌≡◌ {A = Option (Schema × Schema)} None (option_map (λ r. (schema, r)) reader)
     → P (schema_nodes schema) None → P (schema_nodes schema) (option_map schema_nodes reader)
 alone-said P schema None e said = said
 alone-said P schema (Some r) e said = let pair : Schema × Schema = (schema, r) in absurd (none-some pair e)
@@ -27,7 +27,7 @@ pub table-planned : (schema table : Schema) (reader : Option Schema) (plan : Sch
 table-planned schema table None plan e shown = absurd (none-some plan (sym e))
 table-planned schema table (Some r) plan e shown = ap schema_nodes (shown ∙ ap (λ (p : Schema × Schema). p.1) (sym (same_Some _ _ e)))
 
-pub table-alone : (schema table : Schema) (reader : Option Schema) → None ≡ option_map (λ r. (schema, r)) reader → table ≡ unwrap_or reader schema
+pub table-alone : (schema table : Schema) (reader : Option Schema) → ◌≡◌ {A = Option (Schema × Schema)} None (option_map (λ r. (schema, r)) reader) → table ≡ unwrap_or reader schema
     → schema_nodes table ≡ schema_nodes schema
 table-alone schema table None e shown = ap schema_nodes shown
 table-alone schema table (Some r) e shown = let pair : Schema × Schema = (schema, r) in absurd (none-some pair e)

@@ -16,8 +16,8 @@ returns-in_ok-show_rest-in-Ok-clause-shown g c =
     let nodes = shown_for c.args.opened.now in
     let block = c.args.block.now in
     let walked = c.in-Ok.ensures.found in
-    let whole = subst (λ (b : List ℕ). DataAreWhole r block.count b walked.0) (sym c.body-body.ensures) (subst (λ (n : ℕ). DataAreWhole r n block.body.items walked.0) (sym c.count-all.ensures) walked.1) in
-    let had = shown-first g.O.Output.keeps g.met.O.Output.none r nodes _ _ c.args.output.now c.args.lines.now.text _ (c.hold_lines.ensures.holds no_values (whole-none r)) in
+    let whole = subst (λ (b : List ℕ). DataAreWhole r c.count-all.result b walked.0) (sym c.body-body.ensures) (subst (λ (n : ℕ). DataAreWhole r n block.body.items walked.0) (sym c.count-all.ensures) walked.1) in
+    let had = shown-first g.O.Output.keeps g.met.O.Output.none r nodes _ _ c.args.output.now c.args.lines.now.text _ (c.hold_lines-to.ensures.holds no_values (whole-none r)) in
     record { made = walked.0; whole = walked.1; puts = c.in_ok-show_rest-in-Ok.ensures.shown c.args.output.now c.args.lines.now.text walked.0 whole had }
 
 pub returns-in_err-show_rest-in-Ok-clause-part : goal.returns-in_err-show_rest-in-Ok-clause-part
@@ -26,8 +26,8 @@ returns-in_err-show_rest-in-Ok-clause-part g c =
     let nodes = shown_for c.args.opened.now in
     let block = c.args.block.now in
     let walked = c.in-Ok.ensures.found in
-    let whole = subst (λ (b : List ℕ). DataAreWhole r block.count b walked.0) (sym c.body-body.ensures) (subst (λ (n : ℕ). DataAreWhole r n block.body.items walked.0) (sym c.count-all.ensures) walked.1) in
-    let had = shown-first g.O.Output.keeps g.met.O.Output.none r nodes _ _ c.args.output.now c.args.lines.now.text _ (c.hold_lines.ensures.holds no_values (whole-none r)) in
+    let whole = subst (λ (b : List ℕ). DataAreWhole r c.count-all.result b walked.0) (sym c.body-body.ensures) (subst (λ (n : ℕ). DataAreWhole r n block.body.items walked.0) (sym c.count-all.ensures) walked.1) in
+    let had = shown-first g.O.Output.keeps g.met.O.Output.none r nodes _ _ c.args.output.now c.args.lines.now.text _ (c.hold_lines-to.ensures.holds no_values (whole-none r)) in
     on_any_err (record {
       bytes = first_of nodes c.args.count walked.0;
       puts = c.in_err-show_rest-in-Ok.ensures.part c.args.output.now c.args.lines.now.text walked.0 whole had;

@@ -26,12 +26,12 @@ returns-in-Ok-clause-whole g c =
     file-whole g.I.Input.gives g.O.Output.keeps c.args.limits.now (nodes_of c.args.reader) (header_value c.in_ok-header.header) c.args.limit g.met.I.Input.chain c.args.input.now c.read.new.input c.show_after.new.input
     c.args.output.now c.show_after.new.output c.in_ok-header.ensures.found (g.I.Input.ended c.show_after.new.input) c.in-Ok.ensures.whole
 
-pub returns-in-Err-clause-front : goal.returns-in-Err-clause-front
-returns-in-Err-clause-front g c =
+pub returns-clause-front : goal.returns-clause-front
+returns-clause-front g c =
     file-front g.I.Input.gives g.O.Output.keeps c.args.limits.now (nodes_of c.args.reader) (header_value c.in_ok-header.header) c.args.limit g.met.I.Input.chain c.args.input.now c.read.new.input c.show_after.new.input
     c.args.output.now c.show_after.new.output c.in_ok-header.ensures.found c.in-Err.ensures.front
 
-pub returns-in-Err-clause-fault : goal.returns-in-Err-clause-fault
-returns-in-Err-clause-fault g c = λ f is.
+pub returns-clause-fault : goal.returns-clause-fault
+returns-clause-fault g c = λ f is.
     file-fault g.I.Input.gives g.O.Output.keeps c.args.limits.now (nodes_of c.args.reader) (header_value c.in_ok-header.header) c.args.limit g.met.I.Input.chain c.args.input.now c.read.new.input c.show_after.new.input
     c.args.output.now c.show_after.new.output c.in_ok-header.ensures.found (g.I.Input.ended c.show_after.new.input) f (c.in-Err.ensures.fault f is)

@@ -9,8 +9,8 @@ use Rattle.avro_lines.specs.inside.OpenedSeen.{header_for, limits_for, reader_fo
 use Rattle.avro_lines.proofs.Files.{last-cut, last-fault, last-some, last-whole}
 use Rattle.avro_lines.proofs.showing.show_opened.Goals as goal
 
-pub returns-in_ok-put_held-in-Ok-clause-whole : goal.returns-in_ok-put_held-in-Ok-clause-whole
-returns-in_ok-put_held-in-Ok-clause-whole g c =
+pub returns-in-Ok-clause-whole : goal.returns-in-Ok-clause-whole
+returns-in-Ok-clause-whole g c =
     let opened = c.args.opened.now in
     last-whole g.I.Input.gives g.O.Output.keeps (limits_for opened) (reader_for opened) (header_for opened) c.args.limit g.met.O.Output.chain c.args.input.now c.show_blocks.new.input c.args.output.now
     c.show_blocks.new.output c.put_held.new.output c.show_blocks.new.lines.text _ c.in-Ok.ensures.whole c.in_ok-put_held-in-Ok.ensures.put
@@ -21,14 +21,14 @@ returns-in_err-put_held-in-Ok-clause-front g c =
     on_any_err (last-cut g.I.Input.gives g.O.Output.keeps (limits_for opened) (reader_for opened) (header_for opened) c.args.limit g.met.O.Output.chain c.args.input.now c.show_blocks.new.input c.args.output.now
     c.show_blocks.new.output c.put_held.new.output c.show_blocks.new.lines.text _ c.in-Ok.ensures.whole c.in_err-put_held-in-Ok.ensures.front) c.from_residual.result
 
-pub returns-in-Err-clause-front : goal.returns-in-Err-clause-front
-returns-in-Err-clause-front g c =
+pub returns-clause-front : goal.returns-clause-front
+returns-clause-front g c =
     let opened = c.args.opened.now in
     last-some g.I.Input.gives g.O.Output.keeps (limits_for opened) (reader_for opened) (header_for opened) c.args.limit g.met.O.Output.chain c.args.input.now c.show_blocks.new.input c.args.output.now
     c.show_blocks.new.output c.put_before.new.output c.show_blocks.new.lines.text c.in-Err.ensures.front c.put_before.ensures.front
 
-pub returns-in-Err-clause-fault : goal.returns-in-Err-clause-fault
-returns-in-Err-clause-fault g c = λ f is.
+pub returns-clause-fault : goal.returns-clause-fault
+returns-clause-fault g c = λ f is.
     let opened = c.args.opened.now in
     let other : c.put_before.result ≢ CopyError.OutputFailed = λ failed. none-some f (sym (ap file_fault failed) ∙ is) in
     let same = c.put_before.ensures.told other in

@@ -9,7 +9,7 @@ use Rattle.avro_lines.proofs.successive.show_blocks.Given as goal
 abbrev pub invariant-loop-left : goal.invariant-loop-left
 invariant-loop-left g l = record {
   shown : Moved g.I.Input.gives g.O.Output.keeps l.initial.input l.input l.initial.output l.output
-      (ShowsBlocks (limits_for l.opened) (reader_for l.opened) (header_for l.opened) l.limit (Leaves l.limit l.blocks.number l.left) l.lines.text);
+      (ShowsBlocks (limits_for l.opened) (reader_for l.opened) (header_for l.opened) l.fn.limit (Leaves l.fn.limit l.blocks.number l.left) l.lines.text);
   takes : g.I.Input.failures l.input ≡ g.I.Input.failures l.initial.input;
   puts : g.O.Output.failures l.output ≡ g.O.Output.failures l.initial.output;
   header : l.blocks.header.now ≡ l.opened.header.now;

@@ -1,5 +1,6 @@
 -- A block is taken, and its data are shown.
 use Rattle.std.proofs.Common.{◌≡◌, List, ℕ, length, take, sym, ap, subst, ◌∙◌, refl}
+use Rattle.std.specs.Option.{option_copied}
 use Rattle.std.proofs.lemmas.Result.{err_from_is_err_and}
 use Rattle.avro_file.specs.BlockFails.{FileLimitValues}
 use Rattle.avro_file.specs.BlockTaken.{TakesBlock, TakesFault}
@@ -28,7 +29,7 @@ returns-in_ok-show_block-in-Some-clause-found g c =
     (ShowsNext (limits_for opened) (reader_for opened) (header_for opened) left blocks.number n c.args.lines.now.text c.show_block.new.lines.text)) (sym c.count-count.ensures)
     (next-shown g.I.Input.gives g.O.Output.keeps (limits_for opened) (reader_for opened) (header_for opened) left c.args.input.now c.next.new.input c.args.output.now c.show_block.new.output
     blocks.number block.count c.wanted_of-wanted.result (shown_for opened) block.body.items c.args.lines.now.text c.show_block.new.lines.text (rw c.in-Some.is at c.in_ok-block.ensures.few)
-    (table-shown _ _ _ opened.displayed) first took c.in_ok-show_block-in-Some.ensures.shown)
+    (table-shown opened.header.now.schema opened.table.now (option_copied opened.task.now.reader) opened.displayed) first took c.in_ok-show_block-in-Some.ensures.shown)
 
 pub returns-in_err-show_block-in-Some-clause-some : goal.returns-in_err-show_block-in-Some-clause-some
 returns-in_err-show_block-in-Some-clause-some g c =
@@ -42,7 +43,7 @@ returns-in_err-show_block-in-Some-clause-some g c =
     let first = subst (λ (n : ℕ). (lines : List (List ℕ)) → length lines ≡ n → up_to left lines ≡ take c.wanted_of-wanted.result lines) c.count-count.ensures c.wanted_of-wanted.ensures.wanted in
     on_any_err (next-part g.I.Input.gives g.O.Output.keeps (limits_for opened) (reader_for opened) (header_for opened) left c.args.input.now c.next.new.input c.args.output.now c.show_block.new.output
     blocks.number block.count c.wanted_of-wanted.result (shown_for opened) block.body.items c.args.lines.now.text c.show_block.new.lines.text (rw c.in-Some.is at c.in_ok-block.ensures.few)
-    (table-shown _ _ _ opened.displayed) first took c.in_err-show_block-in-Some.ensures.part) c.from_residual-in_err-show_block-in-Some.result
+    (table-shown opened.header.now.schema opened.table.now (option_copied opened.task.now.reader) opened.displayed) first took c.in_err-show_block-in-Some.ensures.part) c.from_residual-in_err-show_block-in-Some.result
 
 pub returns-in_err-show_block-in-Some-clause-fault : goal.returns-in_err-show_block-in-Some-clause-fault
 returns-in_err-show_block-in-Some-clause-fault g c =
