@@ -144,7 +144,7 @@ module _ {I O : Type 0} (gives : I → List ℕ → I → Type 0) (keeps : O →
   -- no block yet
   pub onward-none : ((s : I) → gives s [] s) → ((s : O) → keeps s [] s) → (i : I) (o : O) (number : ℕ) (text : List ℕ) → number ≡ 0 → text ≡ []
       → Moved gives keeps i i o o (ShowsBlocks limits reader h limit (Leaves limit number limit) text)
-  onward-none none still i o number text zero nothing = record {
+  onward-none none still i o number text first nothing = record {
     taken = [];
     put = [];
     is_taken = none i;
@@ -156,7 +156,7 @@ module _ {I O : Type 0} (gives : I → List ℕ → I → Type 0) (keeps : O →
         few = omega arith;
         shown = record { made = []; resolved = refl; lines = nothing ∙ sym (no-lines limit) };
       };
-      is_end = (sym zero, whole limit, λ e. HasEnough.none_asked e refl);
+      is_end = (sym first, whole limit, λ e. HasEnough.none_asked e refl);
     };
   }
     where

@@ -42,9 +42,9 @@ loop-left-preserved g c =
     c.show_next.new.output l.blocks.number l.left l.lines.text inv.shown count c.show_next.new.lines.text more found in
     record {
       shown = subst (λ (n : ℕ). Moved g.I.Input.gives g.O.Output.keeps c.args.input.now c.show_next.new.input c.args.output.now c.show_next.new.output
-          (ShowsBlocks limits reader h c.args.limit (Leaves c.args.limit n c.left_after.result) c.show_next.new.lines.text)) (sym counted)
+          (ShowsBlocks limits reader h c.args.limit (Leaves c.args.limit n c.left_after-left.result) c.show_next.new.lines.text)) (sym counted)
           (subst (λ (left : Option ℕ). Moved g.I.Input.gives g.O.Output.keeps c.args.input.now c.show_next.new.input c.args.output.now c.show_next.new.output
-          (ShowsBlocks limits reader h c.args.limit (Leaves c.args.limit (l.blocks.number + 1) left) c.show_next.new.lines.text)) (sym c.left_after.ensures) one);
+          (ShowsBlocks limits reader h c.args.limit (Leaves c.args.limit (l.blocks.number + 1) left) c.show_next.new.lines.text)) (sym c.left_after-left.ensures) one);
       takes = step.input_works ∙ inv.takes;
       puts = step.output_works (ok_err _ _ _) ∙ inv.puts;
       header = ap (λ r. r.now) step.kept.0 ∙ inv.header;
