@@ -164,6 +164,7 @@ module _ {I O : Type 0} (gives : I → List ℕ → I → Type 0) (keeps : O →
       no-lines None = refl
       no-lines (Some zero) = refl
       no-lines (Some (suc n)) = refl
+
       whole : (l : Option ℕ) → l ≡ lessened l 0
       whole None = refl
       whole (Some n) = let e : n ≡ n - 0 = omega arith in ap Some e

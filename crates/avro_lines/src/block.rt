@@ -11,8 +11,8 @@ ghost use Rattle.avro_file.specs.FileSeen.{file_fault};
 ghost use Rattle.avro_lines.specs.inside.DataShown.{ShowsFirst, ShowsPart};
 ghost use Rattle.avro_lines.specs.inside.OpenedSeen.{reading_for, shown_for};
 
-use crate::reaching::{Reached, hold_lines, show_rest};
 use crate::holding::{Lines, put_long};
+use crate::reaching::{Reached, hold_lines, show_rest};
 use crate::task::Opened;
 use avro_binary::Nothing;
 use avro_device::Output;

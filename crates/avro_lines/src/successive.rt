@@ -133,7 +133,14 @@ pub(crate) fn show_blocks<I: Input, O: Output>(
     let mut blocks = Blocks::new(opened.task.alloc, opened.header, &opened.task.limits);
     let mut left = limit;
     while !is_reached(left) {
-        match show_next(&mut *input, &mut *output, &mut blocks, &mut *lines, opened, left)? {
+        match show_next(
+            &mut *input,
+            &mut *output,
+            &mut blocks,
+            &mut *lines,
+            opened,
+            left,
+        )? {
             Some(count) => left = left_after(left, count),
             None => return Ok(()),
         }

@@ -24,9 +24,9 @@ loop-to-preserved g c =
       step.inside,
       step.few.1,
       λ made whole first held had0.
-      let had = inv.2 made whole first held had0 in
-      let next = next-stands c.prefix.ensures r c.args.all l.to.done body (take l.to.start body) (drop l.to.start body) made had.made (omega (arith, less, most)) whole had.whole (sym (take-append-drop l.to.start body)) in
-      step.shown next.0 next.1 next.2 first held had,
+          let had = inv.2 made whole first held had0 in
+          let next = next-stands c.prefix.ensures r c.args.all l.to.done body (take l.to.start body) (drop l.to.start body) made had.made (omega (arith, less, most)) whole had.whole (sym (take-append-drop l.to.start body)) in
+          step.shown next.0 next.1 next.2 first held had,
       step.works (ok_err _ _ _) ∙ inv.3,
     )
 
