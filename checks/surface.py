@@ -192,6 +192,8 @@ fn avro_container::check<I: Input>(Global, &mut I, &FileLimits) -> Result<Counts
 fn avro_container::copy<'a, I: Input, O: Output>(Global, &mut I, &mut O, Option<&'a ReaderText>, Option<[u8; 16]>, &FileLimits) -> Result<Counts, CopyError>
 enum avro_container::CopyError { NoMagic, InvalidMetadata(ReadError), NoSchema, InvalidSchema(SchemaError), UnknownCodec, InvalidCount(u64, CountError), BytesLeft(u64), WrongMarker(u64), LimitExceeded(LimitPlace), InvalidDatum(u64, u32, ReadError), UnresolvedDatum(u64, u32, Fault), InputFailed, OutputFailed, OutOfMemory, FailedBefore, CutHeader, CutBlock(u64) }
 
+fn avro_lines::show<I: Input, O: Output>(Global, &mut I, &mut O, Option<&Schema>, Option<u64>, &FileLimits) -> Result<(), CopyError>
+
 fn avro_tool::run<R: Files + Clock + AllocGlobal, I: Read, O: Write, E: Write>(&R, &[String], &mut I, &mut O, &mut E) -> u8
 """
 

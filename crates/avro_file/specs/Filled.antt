@@ -9,6 +9,10 @@ pub record GrowsBy {I : Type 0} (gives : I → List ℕ → I → Type 0) (from 
   pub taken : gives from bytes to
   pub grown : new ≡ old ++ bytes
 
+-- Some bytes were taken, which may be lost.
+abbrev pub TakesSome : {I : Type 0} → (I → List ℕ → I → Type 0) → I → I → Type 0
+TakesSome gives from to = (bytes : List ℕ) × gives from bytes to
+
 -- At most a number of bytes was taken, which may be lost.
 pub record TakesAtMost {I : Type 0} (gives : I → List ℕ → I → Type 0) (from to : I) (most : ℕ) : Type 0 where
   pub bytes : List ℕ

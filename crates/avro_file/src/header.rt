@@ -7,7 +7,7 @@ ghost use Rattle.avro_file.specs.FileSeen.{file_fault};
 ghost use Rattle.avro_file.specs.HeaderTaken.{TakesHeader, TakesHeaderFault, header_value, IsHeaderFault};
 ghost use Rattle.avro_file.specs.Named.{IsNamed};
 ghost use Rattle.avro_file.specs.File.{IsHeader};
-ghost use Rattle.avro_file.specs.Filled.{GrowsBy, TakesAtMost, UnlessFailed};
+ghost use Rattle.avro_file.specs.Filled.{GrowsBy, TakesAtMost, TakesSome, UnlessFailed};
 ghost use Rattle.avro_file.specs.Held.{held};
 
 mod content;
@@ -75,6 +75,7 @@ impl Header {
     ) -> Result<Header, CopyError>
         ensures found { IfOk result (λ h. TakesHeader I.gives input.old input.new limits.now.header (header_value h)) }
         ensures refused { IfErr result (λ e. (f : FileFault) → file_fault e ≡ Some f → TakesHeaderFault I.gives I.ended input.old input.new limits.now.header f) }
+        ensures lost { OnErr result (TakesSome I.gives input.old input.new) }
         ensures works { OnOk result (I.failures input.new ≡ I.failures input.old) }
         ensures fails { result ≡ Err CopyError.InputFailed → I.failures input.new ≢ I.failures input.old }
         ensures no_output { result ≢ Err CopyError.OutputFailed }

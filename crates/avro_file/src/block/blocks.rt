@@ -6,6 +6,7 @@ ghost use Rattle.avro_file.specs.BlockFails.{max_blocks};
 ghost use Rattle.avro_file.specs.BlockTaken.{TakesBlock, TakesFault};
 ghost use Rattle.avro_file.specs.FileFault.{FileFault};
 ghost use Rattle.avro_file.specs.FileSeen.{file_fault};
+ghost use Rattle.avro_file.specs.Filled.{TakesSome};
 ghost use Rattle.avro_file.specs.Named.{IsNamed};
 
 use crate::block::Block;
@@ -57,6 +58,7 @@ impl<'a> Blocks<'a> {
         ensures none { IfOk result (λ found. IfNone found (I.gives input.old [] input.new)) }
         ensures told { IfOk result (λ found. IfNone found (I.ended input.new)) }
         ensures refused { IfErr result (λ e. (f : FileFault) → file_fault e ≡ Some f → TakesFault I.gives I.ended input.old input.new self.old.limits self.old.header.now.sync self.old.number f) }
+        ensures lost { OnErr result (TakesSome I.gives input.old input.new) }
         ensures counted { IfOk result (λ found. IfSome found (λ block. self.new.number ≡ self.old.number + 1)) }
         ensures kept { (self.new.header ≡ self.old.header) × (self.new.limits ≡ self.old.limits) × (self.new.failed ≡ self.old.failed) × (self.new.ended ≡ self.old.ended) }
         ensures works { OnOk result (I.failures input.new ≡ I.failures input.old) }
@@ -118,6 +120,7 @@ impl<'a> Blocks<'a> {
         ensures told { (self.old.ended ≡ true → I.ended input.old) → IfOk result (λ found. IfNone found (I.ended input.new)) }
         ensures ends { IfOk result (λ found. IfNone found (self.new.ended ≡ true)) }
         ensures refused { IfErr result (λ e. (f : FileFault) → file_fault e ≡ Some f → TakesFault I.gives I.ended input.old input.new self.old.limits self.old.header.now.sync self.old.number f) }
+        ensures lost { OnErr result (TakesSome I.gives input.old input.new) }
         ensures stays { OnErr result (self.new.failed ≡ true) }
         ensures goes_on { OnOk result (self.new.failed ≡ false) }
         ensures more { IfOk result (λ found. IfSome found (λ _. self.new.ended ≡ false)) }

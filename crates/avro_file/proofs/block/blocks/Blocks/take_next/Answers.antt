@@ -5,7 +5,8 @@ use Rattle.std.proofs.lemmas.Result.{err_from_is_err_and}
 use Rattle.avro_file.specs.BlockStands.{IsBlockFault}
 use Rattle.avro_file.specs.Filled.{GrowsBy}
 use Rattle.avro_file.specs.Held.{held}
-use Rattle.avro_file.proofs.public.Small.{no_bytes, not_failed}
+use Rattle.avro_display.proofs.public.Fronts.{on_any_err}
+use Rattle.avro_file.proofs.public.Small.{no_bytes, not_failed, ok_err}
 use Rattle.avro_file.proofs.block.blocks.Blocks.take_next.Goals as goal
 
 pub returns-in_err-take_block-clause-refused : goal.returns-in_err-take_block-clause-refused
@@ -30,3 +31,13 @@ returns-in_err-take_block-clause-refused g c =
       stands = subst (λ (bytes : List ℕ). IsBlockFault c.args.self.now.limits c.args.self.now.header.now.sync c.args.self.now.number
           (g.I.Input.ended c.take_block.new.input) bytes f) all fault;
     })
+
+pub returns-in_err-take_block-clause-lost : goal.returns-in_err-take_block-clause-lost
+returns-in_err-take_block-clause-lost g c =
+    let lost = c.in_err-take_block.ensures.lost in
+    on_any_err (lost.bytes, lost.taken) c.from_residual.result
+
+pub returns-in_err-body-in-Some-clause-lost : goal.returns-in_err-body-in-Some-clause-lost
+returns-in_err-body-in-Some-clause-lost g c =
+    let grown = c.in_ok-take_block.ensures.taken (ok_err _ _ _) in
+    on_any_err (grown.bytes, grown.taken) c.from_residual-in_err-body-in-Some.result

@@ -1,0 +1,4 @@
+-- What only proofs and private contracts need.
+pub mod BlocksShown
+pub mod DataShown
+pub mod OpenedSeen
