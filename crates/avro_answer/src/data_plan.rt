@@ -3,8 +3,8 @@
 ghost use Rattle.std.specs.Option.{IfSome};
 ghost use Rattle.avro_schema.specs.SeenSchema.{schema_nodes};
 
-use crate::datum_texts::{append_head, is_memory, tail};
 use crate::data_error::DataError;
+use crate::datum_texts::{append_head, is_memory, tail};
 use crate::form::Form;
 use crate::putting::put_text;
 use avro_binary::{Nothing, ReadError, decode, walk};
@@ -160,12 +160,7 @@ impl<'a> DataPlan<'a> {
     }
 
     /// Passes the datum at the front of bytes, and returns the length of its encoding.
-    fn pass(
-        &self,
-        alloc: Global,
-        bytes: &[u8],
-        limits: &Limits,
-    ) -> Result<usize, ReadResolveError>
+    fn pass(&self, alloc: Global, bytes: &[u8], limits: &Limits) -> Result<usize, ReadResolveError>
         ensures { IfSome (found_in result) (IsAllAtFront (schema_nodes self.now.0) (option_map schema_nodes self.now.1) limits.now bytes.now) }
     {
         match &self.plan {
@@ -212,7 +207,12 @@ impl<'a> DataPlan<'a> {
                 let plan = plan.by_ref();
                 put_resolved(out, text, &Resolved::new(&plan, &self.table), datum)
             }
-            None => put_displayed(out, text, &Plain::new(&self.table), Some((Some(root), datum))),
+            None => put_displayed(
+                out,
+                text,
+                &Plain::new(&self.table),
+                Some((Some(root), datum)),
+            ),
         }
     }
 }

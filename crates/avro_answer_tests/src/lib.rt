@@ -25,6 +25,8 @@ mod judging;
 #[cfg(test)]
 mod judging_limits;
 #[cfg(test)]
+mod lines;
+#[cfg(test)]
 mod parts;
 #[cfg(test)]
 mod reading;
