@@ -2,5 +2,5 @@
 use Rattle.std.proofs.Common.{[]}
 use Rattle.avro_file.proofs.block.blocks.Blocks.next.Goals as goal
 
-pub returns-then-failed-clause-lost : goal.returns-then-failed-clause-lost
-returns-then-failed-clause-lost g c = ([], g.met.I.Input.none c.args.input.now)
+pub returns-then-self-clause-lost : goal.returns-then-self-clause-lost
+returns-then-self-clause-lost g c = ([], g.met.I.Input.none c.args.input.now)
