@@ -19,6 +19,7 @@ pub use Rattle.avro_schema_json.specs.DeclaredSchema.{DeclaresSchema, are_all_de
 pub use Rattle.avro_schema_json.specs.Declares.{Form, Known, Made, Meaning, RawField, RawNode, Word, array_form, boolean_word, branches_of, bytes_word, container_of, defining, definition_of, enum_form, enum_named, error_form, faulty, field_meaning, field_meanings, field_of, fields_from, fields_under, fixed_form, fixed_named, form_of, id_of, in_turn, int_word, long_word, made_of, map_form, meaning_of, meaning_under, name_faults, no_field, no_form, no_parts, node_with, null_word, record_form, record_named, reference, string_word, type_name, type_of_form, type_of_word, union_of, unsupported_word, use_of, word_form, word_of}
 pub use Rattle.avro_schema_json.specs.Refusals.{refusal_of, refusal_of_fault}
 pub use Rattle.avro_schema_json.specs.declared.defaults.parents.Places.{Places}
+pub use Rattle.avro_schema_json.specs.declared.defaults.parents.RowWord.{RowWord}
 pub use Rattle.avro_schema_json.specs.declared.defaults.parts.Mark.{Mark}
 pub use Rattle.avro_schema_json.specs.declared.defaults.rows.Row.{Row}
 pub use Rattle.avro_schema_json.specs.declared.error.SchemaError.{SchemaError}
