@@ -1,5 +1,5 @@
 -- What is so of each element of a list before one, and of what each key of a map leads to, as one more comes.
-use Rattle.avro_schema_json.proofs.Words.{◌≡◌, ℕ, zero, suc, ◌+◌, ◌<◌, ◌≤◌, Bool, true, cond, List, [], ◌∷◌, ◌++◌, length, map, get_or, Option, Some, option_map, refl, sym, ap, ◌∙◌, arith, slice_get, bytes_eq, slice_get-map, slice_get_within, bytes_eq-Decides, same_Some, slice_get-get_or, set, length-set, get_or-set_same}
+use Rattle.avro_schema_json.proofs.Words.{◌≡◌, ℕ, zero, suc, ◌+◌, ◌<◌, ◌≤◌, Bool, true, cond, List, [], ◌∷◌, ◌++◌, length, map, get_or, Option, Some, option_map, refl, sym, ap, ◌∙◌, arith, slice_get, bytes_eq, slice_get-map, slice_get_within, bytes_eq-Decides, same_Some, slice_get_read, slice_get-get_or, set, length-set, get_or-set_same}
 
 -- ---- lists
 
@@ -15,6 +15,10 @@ append-at (x ∷ xs) ys zero j is = absurd (omega (arith, is))
 append-at (x ∷ xs) ys (suc k) j is =
     let same : suc k + j ≡ suc (k + j) = omega arith in
     ap (slice_get (x ∷ xs ++ ys)) same ∙ append-at xs ys k j (omega (arith, is))
+
+-- two elements of one place are the same
+pub same-at : {A : Type 0} (xs : List A) (i : ℕ) (x y : A) → i < length xs → x ≡ get_or xs i x → y ≡ get_or xs i y → x ≡ y
+same-at xs i x y below at there = same_Some x y (sym (slice_get_read xs (length xs) i x refl below at) ∙ slice_get_read xs (length xs) i y refl below there)
 
 -- what is made of an element, once or twice
 pub mapped-get : {A B : Type 0} (v : A → B) (xs : List A) (i : ℕ) (d : A) → i < length xs → slice_get (map v xs) i ≡ Some (v (get_or xs i d))

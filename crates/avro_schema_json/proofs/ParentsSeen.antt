@@ -1,38 +1,75 @@
 -- Parents of places, as they are put.
-use Rattle.avro_schema_json.proofs.Words.{◌≡◌, ℕ, ◌+◌, ◌/◌, ◌%◌, ◌<◌, ◌≤◌, Bool, true, false, cond, ◌==◌, List, [], ◌∷◌, ◌⊎◌, inl, inr, length, set, get_or, Option, Some, None, refl, sym, subst, ◌∙◌, arith, Vec, bit_at, bit_or, Decides-eqb, bit_at-zero, bit_at_and, none-some, same_Some, slice_get_read, length-map, Name, Node, FieldNode, ids_of, NodeId, place_of, own_ids, Label, Numbered, IsWithin, has_place, Parents, Under, Places, has_bit, words_or_none, words_in, words_in_some, words_at, words_of, label_of, Follows, HasParent, HasParts, IsField, AreFields, IsParent, KeepsPlaces, KeepsParents, KeepsLabels, Equal-is, get_or-set_same, get_or-set_other}
+use Rattle.avro_schema_json.proofs.Words.{◌≡◌, ℕ, ◌+◌, ◌/◌, ◌%◌, ◌<◌, ◌≤◌, Bool, true, false, cond, ◌==◌, List, [], ◌∷◌, ◌⊎◌, inl, inr, length, set, get_or, Option, Some, None, refl, sym, subst, ◌∙◌, arith, Vec, bit_at, bit_or, Decides-eqb, bit_at_and, none-some, same_Some, slice_get_read, length-map, Name, Node, FieldNode, ids_of, NodeId, place_of, own_ids, Label, Numbered, IsWithin, has_place, Parents, Under, Places, has_bit, words_or_none, words_in, words_in_some, words_at, words_of, label_of, Follows, HasParent, HasParts, IsField, AreFields, IsParent, KeepsPlaces, KeepsParents, KeepsLabels, Equal-is, RowWord, ◌++◌, ap, slice_get, slice_get_within, slice_get-get_or}
 use Rattle.std.specs.Prelude.{Contains, bytes_eq}
 use Rattle.std.specs.Ordering.{nat_cmp, is_eq}
 use Rattle.std.specs.BTreeMap.{BTreeMap, is_at, get}
 use Rattle.std.specs.Map.{lookup}
-use Rattle.std.proofs.lemmas.Grind.{get_or_default_zero}
 use Rattle.std.proofs.lemmas.Map.Lookups.{exact_unsigned}
 use Rattle.avro_schema_json.specs.inside.Parents.{number_of}
 use lib.Bits.{bit_and}
-use Rattle.avro_schema_json.proofs.RowsSeen.{more-left, bit-of, of-bit}
-use Rattle.avro_schema_json.proofs.EachSeen.{Before, before-all, put-each, exact-texts}
+use Rattle.avro_schema_json.proofs.RowsSeen.{bit-of, more-left, of-bit}
+use Rattle.avro_schema_json.proofs.EachSeen.{append-at, append-before, Before, before-all, before-next, exact-texts, put-each, set-each, set-there}
 
 -- ---- words with bits
 
-pub bit-set : (words : List ℕ) (w new p : ℕ) → w < length words → p / 64 ≡ w → bit_at new (p % 64) ≡ 1 → has_bit (set words w new) p
-bit-set words w new p below here bit = grind (arith, get_or-set_same, of-bit)
-
-pub bit-kept : (words : List ℕ) (w old bits p : ℕ) → w < length words → old ≡ get_or words w old → has_bit words p → has_bit (set words w (bit_or old bits)) p
-bit-kept words w old bits p below at h = by (p / 64 == w) refl
+-- bits are added to a word
+pub bit-kept : (words : List RowWord) (i more p : ℕ) (old : RowWord) → i < length words → old ≡ get_or words i old → has_bit words p
+    → has_bit (set words i (record { index = old.index; bits = bit_or old.bits more })) p
+bit-kept words i more p old below at h =
+    let was = bit-of words p h in
+    let is = set-each words i new Keeps below (λ k word there here bit. (word, there, here, bit)) this was.0 was.1 was.2 was.3 was.4 in
+    of-bit (set words i new) was.0 p is.0 is.1 is.2 is.3
   where
-    by : (b : Bool) → (p / 64 == w) ≡ b → has_bit (set words w (bit_or old bits)) p
-    by true e =
-        let same : p / 64 ≡ w = (Decides-eqb (p / 64) w).0 e in
-        let here : bit_at (get_or words w 0) (p % 64) ≡ 1 = subst (λ k. bit_at (get_or words k 0) (p % 64) ≡ 1) same (bit-of words p h) in
-        bit-set words w (bit_or old bits) p below same (more-left old bits (p % 64) (rw (at, get_or_default_zero words w old below) here))
-    by false e =
-        of-bit (set words w (bit_or old bits)) p (rw (get_or-set_other words w (p / 64) (bit_or old bits) 0 (λ same. grind (arith, e, same))) (bit-of words p h))
+    new : RowWord
+    new = record { index = old.index; bits = bit_or old.bits more }
 
-pub bit-same : (words more : List ℕ) (p : ℕ) → ((k : ℕ) → get_or more k 0 ≡ get_or words k 0) → has_bit words p → has_bit more p
-bit-same words more p same h = of-bit more p (rw (same (p / 64)) (bit-of words p h))
+    Keeps : ℕ → Option RowWord → Type 0
+    Keeps k o = (word : RowWord) → slice_get words k ≡ Some word → word.index ≡ p / 64 → bit_at word.bits (p % 64) ≡ 1
+        → (later : RowWord) × (o ≡ Some later) × (later.index ≡ p / 64) × (bit_at later.bits (p % 64) ≡ 1)
+
+    this : Keeps i (Some new)
+    this word there here bit =
+        let same : old ≡ word = same_Some old word (sym (slice_get_read words (length words) i old refl below at) ∙ there) in
+        (new, refl, ap (λ (w : RowWord). w.index) same ∙ here,
+        more-left old.bits more (p % 64) (subst (λ (w : RowWord). bit_at w.bits (p % 64) ≡ 1) (sym same) bit))
+
+pub bit-set : (words : List RowWord) (i p : ℕ) (word : RowWord) → i < length words → word.index ≡ p / 64 → bit_at word.bits (p % 64) ≡ 1 → has_bit (set words i word) p
+bit-set words i p word below here bit = of-bit (set words i word) i p word (set-there words i word below) here bit
+
+-- a word is put after the others
+pub bit-before : (words later : List RowWord) (word : RowWord) (p : ℕ) → later ≡ words ++ word ∷ [] → has_bit words p → has_bit later p
+bit-before words later word p is h =
+    let was = bit-of words p h in
+    let kept = append-before words (word ∷ []) was.0 (slice_get_within words was.0 was.1 was.2) in
+    of-bit later was.0 p was.1 (ap (λ ws. slice_get ws was.0) is ∙ kept ∙ was.2) was.3 was.4
+
+pub bit-last : (words later : List RowWord) (word : RowWord) (p : ℕ) → later ≡ words ++ word ∷ [] → word.index ≡ p / 64 → bit_at word.bits (p % 64) ≡ 1 → has_bit later p
+bit-last words later word p is here bit =
+    of-bit later (length words + 0) p word (ap (λ ws. slice_get ws (length words + 0)) is ∙ append-at words (word ∷ []) (length words) 0 refl) here bit
 
 -- no word has no bit
 pub no-word : (p : ℕ) → has_bit [] p → ⊥
-no-word p h = let w : bit_at 0 (p % 64) ≡ 1 = bit-of [] p h in absurd (omega (arith, w, bit_at-zero (p % 64)))
+no-word p h = let was = bit-of [] p h in none-some was.1 was.2
+
+-- the bits of the first words are added to a row
+abbrev pub AreWordsAdded : List RowWord → List ℕ → List ℕ → ℕ → Type 0
+AreWordsAdded words old new i =
+    IsWithin old new × Before words (λ k word. (p : ℕ) → p / 64 ≡ word.index → bit_at word.bits (p % 64) ≡ 1 → has_place new p ≡ true) i
+
+pub word-added : (words : List RowWord) (i : ℕ) (d : RowWord) (first old new : List ℕ) → i < length words → IsWithin old new
+    → ((p : ℕ) → p / 64 ≡ (get_or words i d).index → bit_at (get_or words i d).bits (p % 64) ≡ 1 → has_place new p ≡ true)
+    → AreWordsAdded words first old i → AreWordsAdded words first new (i + 1)
+word-added words i d first old new below within this before = (
+  λ p there. within p (before.0 p there),
+  before-next words i (get_or words i d) (λ k w. (p : ℕ) → p / 64 ≡ w.index → bit_at w.bits (p % 64) ≡ 1 → has_place old p ≡ true)
+      (λ k w. (p : ℕ) → p / 64 ≡ w.index → bit_at w.bits (p % 64) ≡ 1 → has_place new p ≡ true) (slice_get-get_or words i d below)
+      (λ k w has p here bit. within p (has p here bit)) this before.1,
+)
+
+pub words-added : (words : List RowWord) (i : ℕ) (old new : List ℕ) → length words ≤ i → AreWordsAdded words old new i → (p : ℕ) → has_bit words p → has_place new p ≡ true
+words-added words i old new past added p has =
+    let is = bit-of words p has in
+    before-all words i (λ k w. (q : ℕ) → q / 64 ≡ w.index → bit_at w.bits (q % 64) ≡ 1 → has_place new q ≡ true) past added.1 is.0 is.1 is.2 p (sym is.3) is.4
 
 -- ---- 64 places
 
@@ -71,7 +108,7 @@ pub same_key : (a b : ℕ) → is_eq (nat_cmp a b) ≡ true → a ≡ b
 same_key a b h = exact_unsigned a b ((Equal-is (nat_cmp a b)).0 h)
 
 -- the words of a place among entries
-abbrev pub words_left : List (ℕ × Places) → ℕ → List ℕ
+abbrev pub words_left : List (ℕ × Places) → ℕ → List RowWord
 words_left left place = words_in_some (lookup (is_at (nat_cmp (place / 64))) left) (place % 64)
 
 -- the parents under a label of what is in a row are found, or left
@@ -128,13 +165,13 @@ label-kept old new name label fresh put = grind (arith, exact-texts, none-some, 
 -- ---- what is kept by a key
 
 -- a key is taken out, and put in again
-pub kept-by : {K V : Type 0} (same : K → K → Bool) → ((a b : K) → same a b ≡ true → a ≡ b) → (words : Option V → ℕ → List ℕ) (old mid new : K → Option V) (key : K) (v : V)
+pub kept-by : {K V : Type 0} (same : K → K → Bool) → ((a b : K) → same a b ≡ true → a ≡ b) → (words : Option V → ℕ → List RowWord) (old mid new : K → Option V) (key : K) (v : V)
     → ((q : K) → mid q ≡ cond (same key q) None (old q)) → ((q : K) → new q ≡ cond (same key q) (Some v) (mid q))
     → ((i p : ℕ) → has_bit (words (old key) i) p → has_bit (words (Some v) i) p) → (k : K) (i p : ℕ) → has_bit (words (old k) i) p → has_bit (words (new k) i) p
 kept-by same exact words old mid new key v removed put = grind (arith, put-each)
 
 -- words are put at a bit, and bits are set
-pub kept-in : (old : Places) (bit more : ℕ) (mid : ℕ → Option (Vec ℕ)) (parents : BTreeMap ℕ (Vec ℕ)) (words : Vec ℕ)
+pub kept-in : (old : Places) (bit more : ℕ) (mid : ℕ → Option (Vec RowWord)) (parents : BTreeMap ℕ (Vec RowWord)) (words : Vec RowWord)
     → ((q : ℕ) → mid q ≡ cond (is_eq (nat_cmp bit q)) None (get nat_cmp old.parents q))
     → ((q : ℕ) → get nat_cmp parents q ≡ cond (is_eq (nat_cmp bit q)) (Some words) (mid q))
     → ((p : ℕ) → has_bit (words_or_none (get nat_cmp old.parents bit)) p → has_bit words.items p)

@@ -1,5 +1,5 @@
 -- How the parts of a declaration are read.
-use Rattle.avro_schema_json.proofs.Words.{◌≡◌, ℕ, true, false, List, [], Option, Some, None, refl, arith, ◌⊎◌, IsErrOf, is_some, ok_or, Result, Ok, Contains, append-nil, Name, name_of, SchemaError, name_faults, Known, id_of, reference, State, made_at, IsRead, IsRefusal, beginning_faults}
+use Rattle.avro_schema_json.proofs.Words.{◌≡◌, ℕ, true, false, List, [], Option, Some, None, refl, arith, subst, ◌⊎◌, inl, inr, IsErrOf, is_some, ok_or, Result, Ok, Err, Contains, append-nil, Name, name_of, SchemaError, name_faults, Known, id_of, sym, ◌∙◌, codes, Data, Members, get_member, name_from, name_in, text_in, reference, State, made_at, IsRead, IsRefusal, beginning_faults}
 
 -- ---- references
 
@@ -23,6 +23,22 @@ pub not_some : {A : Type 0} (o : Option A) → is_some o ≡ false → o ≡ Non
 not_some o h = grind arith
 
 -- ---- beginnings of definitions
+
+-- a definition is named by its members
+pub named-by : (enclosing : List ℕ) (ms : Members) (namespace : Option Data) (text : Option (List ℕ)) (named : Result Name SchemaError) → namespace ≡ get_member (codes "namespace") ms
+    → text ≡ text_in (codes "name") ms → name_from enclosing namespace text ≡ named → name_in enclosing ms ≡ named
+named-by enclosing ms namespace text named n t is = (λ j. name_from enclosing (sym n j) (sym t j)) ∙ is
+
+-- it is refused as its name is
+pub beginning-unnamed : (before : State) (said named : Result Name SchemaError) (e : SchemaError) → said ≡ named
+    → IsErrOf {T = Name} (Err e) SchemaError.OutOfMemory ⊎ (Err e ≡ said) → IsRefusal (beginning_faults before named) e
+beginning-unnamed before said named e is h = elim h [
+  | inl full ↦ inl (same full)
+  | inr at ↦ subst (λ (r : Result Name SchemaError). IsRefusal (beginning_faults before r) e) (at ∙ is) (inr (0, omega arith, refl))
+]
+  where
+    same : IsErrOf {T = Name} (Err e) SchemaError.OutOfMemory → e ≡ SchemaError.OutOfMemory
+    same full = grind arith
 
 pub name_faults-new : (name : Name) (known : Known) → id_of name known ≡ None → name_faults name known ≡ []
 name_faults-new name known h = rw h refl

@@ -1,8 +1,6 @@
 -- Rows of bits, word by word.
-use Rattle.avro_schema_json.proofs.Words.{◌≡◌, ℕ, ◌/◌, ◌%◌, ◌^◌, ◌*◌, ◌<◌, Bool, true, false, ◌==◌, List, length, get_or, set, refl, arith, bit_at, bit_or, get_or-set_same, get_or-set_other, bit_at_or, bit_at_and, bit_at-lt, bit_at_set_same, bit_at-zero, Decides-eqb, has_place, IsWithin, ◌≤◌}
+use Rattle.avro_schema_json.proofs.Words.{◌≡◌, ℕ, ◌/◌, ◌%◌, ◌^◌, ◌*◌, ◌<◌, Bool, true, ◌==◌, List, length, get_or, set, refl, arith, bit_at, bit_or, get_or-set_same, get_or-set_other, bit_at_or, bit_at_and, bit_at-lt, bit_at_set_same, bit_at-zero, Decides-eqb, has_place, IsWithin, RowWord, Some, slice_get}
 unfoldable use Rattle.avro_schema_json.specs.inside.Parents.{has_bit}
-use Rattle.std.specs.Prelude.{nat_lt}
-use Rattle.std.proofs.lemmas.List.{get_or_past}
 use lib.Bits.{bit_and}
 use mir.Syntax.{w64}
 
@@ -71,26 +69,12 @@ bit-there row p w here below there = grind (arith, one)
 pub no-bit : (i n : ℕ) → n ≡ 0 → bit_at n i ≡ 1 → ⊥
 no-bit i n none h = let w : bit_at 0 i ≡ 1 = rw none at h in absurd (omega (arith, w, bit_at-zero i))
 
--- a row with the bits of some words
-pub bit-of : (words : List ℕ) (p : ℕ) → has_bit words p → bit_at (get_or words (p / 64) 0) (p % 64) ≡ 1
+-- words with a bit
+pub bit-of : (words : List RowWord) (p : ℕ) → has_bit words p
+    → (at : ℕ) × (word : RowWord) × (slice_get words at ≡ Some word) × (word.index ≡ p / 64) × (bit_at word.bits (p % 64) ≡ 1)
 unfolding has_bit
 bit-of words p h = h
 
-pub of-bit : (words : List ℕ) (p : ℕ) → bit_at (get_or words (p / 64) 0) (p % 64) ≡ 1 → has_bit words p
+pub of-bit : (words : List RowWord) (at p : ℕ) (word : RowWord) → slice_get words at ≡ Some word → word.index ≡ p / 64 → bit_at word.bits (p % 64) ≡ 1 → has_bit words p
 unfolding has_bit
-of-bit words p h = h
-
-pub words-within : (old words row : List ℕ) (i : ℕ) → ((k : ℕ) → k < 64 → i ≤ k → length words ≤ k)
-    → ((k : ℕ) → (k < i → get_or row k 0 ≡ bit_or (get_or old k 0) (get_or words k 0)) × (i ≤ k → get_or row k 0 ≡ get_or old k 0))
-    → IsWithin old row × ((p : ℕ) → has_bit words p → has_place row p ≡ true)
-words-within old words row i past put = (within-words old row (λ k j below there. kept k j there (nat_lt k i) refl), λ p has. added p (bit-of words p has) (nat_lt (p / 64) 64) refl)
-  where
-    kept : (k j : ℕ) → (bit_at (get_or old k 0) j == 1) ≡ true → (b : Bool) → nat_lt k i ≡ b → (bit_at (get_or row k 0) j == 1) ≡ true
-    kept k j there b h = grind (arith, or-left)
-
-    here : (p : ℕ) → bit_at (get_or words (p / 64) 0) (p % 64) ≡ 1 → p / 64 < 64 → (b : Bool) → nat_lt (p / 64) i ≡ b → (bit_at (get_or row (p / 64) 0) (p % 64) == 1) ≡ true
-    here p has below b h = grind (arith, get_or_past, is_one, more-right, no-bit)
-
-    added : (p : ℕ) → bit_at (get_or words (p / 64) 0) (p % 64) ≡ 1 → (b : Bool) → nat_lt (p / 64) 64 ≡ b → has_place row p ≡ true
-    added p has false h = rw h refl
-    added p has true h = rw h (here p has (grind (arith, h)) (nat_lt (p / 64) i) refl)
+of-bit words at p word there here bit = (at, word, there, here, bit)

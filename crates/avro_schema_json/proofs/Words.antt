@@ -19,6 +19,7 @@ pub use Rattle.avro_schema_json.specs.DeclaredSchema.{DeclaresSchema, are_all_de
 pub use Rattle.avro_schema_json.specs.Declares.{Form, Known, Made, Meaning, RawField, RawNode, Word, array_form, boolean_word, branches_of, bytes_word, container_of, defining, definition_of, enum_form, enum_named, error_form, faulty, field_meaning, field_meanings, field_of, fields_from, fields_under, fixed_form, fixed_named, form_of, id_of, in_turn, int_word, long_word, made_of, map_form, meaning_of, meaning_under, name_faults, no_field, no_form, no_parts, node_with, null_word, record_form, record_named, reference, string_word, type_name, type_of_form, type_of_word, union_of, unsupported_word, use_of, word_form, word_of}
 pub use Rattle.avro_schema_json.specs.Refusals.{refusal_of, refusal_of_fault}
 pub use Rattle.avro_schema_json.specs.declared.defaults.parents.Places.{Places}
+pub use Rattle.avro_schema_json.specs.declared.defaults.parents.RowWord.{RowWord}
 pub use Rattle.avro_schema_json.specs.declared.defaults.parts.Mark.{Mark}
 pub use Rattle.avro_schema_json.specs.declared.defaults.rows.Row.{Row}
 pub use Rattle.avro_schema_json.specs.declared.error.SchemaError.{SchemaError}
@@ -56,7 +57,7 @@ pub use Rattle.std.proofs.lemmas.List.Folds.{list_all-append, list_any-append}
 pub use Rattle.std.proofs.lemmas.Map.Text.{hash_map_updates_str, hash_map_updates_text, is_eq-slice_cmp}
 pub use Rattle.std.proofs.lemmas.Nat.Bits.{bit_at-lt, bit_at-zero, bit_at_and, bit_at_or, bit_at_set_same, shr_and_one}
 pub use Rattle.std.proofs.lemmas.Option.{none-some, same_Some, slice_get-get_or, slice_get-map, slice_get_past, slice_get_read, slice_get_within}
-pub use Rattle.std.proofs.lemmas.Result.{IfOk-weaker, err_from_is_err_and, on_ok_weaker}
+pub use Rattle.std.proofs.lemmas.Result.{err_from_is_err_and, on_ok_weaker}
 pub use Rattle.std.proofs.lemmas.Slice.Eq.{bytes_eq-Decides}
 pub use Rattle.std.specs.BTreeMap.{Updates, get, get_by_text, is_at}
 pub use Rattle.std.specs.Cmp.{Equal-is, IsEquivalence, both_ways, nat_cmp_is, unsigned_tied}

@@ -1,5 +1,5 @@
 -- Under which labels a node is a part of which nodes, its parents.
-use Rattle.std.specs.Prelude.{◌≡◌, ℕ, ◌/◌, ◌%◌, ◌==◌, true, cond, List, [], slice_get, get_or, Option, Some, None, unwrap_or, bytes_eq, Contains}
+use Rattle.std.specs.Prelude.{◌≡◌, ℕ, ◌/◌, ◌%◌, ◌==◌, true, cond, List, [], slice_get, Option, Some, None, unwrap_or, bytes_eq, Contains}
 use Rattle.std.specs.Global.{Vec}
 use Rattle.std.specs.Int.{bit_at}
 use Rattle.std.specs.Ordering.{nat_cmp}
@@ -11,6 +11,7 @@ use Rattle.avro_schema.specs.Node.{Node, FieldNode, node_at, items_node, values_
 use Rattle.avro_schema_json.specs.inside.Rows.{has_place}
 use Rattle.avro_schema_json.specs.inside.Covers.{place_of, own_ids}
 use Rattle.avro_schema_json.specs.declared.defaults.parents.Places.{Places}
+use Rattle.avro_schema_json.specs.declared.defaults.parents.RowWord.{RowWord}
 
 -- how a part is in what holds it
 pub data Label : Type 0 where
@@ -39,19 +40,19 @@ IsStep nodes last label row parents =
     (x t y : ℕ) → IsPart label (node_at nodes x) t → Contains (own_ids nodes t) y → has_place row (place_of last y) ≡ true
     → has_place parents (place_of last x) ≡ true
 
--- the bit of a place, in words from that of the first place on
-unfoldable pub has_bit : List ℕ → ℕ → Type 0
-has_bit words p = bit_at (get_or words (p / 64) 0) (p % 64) ≡ 1
+-- one of some words of a row has the bit of a place
+unfoldable pub has_bit : List RowWord → ℕ → Type 0
+has_bit words p = (at : ℕ) × (word : RowWord) × (slice_get words at ≡ Some word) × (word.index ≡ p / 64) × (bit_at word.bits (p % 64) ≡ 1)
 
-abbrev pub words_or_none : Option (Vec ℕ) → List ℕ
+abbrev pub words_or_none : Option (Vec RowWord) → List RowWord
 words_or_none None = []
 words_or_none (Some words) = words.items
 
 -- the words of the parents of one of 64 places, none if its bit is not set
-abbrev pub words_in : Places → ℕ → List ℕ
+abbrev pub words_in : Places → ℕ → List RowWord
 words_in places i = cond (bit_at places.bits i == 1) (words_or_none (get nat_cmp places.parents i)) []
 
-abbrev pub words_in_some : Option Places → ℕ → List ℕ
+abbrev pub words_in_some : Option Places → ℕ → List RowWord
 words_in_some None i = []
 words_in_some (Some places) i = words_in places i
 
@@ -63,14 +64,14 @@ abbrev pub Parents : Type 0
 Parents = BTreeMap ℕ Under
 
 -- the words of the parents of a place
-abbrev pub words_under : Under → ℕ → List ℕ
+abbrev pub words_under : Under → ℕ → List RowWord
 words_under under place = words_in_some (get nat_cmp under (place / 64)) (place % 64)
 
-abbrev pub words_at : Option Under → ℕ → List ℕ
+abbrev pub words_at : Option Under → ℕ → List RowWord
 words_at None place = []
 words_at (Some under) place = words_under under place
 
-abbrev pub words_of : Parents → ℕ → ℕ → List ℕ
+abbrev pub words_of : Parents → ℕ → ℕ → List RowWord
 words_of parents place number = words_at (get nat_cmp parents number) place
 
 -- words with numbers, and the number of the label of a name

@@ -4,7 +4,7 @@ ghost use Rattle.std.specs.Prelude.{◌≡◌, ℕ, ◌⊎◌, ◌∷◌, [], tr
 ghost use Rattle.std.specs.List.{list_all};
 ghost use Rattle.avro_name.specs.Name.{Name, has_dot, name_of};
 ghost use Rattle.avro_schema.specs.Seen.{texts_of};
-ghost use Rattle.avro_schema_json.specs.DeclaredAttributes.{text_in, needed, name_in, alias_texts_in, aliases_in, default_symbol_from, symbols_in, size_in, as_texts, texts_of as texts_in};
+ghost use Rattle.avro_schema_json.specs.DeclaredAttributes.{text_in, needed, name_from, alias_texts_in, aliases_in, default_symbol_from, symbols_in, size_in, as_texts, texts_of as texts_in};
 ghost use Rattle.avro_schema_json.specs.Declares.{form_of as form_of_text};
 ghost use Rattle.avro_schema_json.specs.inside.Reading.{IsAttribute, IsRefusal};
 ghost use Rattle.avro_schema_json.specs.inside.ReadingSeen.{form_seen};
@@ -57,7 +57,7 @@ fn texts_of_items(alloc: Global, items: &[Value]) -> Result<Vec<String>, SchemaE
 }
 
 /// The text under a key.
-fn text<'a>(members: &'a Members, key: &str) -> Option<&'a str>
+pub(crate) fn text<'a>(members: &'a Members, key: &str) -> Option<&'a str>
     ensures { option_map (λ s. s.now) result ≡ text_in key.now (members_view members.now.entries) }
 {
     member(members, key)?.as_str()
@@ -91,21 +91,24 @@ pub(crate) fn full_name(
     Ok(FullName::read(alloc, text, enclosing)?)
 }
 
-/// The fullname of a definition. Where the name has a dot, its namespace is not looked at.
+/// The fullname that the name and the namespace of a definition say. Beside a name with a dot, the namespace is not
+/// looked at.
 pub(crate) fn name(
     alloc: Global,
     enclosing: &Namespace,
-    members: &Members,
+    text: Option<&str>,
+    namespace: Option<&Value>,
 ) -> Result<FullName, SchemaError>
-    ensures { IsErrOf result SchemaError.OutOfMemory ⊎ (result ≡ name_in enclosing.now (members_view members.now.entries)) }
+    ensures { IsErrOf result SchemaError.OutOfMemory
+        ⊎ (result ≡ name_from enclosing.now (option_map (λ v. view v.now) namespace.entry) (option_map (λ s. s.now) text.entry)) }
 {
-    let Some(text) = text(members, "name") else {
+    let Some(text) = text else {
         return Err(SchemaError::InvalidDeclaration);
     };
     if has_dot(text) {
         return full_name(alloc, text, enclosing);
     }
-    match member(members, "namespace") {
+    match namespace {
         Some(value) => match value.as_str() {
             Some(space) => full_name(alloc, text, &Namespace::read(alloc, space)?),
             None => Err(SchemaError::InvalidDeclaration),
@@ -115,11 +118,12 @@ pub(crate) fn name(
 }
 
 /// Whether a definition has no namespace of its own, so that it is in the enclosing one.
-pub(crate) fn inherits(members: &Members) -> bool
-    ensures { result ≡ true → (enclosing : List ℕ) (name : Name) → name_in enclosing (members_view members.now.entries) ≡ Ok name → name.namespace ≡ enclosing }
+pub(crate) fn inherits(text: Option<&str>, namespace: Option<&Value>) -> bool
+    ensures { result ≡ true → (enclosing : List ℕ) (name : Name)
+        → name_from enclosing (option_map (λ v. view v.now) namespace.entry) (option_map (λ s. s.now) text.entry) ≡ Ok name → name.namespace ≡ enclosing }
 {
-    match text(members, "name") {
-        Some(text) => !has_dot(text) && member(members, "namespace").is_none(),
+    match text {
+        Some(text) => !has_dot(text) && namespace.is_none(),
         None => false,
     }
 }

@@ -74,7 +74,7 @@ impl NameTable {
     }
 
     /// The id of the definition of a name.
-    pub fn id(&self, alloc: Global, name: &FullName) -> Result<Option<u32>, AllocError>
+    pub fn id(&self, name: &FullName) -> Result<Option<u32>, AllocError>
         ensures { IfOk result (λ id. id ≡ id_of name.now (known_of self.now)) }
     {
         match self.numbers.get_index_of(name.space()) {
@@ -82,24 +82,19 @@ impl NameTable {
                 let Ok(number) = u32::try_from(i) else {
                     return Err(AllocError);
                 };
-                self.id_in(alloc, number, name.simple())
+                Ok(self.id_in(number, name.simple()))
             }
             None => Ok(None),
         }
     }
 
     /// The id of the definition of a simple name in the namespace of this number.
-    pub fn id_in(
-        &self,
-        _alloc: Global,
-        number: u32,
-        simple: &str,
-    ) -> Result<Option<u32>, AllocError>
-        ensures { IfOk result (λ id. (namespace : List ℕ) → number_of self.now.numbers namespace ≡ Some number
-            → id ≡ id_of (record { namespace = namespace; simple = simple.now }) (known_of self.now)) }
+    pub fn id_in(&self, number: u32, simple: &str) -> Option<u32>
+        ensures { (namespace : List ℕ) → number_of self.now.numbers namespace ≡ Some number
+            → result ≡ id_of (record { namespace = namespace; simple = simple.now }) (known_of self.now) }
     {
         let key = NameKey { number, simple };
-        Ok(self.ids.get(key).copied())
+        self.ids.get(key).copied()
     }
 
     /// Adds a name that is not known, in a numbered namespace.

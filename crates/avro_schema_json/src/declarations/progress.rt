@@ -1,4 +1,4 @@
-ghost use Rattle.std.specs.Prelude.{◌≡◌, ◌<◌, Some, Ok, length, slice_set, IfOk, IfErr, Contains};
+ghost use Rattle.std.specs.Prelude.{◌≡◌, ◌<◌, true, Some, length, slice_set, IfOk, IfErr, Contains};
 ghost use Rattle.avro_name.specs.Name.{name_of};
 ghost use Rattle.avro_schema.specs.Node.Node.{null as NullNode};
 ghost use Rattle.avro_schema_json.specs.DeclaredAttributes.{name_in};
@@ -9,7 +9,7 @@ ghost use Rattle.avro_schema_json.specs.inside.ReadingSeen.{state_of, IsEnclosed
 ghost use Rattle.avro_schema_json.specs.inside.SeenRaw.{raw_node_of};
 ghost use Rattle.serde_json.specs.View.{members_view};
 
-use crate::declarations::attributes::{Members, full_name, has_dot, inherits, name};
+use crate::declarations::attributes::{Members, full_name, has_dot, inherits, member, name, text};
 use crate::declarations::name_table::{NameTable, Space};
 use crate::error::SchemaError;
 use crate::raw::RawNode;
@@ -79,7 +79,7 @@ impl<'a> Progress<'a> {
         ensures refused { IfErr result (IsRefusal (made_at (reference word.now) enclosing.now.namespace (state_of self.now)).faults) }
     {
         let name = full_name(alloc, word, &enclosing.namespace)?;
-        let id = self.id_of_word(alloc, enclosing, word, &name)?;
+        let id = self.id_of_word(enclosing, word, &name)?;
         match id {
             Some(id) => Ok(NodeId(id)),
             None => Err(SchemaError::UnknownName),
@@ -89,7 +89,6 @@ impl<'a> Progress<'a> {
     /// The id of the definition that a word refers to, which means this name.
     fn id_of_word(
         &self,
-        alloc: Global,
         enclosing: &Space,
         word: &str,
         name: &FullName,
@@ -98,25 +97,25 @@ impl<'a> Progress<'a> {
         ensures { IfOk result (λ id. id ≡ id_of name.now (state_of self.now).known) }
     {
         if has_dot(word) {
-            return self.names.id(alloc, name);
+            return self.names.id(name);
         }
-        self.names.id_in(alloc, enclosing.number, name.simple())
+        Ok(self.names.id_in(enclosing.number, name.simple()))
     }
 
-    /// The numbered namespace of a definition's name.
+    /// The numbered namespace of a definition's name, which may be inherited: it is the enclosing one.
     fn space_of(
         &mut self,
         enclosing: &Space,
-        members: &Members,
+        inherited: bool,
         name: &FullName,
     ) -> Result<Space, AllocError>
-        requires { IsEnclosed self.old enclosing.now × (name_in enclosing.now.namespace (members_view members.now.entries) ≡ Ok name.now) }
+        requires { IsEnclosed self.old enclosing.now × (inherited ≡ true → name.now.namespace ≡ enclosing.now.namespace) }
         ensures namespace { IfOk result (λ space. space.namespace ≡ name.now.namespace) }
         ensures numbered { IfOk result (λ space. IsEnclosed self.new space) }
         ensures state { state_of self.new ≡ state_of self.old }
         ensures kept { Keeps self.old self.new }
     {
-        if inherits(members) {
+        if inherited {
             return Ok(Space {
                 namespace: enclosing.namespace.clone()?,
                 number: enclosing.number,
@@ -139,10 +138,11 @@ impl<'a> Progress<'a> {
         ensures refused { IfErr result (IsRefusal (beginning_faults (state_of self.old) (name_in enclosing.now.namespace (members_view members.now.entries)))) }
         ensures kept { Keeps self.old self.new }
     {
-        let name = name(alloc, &enclosing.namespace, members)?;
-        let space = self.space_of(enclosing, members, &name)?;
-        let known = self.names.id_in(alloc, space.number, name.simple())?;
-        if known.is_some() {
+        let word = text(members, "name");
+        let own = member(members, "namespace");
+        let name = name(alloc, &enclosing.namespace, word, own)?;
+        let space = self.space_of(enclosing, inherits(word, own), &name)?;
+        if self.names.id_in(space.number, name.simple()).is_some() {
             return Err(SchemaError::DuplicateName);
         }
         let id = self.reserve()?;

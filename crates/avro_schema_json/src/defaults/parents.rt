@@ -1,13 +1,13 @@
 //! Under which labels a node is a part of which nodes, its parents: as items of arrays, as values of maps, or as
 //! fields of a name, also as a branch of a union there. A text that is a symbol has its enums as parents.
 
-ghost use Rattle.std.specs.Prelude.{◌≡◌, ◌<◌, ◌≤◌, ℕ, true, length, OnOk};
+ghost use Rattle.std.specs.Prelude.{◌≡◌, ◌<◌, ℕ, true, OnOk};
 ghost use Rattle.std.specs.Int.{bit_at};
 ghost use Rattle.avro_schema_json.specs.inside.Parents.{KeepsParents, KeepsPlaces, KeepsUnder, has_bit, words_in, words_of, words_under};
 ghost use Rattle.avro_schema_json.specs.inside.Rows.{has_place, IsWithin};
 ghost use Rattle.avro_schema_json.specs.inside.Steps.{Follows};
 
-use crate::defaults::rows::{Row, empty_row, word_of};
+use crate::defaults::rows::{Row, empty_row, put_bits, word_of};
 use avro_schema::Memory;
 use std::alloc::Global;
 use std::collections::BTreeMap;
@@ -18,12 +18,19 @@ pub(crate) const ITEMS: u32 = 0;
 /// The label of values of maps.
 pub(crate) const VALUES: u32 = 1;
 
-/// Which of 64 places have parents under one label, as bits, and the parents of each, by its bit: the words of rows up
-/// to the last that has a bit.
+/// A word of a row by its index, with some bits.
+#[derive(Clone, Copy, Drop)]
+pub(crate) struct RowWord {
+    pub index: usize,
+    pub bits: u64,
+}
+
+/// Which of 64 places have parents under one label, as bits, and the parents of each, by its bit: those words of a row
+/// that have bits, each once.
 #[derive(Drop)]
 pub(crate) struct Places {
     pub bits: u64,
-    pub parents: BTreeMap<usize, Vec<u64>>,
+    pub parents: BTreeMap<usize, Vec<RowWord>>,
 }
 
 /// The parents of each place under one label, by words of 64 places.
@@ -78,29 +85,24 @@ fn put_in(alloc: Global, places: &mut Places, bit: usize, parent: u32) -> Result
 }
 
 /// Adds a parent.
-fn add_parent(words: &mut Vec<u64>, parent: u32) -> Result<(), Memory>
+fn add_parent(words: &mut Vec<RowWord>, parent: u32) -> Result<(), Memory>
     ensures kept { OnOk result ((p : ℕ) → has_bit words.old.items p → has_bit words.new.items p) }
     ensures added { OnOk result (has_bit words.new.items parent) }
 {
-    let word = parent as usize / 64;
-    extend_to(words, word + 1)?;
-    words[word] |= 1 << (parent % 64);
-    Ok(())
-}
-
-/// Adds words without bits, until there are so many.
-fn extend_to(words: &mut Vec<u64>, count: usize) -> Result<(), Memory>
-    ensures kept { OnOk result ((p : ℕ) → has_bit words.old.items p → has_bit words.new.items p) }
-    ensures within { OnOk result (count ≤ length words.new.items) }
-{
-    for _ in words.len()..count {
-        words.push(0)?;
+    let index = parent as usize / 64;
+    let bits = 1 << (parent % 64);
+    for i in 0..words.len() {
+        if words[i].index == index {
+            words[i].bits |= bits;
+            return Ok(());
+        }
     }
+    words.push(RowWord { index, bits })?;
     Ok(())
 }
 
 /// The parents of a place under a label.
-pub(crate) fn parents_at(parents: &Parents, place: usize, label: u32) -> &[u64]
+pub(crate) fn parents_at(parents: &Parents, place: usize, label: u32) -> &[RowWord]
     ensures { result.now ≡ words_of parents.now place label }
 {
     match parents.get(&label) {
@@ -113,7 +115,7 @@ pub(crate) fn parents_at(parents: &Parents, place: usize, label: u32) -> &[u64]
 }
 
 /// The parents of one of 64 places.
-fn parents_in(places: &Places, bit: usize) -> &[u64]
+fn parents_in(places: &Places, bit: usize) -> &[RowWord]
     requires bit { bit < 64 }
     ensures { result.now ≡ words_in places.now bit }
 {
@@ -128,12 +130,12 @@ fn parents_in(places: &Places, bit: usize) -> &[u64]
 }
 
 /// Adds parents to a row.
-pub(crate) fn put_parents(row: &mut Row, words: &[u64])
+pub(crate) fn put_parents(row: &mut Row, words: &[RowWord])
     ensures kept { IsWithin row.old.words row.new.words }
     ensures added { (p : ℕ) → has_bit words.now p → has_place row.new.words p ≡ true }
 {
-    for i in 0..words.len().min(64) {
-        row.words[i] |= words[i];
+    for word in words {
+        put_bits(row, word.index, word.bits);
     }
 }
 

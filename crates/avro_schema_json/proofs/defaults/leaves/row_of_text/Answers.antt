@@ -1,8 +1,8 @@
-use Rattle.avro_schema_json.proofs.Words.{arith, ◌≡◌, ℕ, ◌+◌, List, length, Some, None, option_map, sym, ap, subst, ◌∙◌, rules, unwrap_or, Numbered, Parents, has_bit, words_of, label_of, HasSymbol, none-some, same_Some, bytes_of_text, HasKind}
+use Rattle.avro_schema_json.proofs.Words.{arith, ◌≡◌, ℕ, ◌+◌, List, length, Some, None, option_map, sym, ap, subst, ◌∙◌, rules, unwrap_or, Numbered, Parents, has_bit, RowWord, words_of, label_of, HasSymbol, none-some, same_Some, bytes_of_text, HasKind}
 use Rattle.avro_schema_json.proofs.LeavesSeen.{text-covered}
 use Rattle.avro_schema_json.proofs.defaults.leaves.row_of_text.Goals as goal
 
-symbol-bit : (labels : Numbered) (parents : Parents) (last label p : ℕ) (text words : List ℕ)
+symbol-bit : (labels : Numbered) (parents : Parents) (last label p : ℕ) (text : List ℕ) (words : List RowWord)
     → label ≡ unwrap_or (label_of labels text) 1 → words ≡ words_of parents (last + 1) label → HasSymbol labels parents last p text → has_bit words p
 symbol-bit labels parents last label p text words is at has = grind arith
 

@@ -1,10 +1,10 @@
-use Rattle.avro_schema_json.proofs.Words.{arith, ◌≡◌, ℕ, [], Option, get, nat_cmp, unwrap_or, Vec, words_or_none}
+use Rattle.avro_schema_json.proofs.Words.{arith, ◌≡◌, [], Option, get, nat_cmp, unwrap_or, RowWord, Vec, words_or_none}
 use Rattle.avro_schema_json.proofs.ParentsSeen.{in-set, kept-in}
 use Rattle.avro_schema_json.proofs.RowsSeen.{bit-itself, more-right}
 use Rattle.avro_schema_json.proofs.defaults.parents.put_in.Goals as goal
 
 -- the words that were there, or none
-taken : (o : Option (Vec ℕ)) (none : Vec ℕ) → none.items ≡ [] → (unwrap_or o none).items ≡ words_or_none o
+taken : (o : Option (Vec RowWord)) (none : Vec RowWord) → none.items ≡ [] → (unwrap_or o none).items ≡ words_or_none o
 taken o none is = grind arith
 
 pub returns-clause-kept : goal.returns-clause-kept

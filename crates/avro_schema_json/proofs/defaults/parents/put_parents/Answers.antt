@@ -1,9 +1,11 @@
-use Rattle.avro_schema_json.proofs.Words.{arith}
-use Rattle.avro_schema_json.proofs.RowsSeen.{words-within}
+use Rattle.avro_schema_json.proofs.ParentsSeen.{word-added, words-added}
 use Rattle.avro_schema_json.proofs.defaults.parents.put_parents.Goals as goal
 
-pub returns-clause-kept : goal.returns-clause-kept
-returns-clause-kept c = grind (arith, words-within)
+pub loop-word-preserved : goal.loop-word-preserved
+loop-word-preserved c =
+    word-added c.args.words.now c.loop-word.word-index _ c.args.row.now.words c.loop-word.row.words c.put_bits.new.row.words c.loop-word-test.true c.put_bits.ensures.kept
+    c.put_bits.ensures.added c.loop-word.invariant
 
 pub returns-clause-added : goal.returns-clause-added
-returns-clause-added c = grind (arith, words-within)
+returns-clause-added c =
+    words-added c.args.words.now c.loop-word.word-index c.args.row.now.words c.loop-word.row.words c.loop-word-test.false c.loop-word.invariant
