@@ -146,9 +146,9 @@ impl Make for Appending {
 
     ghost still_stands = { λ s t nodes n at out v kept stand may. still_holds s.bytes t.bytes out (plain (in_branch at.branch v)) kept.1 (stand may) };
 
-    ghost items_kept = { λ s t nodes id at items vs kept stand. (stand.0, stand.1.0, still_holds s.bytes t.bytes items.written (plain_values (values_from vs)) kept.1 stand.1.1) };
+    ghost items_kept = { λ s t nodes id at items vs kept stand. (stand.0, (stand.1.0, still_holds s.bytes t.bytes items.written (plain_values (values_from vs)) kept.1 stand.1.1)) };
 
-    ghost entries_kept = { λ s t nodes id at entries es kept stand. (stand.0, stand.1.0, still_holds s.bytes t.bytes entries.written (plain_entries (entries_from es)) kept.1 stand.1.1) };
+    ghost entries_kept = { λ s t nodes id at entries es kept stand. (stand.0, (stand.1.0, still_holds s.bytes t.bytes entries.written (plain_entries (entries_from es)) kept.1 stand.1.1)) };
 
     ghost fields_kept = { λ s t nodes fs at fields vs kept stand. still_holds s.bytes t.bytes fields (branch_bytes at.branch ++ plain_values (values_from vs)) kept.1 stand };
 

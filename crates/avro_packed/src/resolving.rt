@@ -9,11 +9,12 @@ ghost use Rattle.avro_cursor.specs.Breaks.{Breaks};
 ghost use Rattle.avro_cursor.specs.Encoding.{plain};
 ghost use Rattle.avro_cursor.specs.Seen.{read_fault};
 ghost use Rattle.avro_resolve.specs.Reading.{ReadsAs};
-ghost use Rattle.avro_packed.specs.Appended.{AppendsWithin, Keeps};
+ghost use Rattle.avro_packed.specs.Appended.{AppendsWithin, Holds, Keeps};
 ghost use Rattle.avro_compare.specs.Seen.{fault_of};
 ghost use Rattle.avro_resolve.specs.Seen.{IfUnread, IfUnresolved};
 
 use crate::appending::Appending;
+use crate::written::Written;
 use avro_binary::ReadError;
 use avro_resolve::{PlanRef, ReadResolveError};
 use avro_schema::Limits;
@@ -73,7 +74,7 @@ fn append_put(
     ensures refused { IfUnread result (λ e. IfSome (read_fault e) (Breaks (schema_nodes plan.now.0) limits.now (root_of (schema_nodes plan.now.0)) bytes.now)) }
     ensures kept { OnOk result (Keeps room.old room.new) }
 {
-    match plan.put(alloc, bytes, limits, room) {
+    match put_into(alloc, plan, bytes, limits, room) {
         Ok((written, len)) => match room.append(&written, most, out) {
             Ok(told) => {
                 room.keep_room(written);
@@ -83,4 +84,21 @@ fn append_put(
         },
         Err(error) => Err(error),
     }
+}
+
+/// Puts a datum into the room, which then has its plain encoding where the answer says.
+fn put_into(
+    alloc: Global,
+    plan: &PlanRef<'_>,
+    bytes: &[u8],
+    limits: &Limits,
+    room: &mut Appending,
+) -> Result<(Written, usize), ReadResolveError>
+    ensures found { IfOk result (λ read. (u : Value) × Holds room.new.bytes read.0 (plain u)
+        × ReadsAs (schema_nodes plan.now.0) (schema_nodes plan.now.1) limits.now bytes.now read.1 (Ok u)) }
+    ensures faulty { IfUnresolved result (λ f. (len : ℕ) × ReadsAs (schema_nodes plan.now.0) (schema_nodes plan.now.1) limits.now bytes.now len (Err (fault_of f))) }
+    ensures refused { IfUnread result (λ e. IfSome (read_fault e) (Breaks (schema_nodes plan.now.0) limits.now (root_of (schema_nodes plan.now.0)) bytes.now)) }
+    ensures kept { OnOk result (Keeps room.old room.new) }
+{
+    plan.put(alloc, bytes, limits, room)
 }
