@@ -58,21 +58,12 @@ pub record IsAllFound (writer : List Node) (reader : Option (List Node)) (limits
   pub there : IsFound writer reader limits skip bytes found
   pub alone : (other : Found) → IsFound writer reader limits skip bytes other → other ≡ found
 
--- what is before the display of a datum
-abbrev pub head_of : Form → ℕ → List ℕ
-head_of Form.Text len = codes "bytes " ++ decimal len ++ codes "\ndatum "
-head_of Form.Json len = codes "{\"bytes\":" ++ decimal len ++ codes ",\"datum\":"
-
--- what is after it
-abbrev pub tail_of : Form → List ℕ
-tail_of Form.Text = codes "\n"
-tail_of Form.Json = codes "}\n"
-
 -- the length of an encoding and a display, as two lines or as a line of JSON
 abbrev pub text_around : Form → List ℕ → ℕ → List ℕ
-text_around form display len = head_of form len ++ display ++ tail_of form
+text_around Form.Text display len = codes "bytes " ++ decimal len ++ codes "\ndatum " ++ display ++ codes "\n"
+text_around Form.Json display len = codes "{\"bytes\":" ++ decimal len ++ codes ",\"datum\":" ++ display ++ codes "}\n"
 
--- the length of the encoding and the display of the datum, as two lines or as a line of JSON
+-- the length of the encoding and the display of the datum
 abbrev pub datum_text : Form → List Node → Value → ℕ → List ℕ
 datum_text form nodes u len = text_around form (display_text nodes (root_of nodes) u) len
 
