@@ -189,12 +189,7 @@ impl<'a> DataPlan<'a> {
     }
 
     /// Passes the datum at the front of bytes, and returns the length of its encoding.
-    fn pass(
-        &self,
-        alloc: Global,
-        bytes: &[u8],
-        limits: &Limits,
-    ) -> Result<usize, ReadResolveError>
+    fn pass(&self, alloc: Global, bytes: &[u8], limits: &Limits) -> Result<usize, ReadResolveError>
         ensures found { IfOk result (λ len. (u : Value) × IsAllFound (schema_nodes self.now.0) (option_map schema_nodes self.now.1) limits.now 0 bytes.now (datum u len)) }
         ensures refused { IfErr result (λ e. IfSome (fault_found e) (IsAllFound (schema_nodes self.now.0) (option_map schema_nodes self.now.1) limits.now 0 bytes.now)) }
     {
