@@ -14,9 +14,11 @@ use Rattle.avro_cursor.specs.Breaks.{Breaks}
 use Rattle.avro_cursor.specs.Encoding.{Encodes}
 use Rattle.avro_cursor.specs.Fault.{ReadFault}
 use Rattle.avro_cursor.specs.Seen.{read_fault}
+use Rattle.avro_cursor.specs.declared.error.ReadError.{ReadError}
 use Rattle.avro_binary.specs.Reading.{ReadsExactly}
 use Rattle.avro_compare.specs.Resolve.{Resolved}
 use Rattle.avro_compare.specs.Seen.{fault_of}
+use Rattle.avro_compare.specs.declared.error.Fault.{Fault}
 use Rattle.avro_resolve.specs.Reading.{ReadsAs}
 use Rattle.avro_resolve.specs.Seen.{IfUnread, IfUnresolved}
 use Rattle.avro_resolve.specs.declared.error.ReadResolveError.{ReadResolveError}
@@ -26,7 +28,7 @@ use Rattle.avro_answer.specs.ReadAnswer.{Found, datum, broken, unresolved, Begin
 use Rattle.avro_answer.specs.declared.form.Form.{Form}
 use Rattle.avro_answer.specs.inside.AtFront.{IsDisplayed}
 
-same_ok : {A B : Type 0} (r : Result A B) (a b : A) → r ≡ Ok a → r ≡ Ok b → a ≡ b
+pub same_ok : {A B : Type 0} (r : Result A B) (a b : A) → r ≡ Ok a → r ≡ Ok b → a ≡ b
 same_ok r a b g h = cc
 
 same_err : {A B : Type 0} (r : Result A B) (a b : B) → r ≡ Err a → r ≡ Err b → a ≡ b
@@ -104,11 +106,11 @@ module _ (writer : List Node) (reader : Option (List Node)) (limits : LimitValue
   found_told form len u h = record { value = u; len = len; is_found = h; told = refl }
 
   -- the datum that is read where one is found
-  pub datum_read : (d : Datum) (n : ℕ) → ReadsExactly writer (root_of writer) limits bytes (Ok (d, n))
-      → (u : Value) (len : ℕ) → IsAllFound writer reader limits 0 bytes (datum u len) → read_as writer reader (value_of d) ≡ Ok u
-  datum_read d n h u len all = by_place all.there
+  pub datum_read : (r : Datum × ℕ) → ReadsExactly writer (root_of writer) limits bytes (Ok r)
+      → (u : Value) (len : ℕ) → IsAllFound writer reader limits 0 bytes (datum u len) → read_as writer reader (value_of r.0) ≡ Ok u
+  datum_read r h u len all = by_place all.there
     where
-      by_place : IsFound writer reader limits 0 bytes (datum u len) → read_as writer reader (value_of d) ≡ Ok u
+      by_place : IsFound writer reader limits 0 bytes (datum u len) → read_as writer reader (value_of r.0) ≡ Ok u
       by_place (inl (few, _)) = absurd (omega (arith, few))
       by_place (inr (_, (v, b, reads))) = ap (read_as writer reader) (h.begins v b.front b.rest b.encoded b.within b.parted).0 ∙ reads
 
@@ -158,11 +160,21 @@ module _ (writer : List Node) (all : OnlyFound writer) (limits : LimitValues) (b
     read_is_displayed stands nodes same (Err e) h = tt
 
     -- why it is refused
-    pub refusal_is_found : {A : Type 0} (result : Result A ReadResolveError)
+    unresolved_is_found : (f : Fault) (len : ℕ) → ReadsAs writer reader limits bytes len (Err (fault_of f)) → IsAllFound writer (Some reader) limits 0 bytes (unresolved (fault_of f))
+    unresolved_is_found f len r = all (Some reader) limits bytes (unresolved (fault_of f)) (r.datum, len, begins len (Err (fault_of f)) r, r.resolves)
+
+    pub refusal_is_found : (e : ReadResolveError)
+        → ((f : Fault) → e ≡ ReadResolveError.Resolve f → (len : ℕ) × ReadsAs writer reader limits bytes len (Err (fault_of f)))
+        → ((x : ReadError) → e ≡ ReadResolveError.Read x → IfSome (read_fault x) (Breaks writer limits (root_of writer) bytes))
+        → IfSome (fault_found e) (IsAllFound writer (Some reader) limits 0 bytes)
+    refusal_is_found (ReadResolveError.Resolve f) g h = let p = g f refl in unresolved_is_found f p.0 p.1
+    refusal_is_found (ReadResolveError.Read e) g h = fault_is_found (Some reader) (read_fault e) (h e refl)
+
+    -- the same of a result
+    pub refusals_are_found : {A : Type 0} (result : Result A ReadResolveError)
         → IfUnresolved result (λ f. (len : ℕ) × ReadsAs writer reader limits bytes len (Err (fault_of f)))
         → IfUnread result (λ e. IfSome (read_fault e) (Breaks writer limits (root_of writer) bytes))
         → IfErr result (λ e. IfSome (fault_found e) (IsAllFound writer (Some reader) limits 0 bytes))
-    refusal_is_found (Ok a) g h = tt
-    refusal_is_found (Err (ReadResolveError.Resolve f)) (len, r) h =
-        all (Some reader) limits bytes (unresolved (fault_of f)) (r.datum, begins len (Err (fault_of f)) r, r.resolves)
-    refusal_is_found (Err (ReadResolveError.Read e)) g h = fault_is_found (Some reader) (read_fault e) h
+    refusals_are_found (Ok a) g h = tt
+    refusals_are_found (Err (ReadResolveError.Resolve f)) g h = unresolved_is_found f g.0 g.1
+    refusals_are_found (Err (ReadResolveError.Read e)) g h = fault_is_found (Some reader) (read_fault e) h

@@ -2,20 +2,17 @@
 use Rattle.std.proofs.Common.{◌≡◌, ◌∙◌, ℕ, List, [], ◌++◌, Result, Ok, Err, refl, sym, ap, subst, append_assoc}
 use Rattle.std.specs.Prelude.{IfOk, IsErrOf, OnErr, OnOk}
 use Rattle.std.specs.Result.{IfErr}
-use Rattle.avro_certificate.specs.CertificateText.{decimal}
 use Rattle.avro_device.specs.PutFront.{PutsFrontOf}
 use Rattle.avro_display.specs.Pieces.{PutsText}
 use Rattle.avro_display.specs.declared.put_error.PutError.{PutError}
 use Rattle.avro_display.proofs.public.Fronts.{fronts_both, fronts_held, fronts_longer}
-use Rattle.avro_schema.specs.Value.{Value}
-use Rattle.avro_compare.specs.Resolve.{Resolved}
 use Rattle.avro_resolve.specs.declared.error.ReadResolveError.{ReadResolveError}
 use Rattle.avro_answer.specs.DataPut.{IfPutFails, IfRefused}
 use Rattle.avro_answer.specs.ReadAnswer.{text_around}
 use Rattle.avro_answer.specs.declared.data_error.DataError.{DataError}
 use Rattle.avro_answer.specs.declared.form.Form.{Form}
 use Rattle.avro_answer.specs.inside.AtFront.{of_put}
-use Rattle.avro_answer.specs.inside.DatumParts.{before_of, between_of, head_of, tail_of}
+use Rattle.avro_answer.specs.inside.DatumParts.{head_of, tail_of}
 
 pub if_ok : {A E : Type 0} {P Q : A → Type 0} → ((a : A) → P a → Q a) → (r : Result A E) → IfOk r P → IfOk r Q
 if_ok f (Ok a) h = f a h
@@ -24,13 +21,6 @@ if_ok f (Err e) h = tt
 pub if_err : {A E : Type 0} {P Q : E → Type 0} → ((e : E) → P e → Q e) → (r : Result A E) → IfErr r P → IfErr r Q
 if_err f (Ok a) h = tt
 if_err f (Err e) h = f e h
-
-abbrev same_resolved : Resolved → Resolved → Type 0
-same_resolved r s = r ≡ s
-
--- what resolution gives is one datum
-pub same_ok : (v u : Value) → same_resolved (Ok v) (Ok u) → v ≡ u
-same_ok v u h = cc
 
 -- ---- A result of putting, as one of data
 
@@ -43,9 +33,9 @@ module _ {A : Type 0} where
   err_of f (Ok x) h = tt
   err_of f (Err e) h = f h
 
-  accepted : {P : ReadResolveError → Type 0} (r : Result A PutError) → IfRefused (of_put r) P
-  accepted (Ok x) = tt
-  accepted (Err e) = tt
+  accepted : (P : ReadResolveError → Type 0) (r : Result A PutError) → IfRefused (of_put r) P
+  accepted P (Ok x) = tt
+  accepted P (Err e) = tt
 
   failed_with : (e : PutError) (r : Result A PutError) → of_put r ≡ Err (DataError.Put e) → r ≡ Err e
   failed_with e (Ok x) is = absurd cc
@@ -58,8 +48,8 @@ module _ {A : Type 0} where
     pub err_as_data : {P Q : Type 0} → (P → Q) → OnErr r P → IfPutFails d Q
     err_as_data {P} {Q} f h = subst (λ (x : Result A DataError). IfPutFails x Q) (sym same) (err_of f r h)
 
-    pub not_refused : {P : ReadResolveError → Type 0} → IfRefused d P
-    not_refused {P} = subst (λ (x : Result A DataError). IfRefused x P) (sym same) (accepted r)
+    pub not_refused : (P : ReadResolveError → Type 0) → IfRefused d P
+    not_refused P = subst (λ (x : Result A DataError). IfRefused x P) (sym same) (accepted P r)
 
     pub error_as_data : (e : PutError) → IsErrOf d (DataError.Put e) → IsErrOf r e
     error_as_data e is = failed_with e r (sym same ∙ is)
@@ -73,10 +63,8 @@ module _ {O : Type 0} (keeps : O → List ℕ → O → Type 0) where
 
 -- the display behind a head and before a tail
 pub in_parts : (form : Form) (display : List ℕ) (len : ℕ) → head_of form len ++ (display ++ tail_of form) ≡ text_around form display len
-in_parts Form.Text display len = append_assoc (before_of Form.Text) (decimal len ++ between_of Form.Text) (display ++ tail_of Form.Text)
-    ∙ ap (λ t. before_of Form.Text ++ t) (append_assoc (decimal len) (between_of Form.Text) (display ++ tail_of Form.Text))
-in_parts Form.Json display len = append_assoc (before_of Form.Json) (decimal len ++ between_of Form.Json) (display ++ tail_of Form.Json)
-    ∙ ap (λ t. before_of Form.Json ++ t) (append_assoc (decimal len) (between_of Form.Json) (display ++ tail_of Form.Json))
+in_parts Form.Text display len = sym (append_assoc (head_of Form.Text len) display (tail_of Form.Text))
+in_parts Form.Json display len = sym (append_assoc (head_of Form.Json len) display (tail_of Form.Json))
 
 module _ {O : Type 0} (keeps : O → List ℕ → O → Type 0) (form : Form) (display : List ℕ) (len : ℕ) (held : List ℕ) (begun : held ≡ head_of form len) where
   whole : held ++ (display ++ tail_of form) ≡ text_around form display len

@@ -83,7 +83,7 @@ pub(crate) fn pass_for(
     let plan = plan.by_ref();
     one_found(plan.writer());
     match plan.read(alloc, bytes, limits, &mut Nothing) {
-        Ok((_, len)) => Ok(len),
+        Ok(read) => Ok(read.1),
         Err(error) => Err(error),
     }
 }

@@ -254,7 +254,7 @@ impl<'a> DataPlan<'a> {
             → IfOk result (λ d. read_as (schema_nodes self.now.0) (option_map schema_nodes self.now.1) (value_of d) ≡ Ok u) }
     {
         match decode(alloc, self.writer, self.writer.root(), bytes, limits) {
-            Ok((datum, _)) => Ok(datum),
+            Ok(read) => Ok(read.0),
             Err(_) => Err(Memory),
         }
     }

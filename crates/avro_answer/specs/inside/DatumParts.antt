@@ -15,7 +15,7 @@ between_of Form.Json = codes ",\"datum\":"
 
 -- all that is before the display
 abbrev pub head_of : Form → ℕ → List ℕ
-head_of form len = before_of form ++ (decimal len ++ between_of form)
+head_of form len = before_of form ++ decimal len ++ between_of form
 
 -- what is after it
 abbrev pub tail_of : Form → List ℕ

@@ -8,7 +8,7 @@ use Rattle.avro_show.specs.Spans.{StandsIn}
 use Rattle.avro_answer.specs.DataRead.{fault_found}
 use Rattle.avro_answer.specs.ReadAnswer.{IsAllFound}
 use Rattle.avro_answer.specs.inside.AtFront.{IsDisplayed}
-use Rattle.avro_answer.proofs.DataFound.{OnlyFound, read_is_displayed, refusal_is_found}
+use Rattle.avro_answer.proofs.DataFound.{OnlyFound, read_is_displayed, refusals_are_found}
 use Rattle.avro_answer.proofs.data_found.display_for.Goals as goal
 
 pub returns-clause-shown : goal.returns-clause-shown
@@ -32,4 +32,4 @@ returns-clause-refused c =
     let all = subst (λ (s : Schema). OnlyFound (schema_nodes s)) c.writer.ensures c.one_found.ensures in
     subst (λ (p : Schema × Schema). IfErr c.display_resolved.result (λ e. IfSome (fault_found e) (IsAllFound (schema_nodes p.0) (Some (schema_nodes p.1)) L 0 B)))
     c.by_ref-plan.ensures
-    (refusal_is_found (schema_nodes p.0) all L B (schema_nodes p.1) c.display_resolved.result c.display_resolved.ensures.faulty c.display_resolved.ensures.refused)
+    (refusals_are_found (schema_nodes p.0) all L B (schema_nodes p.1) c.display_resolved.result c.display_resolved.ensures.faulty c.display_resolved.ensures.refused)

@@ -1,4 +1,4 @@
-use Rattle.std.proofs.Common.{◌≡◌, Some, Err, subst}
+use Rattle.std.proofs.Common.{◌≡◌, Some, subst}
 use Rattle.std.specs.Option.{IfSome}
 use Rattle.avro_schema.specs.SeenSchema.{schema_nodes}
 use Rattle.avro_schema.specs.Value.{Value}
@@ -15,8 +15,8 @@ returns-in-Ok-clause-found c =
     let p = c.by_ref-plan.result in
     let all = subst (λ (s : Schema). OnlyFound (schema_nodes s)) c.writer.ensures c.one_found.ensures in
     let (u, stands, read) = c.in-Ok.ensures.found in
-    subst (λ (p : Schema × Schema). (u : Value) × IsAllFound (schema_nodes p.0) (Some (schema_nodes p.1)) L 0 B (datum u c.in-Ok.len)) c.by_ref-plan.ensures
-    (u, read_is_found (schema_nodes p.0) all L B (schema_nodes p.1) c.in-Ok.len u read)
+    subst (λ (p : Schema × Schema). (u : Value) × IsAllFound (schema_nodes p.0) (Some (schema_nodes p.1)) L 0 B (datum u c.in-Ok.read.1)) c.by_ref-plan.ensures
+    (u, read_is_found (schema_nodes p.0) all L B (schema_nodes p.1) c.in-Ok.read.1 u read)
 
 pub returns-in-Err-clause-refused : goal.returns-in-Err-clause-refused
 returns-in-Err-clause-refused c =
@@ -25,4 +25,4 @@ returns-in-Err-clause-refused c =
     let p = c.by_ref-plan.result in
     let all = subst (λ (s : Schema). OnlyFound (schema_nodes s)) c.writer.ensures c.one_found.ensures in
     subst (λ (p : Schema × Schema). IfSome (fault_found c.in-Err.error) (IsAllFound (schema_nodes p.0) (Some (schema_nodes p.1)) L 0 B)) c.by_ref-plan.ensures
-    (refusal_is_found (schema_nodes p.0) all L B (schema_nodes p.1) (Err c.in-Err.error) c.in-Err.ensures.faulty c.in-Err.ensures.refused)
+    (refusal_is_found (schema_nodes p.0) all L B (schema_nodes p.1) c.in-Err.error (λ f is. rw is at c.in-Err.ensures.faulty) (λ e is. rw is at c.in-Err.ensures.refused))

@@ -16,7 +16,7 @@ returns-in-Ok c =
     let W = schema_nodes p.writer.now in
     let L = c.args.limits.now in
     let B = c.args.bytes.now in
-    let read = subst (λ n. ReadsExactly W (node_at W n) L B (Ok (c.in-Ok.datum, c.in-Ok.field-0.1))) c.root.ensures.root c.in-Ok.ensures in
-    in_seen (λ (W : List Node) (R : Option (List Node)). (u : Value) (len : ℕ) → IsAllFound W R L 0 B (datum u len) → read_as W R (value_of c.in-Ok.datum) ≡ Ok u)
+    let read = subst (λ n. ReadsExactly W (node_at W n) L B (Ok c.in-Ok.read)) c.root.ensures.root c.in-Ok.ensures in
+    in_seen (λ (W : List Node) (R : Option (List Node)). (u : Value) (len : ℕ) → IsAllFound W R L 0 B (datum u len) → read_as W R (value_of c.in-Ok.read.0) ≡ Ok u)
     p.writer.now c.args.self.now p.plan c.self.view_is
-    (datum_read W (option_map schema_nodes (option_map (λ q. q.1) p.plan)) L B c.in-Ok.datum _ read)
+    (datum_read W (option_map schema_nodes (option_map (λ q. q.1) p.plan)) L B c.in-Ok.read read)

@@ -17,14 +17,14 @@ returns-in-Some-clause-shown c =
     let room = c.display_for.new.room in
     in_plan (λ (W : List Node) (R : Option (List Node)). IfOk c.display_for.result (λ len. (display : List ℕ)
     × IsDisplayed W R c.args.limits.now c.args.bytes.now len display × StandsIn room.text room.shown display))
-    p.writer.now c.args.self.now p.plan c.in-Some.plan.now c.self.view_is c.in-Some.is c.self.invariant.0
-    (c.display_for.ensures.shown (table_for p.writer.now (schema_nodes p.table) p.plan c.self.invariant.1 c.in-Some.plan.now c.in-Some.is))
+    p.writer.now c.args.self.now p.plan c.in-Some.plan c.self.view_is c.in-Some.is c.self.invariant.0
+    (c.display_for.ensures.shown (table_for p.writer.now (schema_nodes p.table) p.plan c.self.invariant.1 c.in-Some.plan c.in-Some.is))
 
 pub returns-in-Some-clause-refused : goal.returns-in-Some-clause-refused
 returns-in-Some-clause-refused c =
     let p = c.self.inside in
     in_plan (λ (W : List Node) (R : Option (List Node)). IfErr c.display_for.result (λ e. IfSome (fault_found e) (IsAllFound W R c.args.limits.now 0 c.args.bytes.now)))
-    p.writer.now c.args.self.now p.plan c.in-Some.plan.now c.self.view_is c.in-Some.is c.self.invariant.0 c.display_for.ensures.refused
+    p.writer.now c.args.self.now p.plan c.in-Some.plan c.self.view_is c.in-Some.is c.self.invariant.0 c.display_for.ensures.refused
 
 pub returns-in-None-clause-shown : goal.returns-in-None-clause-shown
 returns-in-None-clause-shown c =

@@ -1,7 +1,11 @@
+use Rattle.std.proofs.Common.{◌≡◌, []}
 use Rattle.std.specs.Prelude.{option_map}
+use Rattle.std.specs.Option.{IfSome}
 use Rattle.avro_schema.specs.SeenSchema.{schema_nodes}
+use Rattle.avro_resolve.specs.declared.error.ReadResolveError.{ReadResolveError}
+use Rattle.avro_answer.specs.DataRead.{fault_found}
 use Rattle.avro_display.specs.declared.put_error.PutError.{PutError}
-use Rattle.avro_answer.specs.ReadAnswer.{datum_text, nodes_for}
+use Rattle.avro_answer.specs.ReadAnswer.{IsAllFound, datum_text, nodes_for}
 use Rattle.avro_answer.proofs.DataFound.{found_told}
 use Rattle.avro_answer.proofs.DataPuts.{err_as_data, error_as_data, not_refused, ok_as_data}
 use Rattle.avro_answer.proofs.data_plan.DataPlan.put_long.Goals as goal
@@ -23,10 +27,13 @@ returns-in-Ok-clause-front g c =
     err_as_data c.put_found.result c.as_data.result c.as_data.ensures (λ put. (datum_text c.args.form (nodes_for W R) u c.in-Ok.len, told, put)) (c.put_found.ensures.front u all)
 
 pub returns-in-Ok-clause-refused : goal.returns-in-Ok-clause-refused
-returns-in-Ok-clause-refused g c = not_refused c.put_found.result c.as_data.result c.as_data.ensures
+returns-in-Ok-clause-refused g c =
+    not_refused c.put_found.result c.as_data.result c.as_data.ensures (λ (e : ReadResolveError). g.O.Output.keeps c.args.out.now [] c.put_found.new.out
+    × IfSome (fault_found e) (IsAllFound (schema_nodes c.args.self.now.0) (option_map schema_nodes c.args.self.now.1) c.args.limits.now 0 c.args.bytes.now))
 
 pub returns-in-Ok-clause-unused : goal.returns-in-Ok-clause-unused
-returns-in-Ok-clause-unused g c = not_refused c.put_found.result c.as_data.result c.as_data.ensures
+returns-in-Ok-clause-unused g c =
+    not_refused c.put_found.result c.as_data.result c.as_data.ensures (λ (e : ReadResolveError). g.O.Output.failures c.put_found.new.out ≡ g.O.Output.failures c.args.out.now)
 
 pub returns-in-Ok-clause-works : goal.returns-in-Ok-clause-works
 returns-in-Ok-clause-works g c = ok_as_data c.put_found.result c.as_data.result c.as_data.ensures (λ same. same) c.put_found.ensures.works
@@ -36,3 +43,4 @@ returns-in-Ok-clause-fails g c = λ is. c.put_found.ensures.fails (error_as_data
 
 pub returns-in-Ok-clause-memory : goal.returns-in-Ok-clause-memory
 returns-in-Ok-clause-memory g c = λ is. c.put_found.ensures.memory (error_as_data c.put_found.result c.as_data.result c.as_data.ensures PutError.OutOfMemory is)
+
