@@ -24,9 +24,10 @@ use Rattle.avro_resolve.specs.Seen.{IfUnread, IfUnresolved}
 use Rattle.avro_resolve.specs.declared.error.ReadResolveError.{ReadResolveError}
 use Rattle.avro_display.specs.DisplayTree.{display_text}
 use Rattle.avro_answer.specs.DataRead.{fault_found, IsDatumTold}
-use Rattle.avro_answer.specs.ReadAnswer.{Found, datum, broken, unresolved, BeginsWith, IsAtFront, IsFound, IsAllFound, datum_text, nodes_for, read_as, text_around}
+use Rattle.avro_answer.specs.ReadAnswer.{Found, datum, broken, unresolved, BeginsWith, IsAtFront, IsFound, IsAllFound, datum_text, nodes_for, read_as}
 use Rattle.avro_answer.specs.declared.form.Form.{Form}
 use Rattle.avro_answer.specs.inside.AtFront.{IsDisplayed}
+use Rattle.avro_answer.specs.inside.DatumParts.{text_around}
 
 pub same_ok : {A B : Type 0} (r : Result A B) (a b : A) → r ≡ Ok a → r ≡ Ok b → a ≡ b
 same_ok r a b g h = cc
@@ -36,6 +37,10 @@ same_err r a b g h = cc
 
 same_datum : (u w : Value) (m n : ℕ) → u ≡ w → m ≡ n → datum u m ≡ datum w n
 same_datum u w m n g h = cc
+
+around_display : (form : Form) (nodes : List Node) (u : Value) (len : ℕ) → text_around form (display_text nodes (root_of nodes) u) len ≡ datum_text form nodes u len
+around_display Form.Text nodes u len = refl
+around_display Form.Json nodes u len = refl
 
 -- what stands at the front of data of a schema is all that is found
 abbrev pub OnlyFound : List Node → Type 0
@@ -98,12 +103,17 @@ module _ (writer : List Node) (reader : Option (List Node)) (limits : LimitValue
   -- the text of a datum by its display
   pub displayed_text : (form : Form) (len : ℕ) (display : List ℕ) → IsDisplayed writer reader limits bytes len display
       → IsDatumTold writer reader limits form 0 bytes (text_around form display len)
-  displayed_text form len display h = record { value = h.value; len = len; is_found = h.is_found; told = ap (λ d. text_around form d len) h.told }
+  displayed_text form len display h = record {
+    value = h.value;
+    len = len;
+    is_found = h.is_found;
+    told = ap (λ d. text_around form d len) h.told ∙ around_display form (nodes_for writer reader) h.value len;
+  }
 
   -- and by what is found
   pub found_told : (form : Form) (len : ℕ) (u : Value) → IsAllFound writer reader limits 0 bytes (datum u len)
-      → IsDatumTold writer reader limits form 0 bytes (datum_text form (nodes_for writer reader) u len)
-  found_told form len u h = record { value = u; len = len; is_found = h; told = refl }
+      → IsDatumTold writer reader limits form 0 bytes (text_around form (display_text (nodes_for writer reader) (root_of (nodes_for writer reader)) u) len)
+  found_told form len u h = record { value = u; len = len; is_found = h; told = around_display form (nodes_for writer reader) u len }
 
   -- the datum that is read where one is found
   pub datum_read : (r : Datum × ℕ) → ReadsExactly writer (root_of writer) limits bytes (Ok r)

@@ -8,11 +8,10 @@ use Rattle.avro_display.specs.declared.put_error.PutError.{PutError}
 use Rattle.avro_display.proofs.public.Fronts.{fronts_both, fronts_held, fronts_longer}
 use Rattle.avro_resolve.specs.declared.error.ReadResolveError.{ReadResolveError}
 use Rattle.avro_answer.specs.DataPut.{IfPutFails, IfRefused}
-use Rattle.avro_answer.specs.ReadAnswer.{text_around}
 use Rattle.avro_answer.specs.declared.data_error.DataError.{DataError}
 use Rattle.avro_answer.specs.declared.form.Form.{Form}
 use Rattle.avro_answer.specs.inside.AtFront.{of_put}
-use Rattle.avro_answer.specs.inside.DatumParts.{head_of, tail_of}
+use Rattle.avro_answer.specs.inside.DatumParts.{head_of, tail_of, text_around}
 
 pub if_ok : {A E : Type 0} {P Q : A → Type 0} → ((a : A) → P a → Q a) → (r : Result A E) → IfOk r P → IfOk r Q
 if_ok f (Ok a) h = f a h
@@ -62,9 +61,8 @@ module _ {O : Type 0} (keeps : O → List ℕ → O → Type 0) where
   none_put s text none = record { front = []; later = text; kept = none; split = refl }
 
 -- the display behind a head and before a tail
-pub in_parts : (form : Form) (display : List ℕ) (len : ℕ) → head_of form len ++ (display ++ tail_of form) ≡ text_around form display len
-in_parts Form.Text display len = sym (append_assoc (head_of Form.Text len) display (tail_of Form.Text))
-in_parts Form.Json display len = sym (append_assoc (head_of Form.Json len) display (tail_of Form.Json))
+in_parts : (form : Form) (display : List ℕ) (len : ℕ) → head_of form len ++ (display ++ tail_of form) ≡ text_around form display len
+in_parts form display len = sym (append_assoc (head_of form len) display (tail_of form))
 
 module _ {O : Type 0} (keeps : O → List ℕ → O → Type 0) (form : Form) (display : List ℕ) (len : ℕ) (held : List ℕ) (begun : held ≡ head_of form len) where
   whole : held ++ (display ++ tail_of form) ≡ text_around form display len

@@ -61,8 +61,9 @@ impl<'a> DataPlan<'a> {
     ghost use Rattle.avro_show.specs.Spans.{StandsIn};
     ghost use Rattle.avro_answer.specs.DataPut.{IfPutFails, IfRefused};
     ghost use Rattle.avro_answer.specs.DataRead.{fault_found, IsDatumTold};
-    ghost use Rattle.avro_answer.specs.ReadAnswer.{datum, datum_text, IsAllFound, nodes_for, read_as};
+    ghost use Rattle.avro_answer.specs.ReadAnswer.{datum, IsAllFound, nodes_for, read_as};
     ghost use Rattle.avro_answer.specs.inside.AtFront.{IsDisplayed};
+    ghost use Rattle.avro_answer.specs.inside.DatumParts.{text_around};
     ghost use Rattle.avro_answer.specs.declared.data_error.DataError.{DataError};
 
     /// The plan of a writer's schema, and of a reader's where there is one.
@@ -237,9 +238,9 @@ impl<'a> DataPlan<'a> {
         form: Form,
     ) -> Result<(), PutError>
         ensures put { (u : Value) → IsAllFound (schema_nodes self.now.0) (option_map schema_nodes self.now.1) limits.now 0 bytes.now (datum u len)
-            → OnOk result (O.keeps out.old (datum_text form (nodes_for (schema_nodes self.now.0) (option_map schema_nodes self.now.1)) u len) out.new) }
+            → OnOk result (O.keeps out.old (text_around form (display_text (nodes_for (schema_nodes self.now.0) (option_map schema_nodes self.now.1)) (root_of (nodes_for (schema_nodes self.now.0) (option_map schema_nodes self.now.1))) u) len) out.new) }
         ensures front { (u : Value) → IsAllFound (schema_nodes self.now.0) (option_map schema_nodes self.now.1) limits.now 0 bytes.now (datum u len)
-            → OnErr result (PutsFrontOf O.keeps out.old out.new (datum_text form (nodes_for (schema_nodes self.now.0) (option_map schema_nodes self.now.1)) u len)) }
+            → OnErr result (PutsFrontOf O.keeps out.old out.new (text_around form (display_text (nodes_for (schema_nodes self.now.0) (option_map schema_nodes self.now.1)) (root_of (nodes_for (schema_nodes self.now.0) (option_map schema_nodes self.now.1))) u) len)) }
         ensures works { OnOk result (O.failures out.new ≡ O.failures out.old) }
         ensures fails { IsErrOf result PutError.CannotWrite → (O.failures out.new ≢ O.failures out.old) ⊎ O.stuck out.new }
         ensures memory { IsErrOf result PutError.OutOfMemory → O.failures out.new ≡ O.failures out.old }
@@ -269,9 +270,9 @@ impl<'a> DataPlan<'a> {
         form: Form,
     ) -> Result<(), PutError>
         ensures put { (u : Value) → read_as (schema_nodes self.now.0) (option_map schema_nodes self.now.1) (value_of datum.now) ≡ Ok u
-            → OnOk result (O.keeps out.old (datum_text form (nodes_for (schema_nodes self.now.0) (option_map schema_nodes self.now.1)) u len) out.new) }
+            → OnOk result (O.keeps out.old (text_around form (display_text (nodes_for (schema_nodes self.now.0) (option_map schema_nodes self.now.1)) (root_of (nodes_for (schema_nodes self.now.0) (option_map schema_nodes self.now.1))) u) len) out.new) }
         ensures front { (u : Value) → read_as (schema_nodes self.now.0) (option_map schema_nodes self.now.1) (value_of datum.now) ≡ Ok u
-            → OnErr result (PutsFrontOf O.keeps out.old out.new (datum_text form (nodes_for (schema_nodes self.now.0) (option_map schema_nodes self.now.1)) u len)) }
+            → OnErr result (PutsFrontOf O.keeps out.old out.new (text_around form (display_text (nodes_for (schema_nodes self.now.0) (option_map schema_nodes self.now.1)) (root_of (nodes_for (schema_nodes self.now.0) (option_map schema_nodes self.now.1))) u) len)) }
         ensures works { OnOk result (O.failures out.new ≡ O.failures out.old) }
         ensures fails { IsErrOf result PutError.CannotWrite → (O.failures out.new ≢ O.failures out.old) ⊎ O.stuck out.new }
         ensures memory { IsErrOf result PutError.OutOfMemory → O.failures out.new ≡ O.failures out.old }

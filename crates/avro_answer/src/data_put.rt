@@ -11,8 +11,8 @@ ghost use Rattle.avro_display.specs.DisplayTree.{display_text};
 ghost use Rattle.avro_display.specs.Pieces.{PutsText};
 ghost use Rattle.avro_display.specs.declared.put_error.PutError.{PutError};
 ghost use Rattle.avro_show.specs.Spans.{StandsIn};
-ghost use Rattle.avro_answer.specs.ReadAnswer.{text_around};
 ghost use Rattle.avro_answer.specs.inside.AtFront.{of_put};
+ghost use Rattle.avro_answer.specs.inside.DatumParts.{text_around};
 
 use crate::data_error::DataError;
 use crate::datum_texts::text_with;

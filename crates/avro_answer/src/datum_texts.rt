@@ -4,7 +4,7 @@ ghost use Rattle.std.specs.Prelude.{◌≡◌, ◌≢◌, ◌<◌, ◌≤◌, �
 ghost use Rattle.std.specs.Result.{IfErr};
 ghost use Rattle.avro_cursor.specs.declared.error.ReadError.{ReadError};
 ghost use Rattle.avro_resolve.specs.declared.error.ReadResolveError.TheVariants.{Read};
-ghost use Rattle.avro_answer.specs.inside.DatumParts.{before_of, between_of, head_of, tail_of};
+ghost use Rattle.avro_answer.specs.inside.DatumParts.{before_of, between_of, head_of, tail_of, text_around};
 ghost use Rattle.avro_answer.specs.RefusalText.{refusal_text};
 ghost use Rattle.avro_answer.specs.DataRead.{error_text};
 
@@ -23,7 +23,7 @@ pub(crate) fn text_with(
     len: usize,
     form: Form,
 ) -> Result<Vec<u8>, AllocError>
-    ensures { IfOk result (λ text. text.items ≡ head_of form len ++ (display.now ++ tail_of form)) }
+    ensures { IfOk result (λ text. text.items ≡ text_around form display.now len) }
 {
     let mut text = head(alloc, len, form)?;
     text.extend_from_slice(display)?;

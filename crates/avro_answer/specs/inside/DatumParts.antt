@@ -21,3 +21,7 @@ head_of form len = before_of form ++ decimal len ++ between_of form
 abbrev pub tail_of : Form → List ℕ
 tail_of Form.Text = codes "\n"
 tail_of Form.Json = codes "}\n"
+
+-- the text of a datum by its display
+abbrev pub text_around : Form → List ℕ → ℕ → List ℕ
+text_around form display len = head_of form len ++ display ++ tail_of form

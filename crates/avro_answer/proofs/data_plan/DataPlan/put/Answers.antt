@@ -5,7 +5,8 @@ use Rattle.avro_schema.specs.SeenSchema.{schema_nodes}
 use Rattle.avro_resolve.specs.declared.error.ReadResolveError.{ReadResolveError}
 use Rattle.avro_answer.specs.DataRead.{fault_found}
 use Rattle.avro_display.specs.declared.put_error.PutError.{PutError}
-use Rattle.avro_answer.specs.ReadAnswer.{IsAllFound, text_around}
+use Rattle.avro_answer.specs.ReadAnswer.{IsAllFound}
+use Rattle.avro_answer.specs.inside.DatumParts.{text_around}
 use Rattle.avro_answer.proofs.DataFound.{displayed_text}
 use Rattle.avro_answer.proofs.DataPuts.{err_as_data, error_as_data, not_refused, ok_as_data}
 use Rattle.avro_answer.proofs.data_plan.DataPlan.put.Goals as goal

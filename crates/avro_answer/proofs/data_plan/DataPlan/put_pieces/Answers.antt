@@ -6,7 +6,8 @@ use Rattle.avro_schema.specs.SeenSchema.{schema_nodes}
 use Rattle.avro_display.specs.DisplayTree.{display_text}
 use Rattle.avro_display.proofs.public.Fronts.{on_any_err}
 use Rattle.avro_display.proofs.public.Putting.{on_ok}
-use Rattle.avro_answer.specs.ReadAnswer.{datum_text, nodes_for}
+use Rattle.avro_answer.specs.ReadAnswer.{nodes_for}
+use Rattle.avro_answer.specs.inside.DatumParts.{text_around}
 use Rattle.avro_answer.proofs.DataPuts.{all_put, front_of_display, front_of_last, front_of_tail, none_put}
 use Rattle.avro_answer.proofs.data_plan.DataPlan.put_pieces.Goals as goal
 
@@ -28,7 +29,8 @@ returns-clause-front g c = λ u reads.
 
 pub returns-in_err-head-clause-front : goal.returns-in_err-head-clause-front
 returns-in_err-head-clause-front g c = λ u reads.
-    let text = datum_text c.args.form (nodes_for (schema_nodes c.args.self.now.0) (option_map schema_nodes c.args.self.now.1)) u c.args.len in
+    let nodes = nodes_for (schema_nodes c.args.self.now.0) (option_map schema_nodes c.args.self.now.1) in
+    let text = text_around c.args.form (display_text nodes (root_of nodes) u) c.args.len in
     on_any_err (none_put g.O.Output.keeps c.args.out.now text (g.met.O.Output.none c.args.out.now)) c.from_residual.result
 
 pub returns-in_err-put_datum-clause-front : goal.returns-in_err-put_datum-clause-front
