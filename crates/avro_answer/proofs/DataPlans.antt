@@ -1,5 +1,5 @@
 -- What holds of a plan's schemas, by what a data plan keeps.
-use Rattle.std.proofs.Common.{◌≡◌, ◌∙◌, List, Option, Some, None, refl, sym, ap, subst}
+use Rattle.std.proofs.Common.{◌≡◌, ◌∙◌, List, Option, Some, None, sym, ap, subst}
 use Rattle.std.specs.Prelude.{option_map}
 use Rattle.std.specs.Option.{IfSome}
 use Rattle.avro_schema.specs.Node.{Node}

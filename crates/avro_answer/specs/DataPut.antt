@@ -1,7 +1,6 @@
 -- What is put of a datum that is read.
-use Rattle.std.specs.Prelude.{Result, Ok, Err}
+use Rattle.std.specs.Prelude.{Result, Err}
 use Rattle.avro_resolve.specs.declared.error.ReadResolveError.{ReadResolveError}
-use Rattle.avro_display.specs.declared.put_error.PutError.{PutError}
 use Rattle.avro_answer.specs.declared.data_error.DataError.{DataError}
 
 -- a claim on the error of data that are refused, if the result is one
