@@ -46,4 +46,3 @@ returns-in-Ok-clause-fails g c = λ is. c.put_found.ensures.fails (error_as_data
 
 pub returns-in-Ok-clause-memory : goal.returns-in-Ok-clause-memory
 returns-in-Ok-clause-memory g c = λ is. c.put_found.ensures.memory (error_as_data c.put_found.result c.as_data.result c.as_data.ensures PutError.OutOfMemory is)
-
