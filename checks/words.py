@@ -29,10 +29,10 @@ NONE = ""
 
 CONSTANT = re.compile(r"^(?:const|static) (\w+): [^=]*=\s(.*?);$", re.MULTILINE | re.DOTALL)
 # An argument or a command where it is written, or the name of the constant that has it.
-ARGUMENT = re.compile(r'\(\s*"([\w-]+)",\s*Takes::(\w+)(?:\("([^"]*)"\))?,\s*"[^"]*",?\s*\)|\b([A-Z_]+)\b')
+ARGUMENT = re.compile(r'\(\s*"([\w-]+)",\s*Takes::(\w+)(?:\((?:&\w+, )?"([^"]*)"\))?,\s*"[^"]*",?\s*\)|\b([A-Z_]+)\b')
 COMMAND = re.compile(r'\(\s*"(\w+)",\s*"([^"]*)",\s*&(\w+),?\s*\)|\b([A-Z_]+)\b')
 # What an option takes, and the name of its value.
-TAKEN = re.compile(r'Takes::(\w+)(?:\(\w+\))? => option\(arg, id, "(\w+)"\)')
+TAKEN = re.compile(r'Takes::(\w+)(?:\([\w, ]+\))? => option\(arg, id, "(\w+)"\)')
 
 
 def text_of(path):

@@ -1,4 +1,8 @@
 pub mod EachLines
+mod FoundLemmas
+mod GrammarLemmas
 pub mod Headers
 pub mod Kept
+mod PlainLaws
+mod PlainWalk
 pub mod Verdicts

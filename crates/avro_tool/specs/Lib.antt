@@ -6,3 +6,5 @@ pub mod FoundStatus
 pub mod HeaderText
 pub mod KeptCertificates
 pub mod ModeAnswer
+pub mod PlainWords
+pub mod inside

@@ -1,4 +1,9 @@
 //! The words that the program takes.
+ghost use Rattle.std.specs.Prelude.{◌≡◌, ◌∷◌, ℕ, List, false, IfOk, IsSomeAnd, codes, is_some, map, string_bytes};
+ghost use Rattle.clap.specs.Words.{app_of, rule_of};
+ghost use Rattle.clap.specs.declared.builder.command.Command.TheViews.{out-Command};
+ghost use Rattle.avro_tool.specs.inside.Grammar.{app_in, app_with, bare_app, command_app, confirm_app, copy_app, explain_app, has_rival, header_app, judge_app, option_rule, read_app, rule_in, rule_taking, show_app};
+ghost use Rattle.avro_tool.specs.PlainWords.{name_of, PlainWords};
 
 use crate::commands::version::VERSION;
 use clap::{Arg, ArgAction, Command};
@@ -20,8 +25,8 @@ enum Takes {
     Number,
     /// A number after the option, with this default.
     NumberOr(&'static str),
-    /// A mode after the option.
-    Mode,
+    /// One of these words after the option, with this default.
+    Among(&'static [&'static str], &'static str),
     /// Nothing after the option.
     Nothing,
 }
@@ -139,7 +144,7 @@ const HISTORY: [Argument; 9] = [
     ),
     (
         "mode",
-        Takes::Mode,
+        Takes::Among(&MODES, "backward"),
         "Judge whether later schemas read earlier data, earlier schemas read later data, or both",
     ),
     (
@@ -232,124 +237,204 @@ const READ: [Argument; 5] = [
     JSON,
 ];
 
-/// The command over a history of schemas.
+const OF_JUDGE: Words = (
+    "judge",
+    "Check that one schema reads all data written with another",
+    &JUDGE,
+);
+
+const OF_EXPLAIN: Words = (
+    "explain",
+    "List all faults of two schemas, by name",
+    &EXPLAIN,
+);
+
+const OF_CONFIRM: Words = ("confirm", "Recheck the certificate of a yes", &CONFIRM);
+
 const OF_HISTORY: Words = (
     "history",
     "Check that the last schema reads data written with each earlier one",
     &HISTORY,
 );
 
+const OF_SCHEMA: Words = (
+    "schema",
+    "Check a schema, and print its canonical form or fingerprint",
+    &SCHEMA,
+);
+
+const OF_CHECK: Words = (
+    "check",
+    "Check container files, and count their data and blocks",
+    &CHECK,
+);
+
+const OF_SHOW: Words = ("show", "Print each datum of a container file", &SHOW);
+
+const OF_COPY: Words = (
+    "copy",
+    "Copy a container file, each datum in its plain encoding",
+    &COPY,
+);
+
+const OF_PIPE: Words = (
+    "pipe",
+    "Copy a container file from standard input to standard output",
+    &PIPE,
+);
+
+const OF_HEADER: Words = (
+    "header",
+    "Print the schema of a container file, whatever its codec",
+    &HEADER,
+);
+
+const OF_READ: Words = (
+    "read",
+    "Print the first datum in DATA, and its length in bytes",
+    &READ,
+);
+
 /// The commands, in the order of the help.
 static COMMANDS: [Words; 11] = [
-    (
-        "judge",
-        "Check that one schema reads all data written with another",
-        &JUDGE,
-    ),
-    (
-        "explain",
-        "List all faults of two schemas, by name",
-        &EXPLAIN,
-    ),
-    ("confirm", "Recheck the certificate of a yes", &CONFIRM),
-    OF_HISTORY,
-    (
-        "schema",
-        "Check a schema, and print its canonical form or fingerprint",
-        &SCHEMA,
-    ),
-    (
-        "check",
-        "Check container files, and count their data and blocks",
-        &CHECK,
-    ),
-    ("show", "Print each datum of a container file", &SHOW),
-    (
-        "copy",
-        "Copy a container file, each datum in its plain encoding",
-        &COPY,
-    ),
-    (
-        "pipe",
-        "Copy a container file from standard input to standard output",
-        &PIPE,
-    ),
-    (
-        "header",
-        "Print the schema of a container file, whatever its codec",
-        &HEADER,
-    ),
-    (
-        "read",
-        "Print the first datum in DATA, and its length in bytes",
-        &READ,
-    ),
+    OF_JUDGE, OF_EXPLAIN, OF_CONFIRM, OF_HISTORY, OF_SCHEMA, OF_CHECK, OF_SHOW, OF_COPY, OF_PIPE,
+    OF_HEADER, OF_READ,
 ];
 
 /// The commands that can be asked for: the one that the first word names, or else all, with the arguments of those that the words name.
-pub(crate) fn program<'a>(alloc: Global, words: &[String]) -> Result<Command<'a>, AllocError> {
-    let commands = commands_of(alloc, commands_for(words), words)?;
+pub(crate) fn program<'a>(alloc: Global, words: &[String]) -> Result<Command<'a>, AllocError>
+    ensures { (plain : PlainWords) (files : List (List ℕ)) → map string_bytes words.now ≡ name_of plain ∷ files
+        → IfOk result (λ c. app_of c ≡ app_with (command_app plain)) }
+{
+    match first_command(words) {
+        Some(named) => program_with(alloc, named),
+        None => whole_program(alloc, words),
+    }
+}
+
+/// The program with one command.
+fn program_with<'a>(alloc: Global, named: Words) -> Result<Command<'a>, AllocError>
+    ensures { IfOk result (λ c. app_of c ≡ app_with (app_in named.entry)) }
+{
+    let command = command_of(alloc, named)?;
+    bare_program(alloc)?.subcommand(command)
+}
+
+/// The program with all commands.
+fn whole_program<'a>(alloc: Global, words: &[String]) -> Result<Command<'a>, AllocError> {
+    let commands = commands_of(alloc, words)?;
+    bare_program(alloc)?.subcommands(commands)
+}
+
+/// The program without its commands.
+fn bare_program<'a>(alloc: Global) -> Result<Command<'a>, AllocError>
+    ensures { IfOk result (λ c. app_of c ≡ bare_app) }
+{
     Command::new(alloc, "avro")
         .about("Check Avro schemas and container files")
         .version(VERSION)
         .no_binary_name(true)
         .subcommand_required(true)
-        .bin_name("avro")?
-        .subcommands(commands)
+        .bin_name("avro")
 }
 
 /// The command over a history of schemas.
 pub(crate) fn history_command<'a>(alloc: Global) -> Result<Command<'a>, AllocError> {
-    command_of(alloc, &OF_HISTORY, true)
+    command_of(alloc, OF_HISTORY)
 }
 
-/// The command that the first word names, or else all.
-fn commands_for(words: &[String]) -> &'static [Words] {
-    let Some(first) = words.first() else {
-        return &COMMANDS[..];
-    };
-    match COMMANDS
-        .iter()
-        .position(|command| first.as_str() == command.0)
-    {
-        Some(index) => &COMMANDS[index..index + 1],
-        None => &COMMANDS[..],
+/// The command that the first word names.
+fn first_command(words: &[String]) -> Option<Words>
+    ensures { (plain : PlainWords) (files : List (List ℕ)) → map string_bytes words.now ≡ name_of plain ∷ files
+        → IsSomeAnd result (λ words. app_in words ≡ command_app plain) }
+{
+    match words.first() {
+        Some(first) => command_named(first.as_str()),
+        None => None,
     }
 }
 
-/// These commands, with the arguments of those that the words name.
-fn commands_of<'a>(
-    alloc: Global,
-    of: &[Words],
-    words: &[String],
-) -> Result<Vec<Command<'a>>, AllocError> {
+/// The command of this name.
+fn command_named(name: &str) -> Option<Words>
+    ensures judge { name.now ≡ codes "judge" → IsSomeAnd result (λ words. app_in words ≡ judge_app) }
+    ensures explain { name.now ≡ codes "explain" → IsSomeAnd result (λ words. app_in words ≡ explain_app) }
+    ensures confirm { name.now ≡ codes "confirm" → IsSomeAnd result (λ words. app_in words ≡ confirm_app) }
+    ensures show { name.now ≡ codes "show" → IsSomeAnd result (λ words. app_in words ≡ show_app) }
+    ensures header { name.now ≡ codes "header" → IsSomeAnd result (λ words. app_in words ≡ header_app) }
+    ensures read { name.now ≡ codes "read" → IsSomeAnd result (λ words. app_in words ≡ read_app) }
+    ensures copy { name.now ≡ codes "copy" → IsSomeAnd result (λ words. app_in words ≡ copy_app) }
+{
+    match name {
+        "judge" => Some(OF_JUDGE),
+        "explain" => Some(OF_EXPLAIN),
+        "confirm" => Some(OF_CONFIRM),
+        _ => other_named(name),
+    }
+}
+
+/// The same for the commands that judge no pair.
+fn other_named(name: &str) -> Option<Words>
+    ensures show { name.now ≡ codes "show" → IsSomeAnd result (λ words. app_in words ≡ show_app) }
+    ensures header { name.now ≡ codes "header" → IsSomeAnd result (λ words. app_in words ≡ header_app) }
+    ensures read { name.now ≡ codes "read" → IsSomeAnd result (λ words. app_in words ≡ read_app) }
+    ensures copy { name.now ≡ codes "copy" → IsSomeAnd result (λ words. app_in words ≡ copy_app) }
+{
+    match name {
+        "history" => Some(OF_HISTORY),
+        "schema" => Some(OF_SCHEMA),
+        "check" => Some(OF_CHECK),
+        "show" => Some(OF_SHOW),
+        "copy" => Some(OF_COPY),
+        "pipe" => Some(OF_PIPE),
+        "header" => Some(OF_HEADER),
+        "read" => Some(OF_READ),
+        _ => None,
+    }
+}
+
+/// All commands, with the arguments of those that the words name.
+fn commands_of<'a>(alloc: Global, words: &[String]) -> Result<Vec<Command<'a>>, AllocError> {
     let mut commands = Vec::new(alloc);
-    for command in of {
+    for command in &COMMANDS {
         let is_named = words.iter().any(|word| word.as_str() == command.0);
-        commands.push(command_of(alloc, command, is_named)?)?;
+        commands.push(listed(alloc, *command, is_named)?)?;
     }
     Ok(commands)
 }
 
 /// The command of these words, with its arguments or without.
-fn command_of<'a>(
-    alloc: Global,
-    words: &Words,
-    has_arguments: bool,
-) -> Result<Command<'a>, AllocError> {
-    let (name, about, arguments) = *words;
-    if !has_arguments {
-        return Ok(Command::new(alloc, name).about(about));
+fn listed<'a>(alloc: Global, words: Words, has_arguments: bool) -> Result<Command<'a>, AllocError> {
+    if has_arguments {
+        return command_of(alloc, words);
     }
+    let (name, about, _) = words;
+    Ok(Command::new(alloc, name).about(about))
+}
+
+/// The command of these words, with its arguments.
+fn command_of<'a>(alloc: Global, words: Words) -> Result<Command<'a>, AllocError>
+    ensures { IfOk result (λ c. (app_of c ≡ app_in words.entry) × ((out-Command c).has_globals ≡ false)) }
+{
+    let (name, about, arguments) = words;
+    let args = arguments_of(alloc, arguments)?;
+    Command::new(alloc, name).about(about).args(args)
+}
+
+/// The arguments of these words.
+fn arguments_of<'a>(alloc: Global, arguments: &[Argument]) -> Result<Vec<Arg<'a>>, AllocError>
+    ensures { IfOk result (λ args. map rule_of args.items ≡ map rule_in arguments.now) }
+{
     let mut args = Vec::new(alloc);
     for argument in arguments {
         args.push(argument_of(alloc, argument)?)?;
     }
-    Command::new(alloc, name).about(about).args(args)
+    Ok(args)
 }
 
 /// The argument of these words.
-fn argument_of<'a>(alloc: Global, argument: &Argument) -> Result<Arg<'a>, AllocError> {
+fn argument_of<'a>(alloc: Global, argument: &Argument) -> Result<Arg<'a>, AllocError>
+    ensures { IfOk result (λ a. rule_of a ≡ rule_in argument.now) }
+{
     let (id, takes, help) = *argument;
     let arg = taking(Arg::new(alloc, id), id, takes).help(help);
     match rival_of(id) {
@@ -359,7 +444,9 @@ fn argument_of<'a>(alloc: Global, argument: &Argument) -> Result<Arg<'a>, AllocE
 }
 
 /// The option that conflicts with this one.
-fn rival_of(id: &str) -> Option<&'static str> {
+fn rival_of(id: &str) -> Option<&'static str>
+    ensures { is_some result ≡ has_rival id.now }
+{
     match id {
         "canonical" => Some("fingerprint"),
         "certificates" => Some("confirm"),
@@ -368,7 +455,9 @@ fn rival_of(id: &str) -> Option<&'static str> {
 }
 
 /// The argument with what it takes.
-fn taking<'a>(arg: Arg<'a>, id: &'static str, takes: Takes) -> Arg<'a> {
+fn taking<'a>(arg: Arg<'a>, id: &'static str, takes: Takes) -> Arg<'a>
+    ensures { rule_of result ≡ rule_taking (rule_of arg.entry) id.entry.now takes }
+{
     match takes {
         Takes::Word(name) => arg.value_name(name).required(true).action(ArgAction::Set),
         Takes::Words(name) => arg
@@ -379,14 +468,16 @@ fn taking<'a>(arg: Arg<'a>, id: &'static str, takes: Takes) -> Arg<'a> {
         Takes::Option(name) => option(arg, id, name),
         Takes::Number => option(arg, id, "N"),
         Takes::NumberOr(number) => option(arg, id, "N").default_value(number),
-        Takes::Mode => option(arg, id, "MODE")
-            .value_parser(MODES.as_slice())
-            .default_value("backward"),
+        Takes::Among(words, default) => option(arg, id, "MODE")
+            .value_parser(words)
+            .default_value(default),
         Takes::Nothing => arg.long(id).action(ArgAction::SetTrue),
     }
 }
 
 /// The argument, as an option that takes a word of this name.
-fn option<'a>(arg: Arg<'a>, id: &'static str, name: &'static str) -> Arg<'a> {
+fn option<'a>(arg: Arg<'a>, id: &'static str, name: &'static str) -> Arg<'a>
+    ensures { rule_of result ≡ option_rule (rule_of arg.entry) id.entry.now }
+{
     arg.long(id).value_name(name).action(ArgAction::Set)
 }

@@ -1,4 +1,8 @@
 //! Options that take a number, or the digits of a marker.
+ghost use Rattle.std.specs.Prelude.{◌≡◌, None, Some, Ok, codes};
+ghost use Rattle.clap.specs.Words.{first_value, found_of, one_text};
+ghost use Rattle.avro_tool.specs.inside.PlainFound.{default_digits, default_number, option_word, LeavesLimits};
+ghost use Rattle.avro_tool.specs.PlainWords.{default_judge_limits};
 
 use crate::failure::Failure;
 use avro_judge::JudgeLimits;
@@ -22,7 +26,9 @@ pub(crate) enum NumberOption {
 
 impl NumberOption {
     /// The word of the option.
-    pub(crate) fn word(self) -> &'static str {
+    pub(crate) fn word(self) -> &'static str
+        ensures { result.now ≡ option_word self }
+    {
         match self {
             NumberOption::MaxPairs => "max-pairs",
             NumberOption::MaxSize => "max-size",
@@ -41,7 +47,9 @@ impl NumberOption {
 }
 
 /// The limits of judging that the words give.
-pub(crate) fn limits_in<'a>(matches: &ArgMatches<'a>) -> Result<JudgeLimits, Failure<'a>> {
+pub(crate) fn limits_in<'a>(matches: &ArgMatches<'a>) -> Result<JudgeLimits, Failure<'a>>
+    ensures { LeavesLimits (found_of matches.now) → result ≡ Ok default_judge_limits }
+{
     let pairs = pairs_in(matches)?;
     let size = number_in(matches, NumberOption::MaxSize)?;
     let depth = number_in(matches, NumberOption::MaxDepth)?;
@@ -56,7 +64,9 @@ pub(crate) fn limits_in<'a>(matches: &ArgMatches<'a>) -> Result<JudgeLimits, Fai
 }
 
 /// The limit of pairs of nodes that the words give.
-pub(crate) fn pairs_in<'a>(matches: &ArgMatches<'a>) -> Result<u32, Failure<'a>> {
+pub(crate) fn pairs_in<'a>(matches: &ArgMatches<'a>) -> Result<u32, Failure<'a>>
+    ensures { one_text (found_of matches.now) (codes "max-pairs") ≡ Some (codes "4194304") → result ≡ Ok 4194304 }
+{
     let pairs = number_in(matches, NumberOption::MaxPairs)?;
     if (1..=JudgeLimits::MAX_PAIRS).contains(&pairs) {
         Ok(pairs)
@@ -66,7 +76,9 @@ pub(crate) fn pairs_in<'a>(matches: &ArgMatches<'a>) -> Result<u32, Failure<'a>>
 }
 
 /// The number of an option.
-fn number_in<'a>(matches: &ArgMatches<'a>, option: NumberOption) -> Result<u32, Failure<'a>> {
+fn number_in<'a>(matches: &ArgMatches<'a>, option: NumberOption) -> Result<u32, Failure<'a>>
+    ensures { one_text (found_of matches.now) (option_word option) ≡ Some (default_digits option) → result ≡ Ok (default_number option) }
+{
     match matches.get_one::<u32>(option.word()) {
         Some(number) => Ok(number),
         None => Err(Failure::OutOfRange(option)),
@@ -74,7 +86,9 @@ fn number_in<'a>(matches: &ArgMatches<'a>, option: NumberOption) -> Result<u32, 
 }
 
 /// The greatest number of lines that the words ask for, if any.
-pub(crate) fn lines_in<'a>(matches: &ArgMatches<'a>) -> Result<Option<u64>, Failure<'a>> {
+pub(crate) fn lines_in<'a>(matches: &ArgMatches<'a>) -> Result<Option<u64>, Failure<'a>>
+    ensures { first_value (found_of matches.now) (codes "limit") ≡ None → result ≡ Ok None }
+{
     let Some(word) = matches.get_str("limit") else {
         return Ok(None);
     };
@@ -85,7 +99,9 @@ pub(crate) fn lines_in<'a>(matches: &ArgMatches<'a>) -> Result<Option<u64>, Fail
 }
 
 /// How many bytes the words ask to skip.
-pub(crate) fn skip_in<'a>(matches: &ArgMatches<'a>) -> Result<u32, Failure<'a>> {
+pub(crate) fn skip_in<'a>(matches: &ArgMatches<'a>) -> Result<u32, Failure<'a>>
+    ensures { first_value (found_of matches.now) (codes "skip") ≡ None → result ≡ Ok 0 }
+{
     let Some(word) = matches.get_str("skip") else {
         return Ok(0);
     };
@@ -96,7 +112,9 @@ pub(crate) fn skip_in<'a>(matches: &ArgMatches<'a>) -> Result<u32, Failure<'a>> 
 }
 
 /// The marker that the words give, if any.
-pub(crate) fn marker_in<'a>(matches: &ArgMatches<'a>) -> Result<Option<[u8; 16]>, Failure<'a>> {
+pub(crate) fn marker_in<'a>(matches: &ArgMatches<'a>) -> Result<Option<[u8; 16]>, Failure<'a>>
+    ensures { first_value (found_of matches.now) (codes "sync") ≡ None → result ≡ Ok None }
+{
     let Some(digits) = matches.get_str("sync") else {
         return Ok(None);
     };
