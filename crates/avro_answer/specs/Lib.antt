@@ -17,4 +17,3 @@ pub mod DataRead
 pub mod ReadHeadline
 pub mod ReadsAnswer
 pub mod inside
-pub mod DataPut
