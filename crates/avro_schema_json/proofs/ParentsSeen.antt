@@ -29,9 +29,12 @@ bit-kept words i more p old below at h =
 
     this : Keeps i (Some new)
     this word there here bit =
-        let same : old ≡ word = same_Some old word (sym (slice_get_read words (length words) i old refl below at) ∙ there) in
-        (new, refl, ap (λ (w : RowWord). w.index) same ∙ here,
-        more-left old.bits more (p % 64) (subst (λ (w : RowWord). bit_at w.bits (p % 64) ≡ 1) (sym same) bit))
+        let same : old ≡ word = same_Some old word (sym (slice_get_read words (length words) i old refl below at) ∙ there) in (
+          new,
+          refl,
+          ap (λ (w : RowWord). w.index) same ∙ here,
+          more-left old.bits more (p % 64) (subst (λ (w : RowWord). bit_at w.bits (p % 64) ≡ 1) (sym same) bit),
+        )
 
 pub bit-set : (words : List RowWord) (i p : ℕ) (word : RowWord) → i < length words → word.index ≡ p / 64 → bit_at word.bits (p % 64) ≡ 1 → has_bit (set words i word) p
 bit-set words i p word below here bit = of-bit (set words i word) i p word (set-there words i word below) here bit
