@@ -1,4 +1,5 @@
-ghost use Rattle.std.specs.Prelude.{◌≡◌, ◌≢◌, IfOk};
+ghost use Rattle.std.specs.Prelude.{◌≡◌, ◌≢◌, ℕ, List, IfOk};
+ghost use denote.Ref.{Bor};
 ghost use Rattle.avro_certificate.specs.declared.error.CertError.{CertError};
 ghost use Rattle.avro_schema_json.specs.declared.error.SchemaError.{SchemaError};
 ghost use Rattle.avro_tool.specs.FailureText.{exit_status, IsFileFailure, IsRefusal};
@@ -128,7 +129,7 @@ impl<'a> Failure<'a> {
         ensures written { error ≡ CopyError.OutputFailed → result ≡ CannotWrite word.exit }
         ensures memory { error ≡ CopyError.OutOfMemory → result ≡ OutOfMemory }
         ensures refused { error ≢ CopyError.InputFailed → error ≢ CopyError.OutputFailed → error ≢ CopyError.OutOfMemory → result ≡ Container word.exit error }
-        ensures only_read { result ≡ CannotRead word.exit → error ≡ CopyError.InputFailed }
+        ensures only_read { (w : Bor (List ℕ)) → result ≡ CannotRead w → error ≡ CopyError.InputFailed }
         ensures not_printed { result ≢ CannotPrint }
         ensures named { IsNamed error → error ≢ CopyError.OutputFailed → error ≢ CopyError.FailedBefore → IsFileFailure word.exit result }
     {
