@@ -17,3 +17,4 @@ pub mod DataRead
 pub mod ReadHeadline
 pub mod ReadsAnswer
 pub mod inside
+pub mod DataPut

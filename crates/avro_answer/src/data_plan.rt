@@ -1,24 +1,25 @@
 //! How encoded data are read.
 
-ghost use Rattle.std.specs.Prelude.{Some, None};
 ghost use Rattle.std.specs.Option.{IfSome};
 ghost use Rattle.avro_schema.specs.SeenSchema.{schema_nodes};
-ghost use Rattle.avro_answer.specs.DataRead.{found_in};
-ghost use Rattle.avro_answer.specs.inside.AtFront.{IsAllAtFront};
 
-use crate::datum_texts::datum_text;
+use crate::data_error::DataError;
+use crate::datum_texts::{append_head, is_memory, tail};
 use crate::form::Form;
-use avro_binary::{ReadError, Tree, decode};
-use avro_display::DisplayTable;
+use crate::putting::put_text;
+use avro_binary::{Nothing, ReadError, decode, walk};
+use avro_device::{Output, WriteOutput};
+use avro_display::{DisplayTable, Plain, PutError, Text, put_displayed};
 use avro_resolve::{Plan, ReadResolveError};
 use avro_schema::{Datum, Limits, Memory, Schema};
+use avro_show::{Resolved, Room, display_read, display_resolved, put_resolved};
 use std::alloc::Global;
 use std::marker::Model;
 
 /// A writer's schema, the plan by which its data are read for a reader's, where there is one, and the displays of what is
 /// read. Contracts see the schemas.
 #[derive(Drop)]
-pub(crate) struct DataPlan<'a> {
+pub struct DataPlan<'a> {
     writer: &'a Schema,
     plan: Option<Plan<'a>>,
     table: DisplayTable<'a>,
@@ -44,12 +45,18 @@ impl<'a> Model for DataPlan<'a> {
 }
 
 impl<'a> DataPlan<'a> {
-    ghost use Rattle.std.specs.Prelude.{◌≡◌, IfOk, option_map, option_copied};
+    ghost use Rattle.std.specs.Prelude.{◌≡◌, ℕ, [], List, IfOk, OnOk, option_map, option_copied};
+    ghost use Rattle.avro_schema.specs.Node.{root_of};
+    ghost use Rattle.avro_schema.specs.Seen.{value_of};
+    ghost use Rattle.avro_schema.specs.Value.{Value};
+    ghost use Rattle.avro_display.specs.DisplayTree.{display_text};
+    ghost use Rattle.avro_display.specs.Pieces.{PutsText};
+    ghost use Rattle.avro_answer.specs.DataPut.{IfRefused, IsFor};
     ghost use Rattle.std.specs.Option.{IfSome};
     ghost use Rattle.std.specs.Result.{IfErr};
     ghost use Rattle.avro_schema.specs.SeenSchema.{schema_nodes};
     ghost use Rattle.avro_answer.specs.DataRead.{fault_found, found_in, IsDatumTold};
-    ghost use Rattle.avro_answer.specs.ReadAnswer.{IsAllFound};
+    ghost use Rattle.avro_answer.specs.ReadAnswer.{IsAllFound, nodes_for};
     ghost use Rattle.avro_answer.specs.inside.AtFront.{IsAllAtFront};
 
     /// The plan of a writer's schema, and of a reader's where there is one.
@@ -57,7 +64,7 @@ impl<'a> DataPlan<'a> {
     /// # Errors
     ///
     /// Memory ran out.
-    pub(crate) fn new(
+    pub fn new(
         alloc: Global,
         writer: &'a Schema,
         reader: Option<&'a Schema>,
@@ -76,7 +83,7 @@ impl<'a> DataPlan<'a> {
         })
     }
 
-    /// Reads the datum after a number of bytes, as what it is for the reader where there is one, and returns its text.
+    /// Reads the datum at the front of bytes, as what it is for the reader where there is one, and returns its text.
     ///
     /// # Errors
     ///
@@ -85,78 +92,134 @@ impl<'a> DataPlan<'a> {
         &self,
         alloc: Global,
         bytes: &[u8],
-        skip: usize,
         limits: &Limits,
         form: Form,
+        room: &mut Room,
     ) -> Result<Vec<u8>, ReadResolveError>
-        ensures read { IfOk result (λ text. IsDatumTold (schema_nodes self.now.0) (option_map schema_nodes self.now.1) limits.now form skip bytes.now text.items) }
-        ensures refused { IfErr result (λ e. IfSome (fault_found e) (IsAllFound (schema_nodes self.now.0) (option_map schema_nodes self.now.1) limits.now skip bytes.now)) }
+        ensures read { IfOk result (λ text. IsDatumTold (schema_nodes self.now.0) (option_map schema_nodes self.now.1) limits.now form 0 bytes.now text.items) }
+        ensures refused { IfErr result (λ e. IfSome (fault_found e) (IsAllFound (schema_nodes self.now.0) (option_map schema_nodes self.now.1) limits.now 0 bytes.now)) }
     {
-        let (datum, len) = match self.find(alloc, bytes, skip, limits) {
-            Ok(found) => found,
-            Err(error) => return Err(error),
-        };
-        match datum_text(alloc, &self.table, &datum, len, form) {
-            Ok(text) => Ok(text),
-            Err(_) => Err(ReadResolveError::Read(ReadError::OutOfMemory)),
+        let mut out = WriteOutput::new(Vec::new(alloc));
+        match self.put(&mut out, alloc, bytes, limits, form, room) {
+            Ok(()) => Ok(out.into_inner()),
+            Err(DataError::Refused(error)) => Err(error),
+            Err(DataError::Put(_)) => Err(ReadResolveError::Read(ReadError::OutOfMemory)),
         }
     }
 
-    /// Reads the datum after a number of bytes, and returns it with the length of its encoding.
-    fn find(
+    /// Puts the text of the datum at the front of bytes: at once, or in pieces if it is long, where nothing of it is kept. The room is
+    /// kept from datum to datum.
+    ///
+    /// # Errors
+    ///
+    /// The first fault of the bytes, and else the first fault of resolution, before anything is put; the output failed, or took none of
+    /// the bytes; memory ran out.
+    pub fn put<O: Output>(
         &self,
+        out: &mut O,
         alloc: Global,
         bytes: &[u8],
-        skip: usize,
         limits: &Limits,
-    ) -> Result<(Datum, usize), ReadResolveError>
-        ensures { IfSome (found_in result) (IsAllFound (schema_nodes self.now.0) (option_map schema_nodes self.now.1) limits.now skip bytes.now) }
+        form: Form,
+        room: &mut Room,
+    ) -> Result<(), DataError>
+        ensures put { OnOk result ((text : List ℕ) × IsDatumTold (schema_nodes self.now.0) (option_map schema_nodes self.now.1) limits.now form 0 bytes.now text × O.keeps out.old text out.new) }
+        ensures refused { IfRefused result (λ e. O.keeps out.old [] out.new × IfSome (fault_found e) (IsAllFound (schema_nodes self.now.0) (option_map schema_nodes self.now.1) limits.now 0 bytes.now)) }
     {
-        if bytes.len() < skip {
-            return Err(ReadResolveError::Read(ReadError::EndOfInput { place: 0 }));
+        let mut text = Vec::new(alloc);
+        match self.display(alloc, bytes, limits, room) {
+            Ok(len) => {
+                append_head(&mut text, len, form)?;
+                text.extend_from_slice(room.shown())?;
+                text.extend_from_slice(tail(form))?;
+                Ok(put_text(out, &text)?)
+            }
+            Err(error) => {
+                if !is_memory(&error) {
+                    return Err(DataError::Refused(error));
+                }
+                self.put_long(out, alloc, bytes, limits, form)
+            }
         }
-        let (_, data) = bytes.split_at(skip);
-        self.find_at_front(alloc, data, limits)
     }
 
-    /// Reads the datum at the front of bytes.
-    fn find_at_front(
+    /// Makes the display of the datum at the front of bytes, and returns the length of its encoding.
+    fn display(
         &self,
         alloc: Global,
         bytes: &[u8],
         limits: &Limits,
-    ) -> Result<(Datum, usize), ReadResolveError>
+        room: &mut Room,
+    ) -> Result<usize, ReadResolveError>
         ensures { IfSome (found_in result) (IsAllAtFront (schema_nodes self.now.0) (option_map schema_nodes self.now.1) limits.now bytes.now) }
     {
         match &self.plan {
-            Some(plan) => read_by(alloc, plan, bytes, limits),
-            None => read_plain(alloc, self.writer, bytes, limits),
+            Some(plan) => display_resolved(alloc, &plan.by_ref(), &self.table, bytes, limits, room),
+            None => own(display_read(alloc, &self.table, bytes, limits, room)),
+        }
+    }
+
+    /// Passes the datum at the front of bytes, and returns the length of its encoding.
+    fn pass(&self, alloc: Global, bytes: &[u8], limits: &Limits) -> Result<usize, ReadResolveError>
+        ensures { IfSome (found_in result) (IsAllAtFront (schema_nodes self.now.0) (option_map schema_nodes self.now.1) limits.now bytes.now) }
+    {
+        match &self.plan {
+            Some(plan) => Ok(plan.read(alloc, bytes, limits, &mut Nothing)?.1),
+            None => own(walk(alloc, self.writer, self.writer.root(), bytes, limits)),
+        }
+    }
+
+    /// Puts the text of the datum at the front of bytes in pieces. They are passed first, so that only memory can run out then.
+    fn put_long<O: Output>(
+        &self,
+        out: &mut O,
+        alloc: Global,
+        bytes: &[u8],
+        limits: &Limits,
+        form: Form,
+    ) -> Result<(), DataError>
+        ensures put { OnOk result ((text : List ℕ) × IsDatumTold (schema_nodes self.now.0) (option_map schema_nodes self.now.1) limits.now form 0 bytes.now text × O.keeps out.old text out.new) }
+        ensures refused { IfRefused result (λ e. O.keeps out.old [] out.new × IfSome (fault_found e) (IsAllFound (schema_nodes self.now.0) (option_map schema_nodes self.now.1) limits.now 0 bytes.now)) }
+    {
+        let len = self.pass(alloc, bytes, limits)?;
+        let (datum, _) = own(decode(alloc, self.writer, self.writer.root(), bytes, limits))?;
+        let mut text = Vec::new(alloc);
+        append_head(&mut text, len, form)?;
+        let mut text = Text::holding(text);
+        self.put_datum(&mut *out, &mut text, &datum)?;
+        text.append(tail(form))?;
+        Ok(put_text(out, text.as_slice())?)
+    }
+
+    /// Appends the display of a writer's datum, as what it is for the reader where there is one, to a text that is put in pieces.
+    fn put_datum<O: Output>(
+        &self,
+        out: &mut O,
+        text: &mut Text,
+        datum: &Datum,
+    ) -> Result<(), PutError>
+        ensures put { (u : Value) → IsFor (schema_nodes self.now.0) (option_map schema_nodes self.now.1) (value_of datum.now) u
+            → OnOk result (PutsText O.keeps out.old text.old (display_text (nodes_for (schema_nodes self.now.0) (option_map schema_nodes self.now.1)) (root_of (nodes_for (schema_nodes self.now.0) (option_map schema_nodes self.now.1))) u) out.new text.new) }
+    {
+        let root = self.writer.root();
+        match &self.plan {
+            Some(plan) => {
+                let plan = plan.by_ref();
+                put_resolved(out, text, &Resolved::new(&plan, &self.table), datum)
+            }
+            None => put_displayed(
+                out,
+                text,
+                &Plain::new(&self.table),
+                Some((Some(root), datum)),
+            ),
         }
     }
 }
 
-/// Reads the datum at the front of bytes as what it is for a plan's reader.
-fn read_by(
-    alloc: Global,
-    plan: &Plan<'_>,
-    bytes: &[u8],
-    limits: &Limits,
-) -> Result<(Datum, usize), ReadResolveError>
-    ensures { IfSome (found_in result) (IsAllAtFront (schema_nodes plan.now.0) (Some (schema_nodes plan.now.1)) limits.now bytes.now) }
-{
-    plan.read(alloc, bytes, limits, &mut Tree)
-}
-
-/// Reads the datum at the front of bytes as it is.
-fn read_plain(
-    alloc: Global,
-    writer: &Schema,
-    bytes: &[u8],
-    limits: &Limits,
-) -> Result<(Datum, usize), ReadResolveError>
-    ensures { IfSome (found_in result) (IsAllAtFront (schema_nodes writer.now) None limits.now bytes.now) }
-{
-    match decode(alloc, writer, writer.root(), bytes, limits) {
+/// The result of reading a datum without a reader.
+fn own<A>(read: Result<A, ReadError>) -> Result<A, ReadResolveError> {
+    match read {
         Ok(found) => Ok(found),
         Err(error) => Err(ReadResolveError::Read(error)),
     }

@@ -1,12 +1,9 @@
 //! What is told of a datum that was read, and of data that are refused.
 
-ghost use Rattle.std.specs.Prelude.{◌≡◌, ◌≢◌, ◌++◌, false, codes, IfOk, OnOk};
-ghost use Rattle.avro_schema.specs.Seen.{value_of};
-ghost use Rattle.avro_schema.specs.SeenSchema.{schema_nodes};
-ghost use Rattle.avro_certificate.specs.CertificateText.{decimal};
+ghost use Rattle.std.specs.Prelude.{◌≡◌, ◌≢◌, ◌≤◌, ◌++◌, drop, false, length, IfOk, OnOk};
 ghost use Rattle.avro_cursor.specs.declared.error.ReadError.{ReadError};
 ghost use Rattle.avro_resolve.specs.declared.error.ReadResolveError.TheVariants.{Read};
-ghost use Rattle.avro_answer.specs.ReadAnswer.{datum_text as text_of_datum};
+ghost use Rattle.avro_answer.specs.ReadAnswer.{head_of, tail_of};
 ghost use Rattle.avro_answer.specs.RefusalText.{refusal_text};
 ghost use Rattle.avro_answer.specs.DataRead.{error_text};
 
@@ -15,50 +12,30 @@ use crate::form::Form;
 use crate::refusal::refusal_line;
 use avro_binary::ReadError;
 use avro_certificate::append_decimal;
-use avro_display::{DisplayTable, show_by};
 use avro_resolve::ReadResolveError;
-use avro_schema::{Datum, Memory};
 use std::alloc::{AllocError, Global};
 
-/// The text of a datum of a schema's root and of the length of its encoding.
-pub(crate) fn datum_text(
-    alloc: Global,
-    table: &DisplayTable<'_>,
-    datum: &Datum,
-    len: usize,
-    form: Form,
-) -> Result<Vec<u8>, Memory>
-    ensures { IfOk result (λ text. text.items ≡ text_of_datum form (schema_nodes table.now) (value_of datum.now) len) }
+/// Appends what is before the display of a datum: the length of its encoding.
+pub(crate) fn append_head(text: &mut Vec<u8>, len: usize, form: Form) -> Result<(), AllocError>
+    ensures { OnOk result (text.new.items ≡ text.old.items ++ head_of form len) }
 {
-    let display = show_by(alloc, table, table.schema().root(), datum)?;
-    let mut text = Vec::new(alloc);
+    let (before, after): (&[u8], &[u8]) = match form {
+        Form::Text => (b"bytes ", b"\ndatum "),
+        Form::Json => (b"{\"bytes\":", b",\"datum\":"),
+    };
+    text.extend_from_slice(before)?;
+    append_decimal(text, len as u64)?;
+    text.extend_from_slice(after)
+}
+
+/// What is after it.
+pub(crate) fn tail(form: Form) -> &'static [u8]
+    ensures { result.now ≡ tail_of form }
+{
     match form {
-        Form::Text => append_lines(&mut text, &display, len)?,
-        Form::Json => append_json(&mut text, &display, len)?,
+        Form::Text => b"\n",
+        Form::Json => b"}\n",
     }
-    Ok(text)
-}
-
-/// Appends the lines of a datum's display and of a length.
-fn append_lines(text: &mut Vec<u8>, display: &str, len: usize) -> Result<(), AllocError>
-    ensures { OnOk result (text.new.items ≡ text.old.items ++ (codes "bytes " ++ decimal len ++ codes "\ndatum " ++ display.now ++ codes "\n")) }
-{
-    text.extend_from_slice(b"bytes ")?;
-    append_decimal(text, len as u64)?;
-    text.extend_from_slice(b"\ndatum ")?;
-    text.extend_from_slice(display.as_bytes())?;
-    text.extend_from_slice(b"\n")
-}
-
-/// Appends the line of JSON of a datum's display and of a length.
-fn append_json(text: &mut Vec<u8>, display: &str, len: usize) -> Result<(), AllocError>
-    ensures { OnOk result (text.new.items ≡ text.old.items ++ (codes "{\"bytes\":" ++ decimal len ++ codes ",\"datum\":" ++ display.now ++ codes "}\n")) }
-{
-    text.extend_from_slice(b"{\"bytes\":")?;
-    append_decimal(text, len as u64)?;
-    text.extend_from_slice(b",\"datum\":")?;
-    text.extend_from_slice(display.as_bytes())?;
-    text.extend_from_slice(b"}\n")
 }
 
 /// The line that reports encoded data as refused, by the word that names their file.
@@ -96,4 +73,20 @@ pub(crate) fn is_memory(error: &ReadResolveError) -> bool
         ReadResolveError::Read(error) => *error == ReadError::OutOfMemory,
         ReadResolveError::Resolve(_) => false,
     }
+}
+
+/// The bytes after a number of them, which are skipped.
+///
+/// # Errors
+///
+/// `EndOfInput` at their end if there are not so many.
+pub fn behind(bytes: &[u8], skip: usize) -> Result<&[u8], ReadResolveError>
+    ensures behind { IfOk result (λ data. data.now ≡ drop skip bytes.now) }
+    ensures within { IfOk result (λ data. skip ≤ length bytes.now) }
+{
+    if bytes.len() < skip {
+        return Err(ReadResolveError::Read(ReadError::EndOfInput { place: 0 }));
+    }
+    let (_, data) = bytes.split_at(skip);
+    Ok(data)
 }

@@ -17,13 +17,14 @@ ghost use Rattle.avro_answer.specs.declared.refusal.Refusal.TheVariants.{Writer,
 use crate::answer::Answer;
 use crate::data_answers::read_reader_of;
 use crate::data_plan::DataPlan;
-use crate::datum_texts::{append_error, is_memory};
+use crate::datum_texts::{append_error, behind, is_memory};
 use crate::form::Form;
 use crate::history_texts::cut;
 use crate::reading::read_writer;
 use crate::refusal::Refusal;
 use avro_resolve::ReadResolveError;
 use avro_schema::{Limits, Memory, Schema};
+use avro_show::Room;
 use std::alloc::Global;
 
 /// Reads a datum in each of several data, after `skip` bytes, as [`read_text`](crate::read_text) does, and answers a line of
@@ -89,10 +90,11 @@ fn answer_each(
 {
     let mut text = Vec::new(alloc);
     let mut status = 0;
+    let mut room = Room::new(alloc);
     let mut rest = bytes;
     for index in 0..lengths.len() {
         let (part, others) = cut(rest, lengths[index]);
-        let line = line_of(alloc, plan, part, skip, limits)?;
+        let line = line_of(alloc, plan, part, skip, limits, &mut room)?;
         text.extend_from_slice(&line.text)?;
         status = line.status.max(status);
         rest = others;
@@ -107,10 +109,15 @@ fn line_of(
     bytes: &[u8],
     skip: usize,
     limits: &Limits,
+    room: &mut Room,
 ) -> Result<Answer, Memory>
     ensures { IfOk result (λ a. IsLineTold (schema_nodes plan.now.0) (option_map schema_nodes plan.now.1) limits.now skip bytes.now a.text.items a.status) }
 {
-    match plan.tell(alloc, bytes, skip, limits, Form::Json) {
+    let told = match behind(bytes, skip) {
+        Ok(data) => plan.tell(alloc, data, limits, Form::Json, room),
+        Err(error) => Err(error),
+    };
+    match told {
         Ok(text) => Ok(Answer { text, status: 0 }),
         Err(error) => fault_line(alloc, &error),
     }

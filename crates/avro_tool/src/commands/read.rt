@@ -1,9 +1,9 @@
 //! The first datum of encoded data.
 
-ghost use Rattle.std.specs.Prelude.{◌≡◌, ℕ, List, OnOk, IfOk, option_copied, option_map};
+ghost use Rattle.std.specs.Prelude.{◌≡◌, ℕ, [], List, OnOk, IfOk, option_copied, option_map};
 ghost use Rattle.std.specs.Option.{IfSome};
-ghost use Rattle.std.specs.Result.{IfErr};
 ghost use Rattle.avro_schema.specs.SeenSchema.{schema_nodes};
+ghost use Rattle.avro_answer.specs.DataPut.{IfRefused};
 ghost use Rattle.avro_answer.specs.DataRead.{IsDatumTold, fault_found};
 ghost use Rattle.avro_answer.specs.ReadAnswer.{IsAllFound};
 ghost use Rattle.avro_tool.specs.DefaultLimits.{datum_limits};
@@ -13,14 +13,14 @@ use crate::Finding;
 use crate::failure::Failure;
 use crate::files::container::open_file;
 use crate::files::schema::{read_reader, read_schema_file};
-use crate::printing::print_bytes;
 use crate::request::Reading;
-use avro_answer::read_schemas;
+use avro_answer::{DataError, DataPlan, behind};
 use avro_binary::{Nothing, ReadError, read_own};
 use avro_device::Output;
 use avro_resolve::ReadResolveError;
 use avro_schema::{Limits, Memory, Schema};
 use avro_schema_json::ReaderText;
+use avro_show::Room;
 use std::alloc::Global;
 use std::io;
 use std::io::BufRead;
@@ -83,12 +83,17 @@ fn tell_datum<'a, O: Output>(
         asked.now.form asked.now.skip bytes.now text × O.keeps out.old text out.new) }
     ensures good { IfOk result (λ f. finding_status f ≡ 0) }
 {
-    match text_of(alloc, asked, writer, reader, bytes) {
-        Ok(text) => {
-            print_bytes(out, &text)?;
-            Ok(Finding::Good)
+    let reader = match reader {
+        Some(reader) => Some(reader.schema()),
+        None => None,
+    };
+    let plan = DataPlan::new(alloc, writer, reader)?;
+    match put_datum(alloc, asked, &plan, bytes, out) {
+        Ok(()) => Ok(Finding::Good),
+        Err(DataError::Refused(error)) => {
+            Err(Failure::of_data(asked.data, told_of(error, is_cut)))
         }
-        Err(error) => Err(Failure::of_data(asked.data, told_of(error, is_cut))),
+        Err(DataError::Put(error)) => Err(Failure::from(error)),
     }
 }
 
@@ -155,33 +160,22 @@ fn is_whole(
     }
 }
 
-/// The text of the datum in data.
-fn text_of(
+/// Puts the text of the datum in data.
+fn put_datum<O: Output>(
     alloc: Global,
     asked: &Reading<'_>,
-    writer: &Schema,
-    reader: Option<&ReaderText>,
+    plan: &DataPlan<'_>,
     bytes: &[u8],
-) -> Result<Vec<u8>, ReadResolveError>
-    ensures read { IfOk result (λ text. IsDatumTold (schema_nodes writer.now) (option_map (λ t. schema_nodes t.1) (option_copied reader.entry)) datum_limits
-        asked.now.form asked.now.skip bytes.now text.items) }
-    ensures refused { IfErr result (λ e. IfSome (fault_found e) (IsAllFound (schema_nodes writer.now) (option_map (λ t. schema_nodes t.1) (option_copied reader.entry))
+    out: &mut O,
+) -> Result<(), DataError>
+    ensures put { OnOk result ((text : List ℕ) × IsDatumTold (schema_nodes plan.now.0) (option_map schema_nodes plan.now.1) datum_limits
+        asked.now.form asked.now.skip bytes.now text × O.keeps out.old text out.new) }
+    ensures refused { IfRefused result (λ e. O.keeps out.old [] out.new × IfSome (fault_found e) (IsAllFound (schema_nodes plan.now.0) (option_map schema_nodes plan.now.1)
         datum_limits asked.now.skip bytes.now)) }
 {
-    let reader = match reader {
-        Some(reader) => Some(reader.schema()),
-        None => None,
-    };
-    let skip = asked.skip as usize;
-    read_schemas(
-        alloc,
-        writer,
-        reader,
-        bytes,
-        skip,
-        &Limits::default(),
-        asked.form,
-    )
+    let data = behind(bytes, asked.skip as usize)?;
+    let mut room = Room::new(alloc);
+    plan.put(out, alloc, data, &Limits::default(), asked.form, &mut room)
 }
 
 /// The error of data that may have been cut: where these end in the datum, a limit is exceeded.
