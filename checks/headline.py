@@ -55,11 +55,14 @@ PROGRAM: Roots = (
     ("Rattle.avro_container.specs.Checking", "IsFaulty"),
     ("Rattle.avro_container.specs.Copying", "CopiesFile"),
     ("Rattle.avro_container.specs.Copying", "CopiesUpTo"),
+    ("Rattle.avro_lines.specs.Shown", "ShowsWhole"),
+    ("Rattle.avro_lines.specs.Shown", "ShowsFault"),
+    ("Rattle.avro_lines.specs.Shown", "ShowsFront"),
 )
 # The crates and their files in the order in which each rests on those before it.
 CRATES = (
     "name", "schema", "zigzag", "device", "cursor", "binary", "compare", "resolve", "certificate", "least", "explain", "judge", "history", "schema_json", "display",
-    "canonical", "answer", "file", "container", "migration", "tool",
+    "canonical", "answer", "file", "container", "lines", "migration", "tool",
 )
 WORD = re.compile(r"[A-Za-z_][\w\-]*")
 HEAD = re.compile(r"(?:abbrev )?(?:pub )?(?:abbrev )?(?:record |data |type )?(?:pub )?([A-Za-z_][\w\-]*)")

@@ -4,9 +4,10 @@
 usage: checks/pages.py [--check]
 
 A row of DEFINITIONS is a public definition in the `specs/` folder of a crate, but for `specs/inside/`, with the comment
-before it; a definition without one shares the row of the one before it. A row of CONTRACTS is a public function that is
-reached from the crate's `lib.rt`, or a public trait, with the first paragraph of its text, that of its section `# Errors`,
-and the names of its clauses; and an edit of `must-fail/`, with its line `It breaks:`. The pages' heads stand in this script.
+before it; a definition without one shares the row of the one before it, and the first one of a file has the file's line. A row
+of CONTRACTS is a public function that is reached from the crate's `lib.rt`, or a public trait, with the first paragraph of its
+text, that of its section `# Errors`, and the names of its clauses; and an edit of `must-fail/`, with its line `It breaks:`. The
+pages' heads stand in this script.
 
 With --check nothing is written: each page that differs has a line with the place where it begins to, and the exit status is
 1 if there is one. It is 1, too, where a definition, a function or an edit has nothing to print.
@@ -170,6 +171,8 @@ def page_of_definitions(findings: list[str]) -> str:
                     rows.append(([found.name], found.comment))
                 elif rows:
                     rows[-1][0].append(found.name)
+                elif lines and lines[0].startswith("-- "):
+                    rows.append(([found.name], lines[0].removeprefix("-- ")))
                 else:
                     rows.append(([found.name], ""))
                     findings.append(f"{file.relative_to(ROOT)}:{found.line}: {found.name} has no comment")

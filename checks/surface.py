@@ -231,7 +231,8 @@ EXCEPTIONS = {
         ("avro_compare/src/error.rt Fault", "it shows a path, which no attribute of a derive can write"),
     ],
     JSON: [
-        ("avro_answer/src/datum_texts.rt append_head", LINE),
+        ("avro_answer/src/datum_texts.rt before", LINE),
+        ("avro_answer/src/datum_texts.rt between", LINE),
         ("avro_answer/src/explaining.rt no_fault", LINE),
         ("avro_answer/src/explaining.rt over_pairs", LINE),
         ("avro_answer/src/fault_place.rt push_step", "an entry in a path, which is no JSON"),

@@ -1,95 +1,130 @@
--- What reading a datum says is found at the front of bytes, and after a number of bytes.
-use Rattle.std.proofs.Common.{◌≡◌, ◌∙◌, ℕ, ◌<◌, ◌≤◌, true, inl, inr, List, length, take, drop, Option, Some, None, Result, Ok, Err, refl, sym, ap, subst, arith}
+-- What is found at the front of bytes.
+use Rattle.std.proofs.Common.{◌≡◌, ◌∙◌, ℕ, ◌≤◌, true, inl, inr, List, ◌++◌, length, take, drop, Option, Some, None, Result, Ok, Err, refl, sym, ap, arith}
 use Rattle.std.proofs.lemmas.List.{take-append-drop, length-take-le}
 use Rattle.std.specs.Prelude.{option_map, IfOk}
 use Rattle.std.specs.Option.{IfSome}
+use Rattle.std.specs.Result.{IfErr}
 use Rattle.avro_schema.specs.Value.{Value}
-use Rattle.avro_schema.specs.Node.{Node, root_of}
+use Rattle.avro_schema.specs.Node.{Node, node_at, root_of}
 use Rattle.avro_schema.specs.Fits.{LimitValues, is_within}
+use Rattle.avro_schema.specs.WellFormed.{is_schema}
 use Rattle.avro_schema.specs.Seen.{value_of}
 use Rattle.avro_schema.specs.declared.datum.Datum.{Datum}
 use Rattle.avro_cursor.specs.Breaks.{Breaks}
 use Rattle.avro_cursor.specs.Encoding.{Encodes}
-use Rattle.avro_cursor.specs.Fault.{ReadFault, end_of_input}
-use Rattle.avro_cursor.specs.Seen.{read_fault, UnlessOutOfMemory as UnlessNoMemory}
+use Rattle.avro_cursor.specs.Fault.{ReadFault}
+use Rattle.avro_cursor.specs.Seen.{read_fault}
 use Rattle.avro_cursor.specs.declared.error.ReadError.{ReadError}
 use Rattle.avro_binary.specs.Reading.{ReadsExactly}
-use Rattle.avro_compare.specs.Resolve.{Resolved, resolve_root}
+use Rattle.avro_compare.specs.Resolve.{Resolved}
 use Rattle.avro_compare.specs.Seen.{fault_of}
 use Rattle.avro_compare.specs.declared.error.Fault.{Fault}
-use Rattle.avro_resolve.specs.Reading.{BuildsResolved, ReadsAs}
-use Rattle.avro_resolve.specs.Seen.{UnlessOutOfMemory, AnswersAfter, IfUnread, IfUnresolved, IsUnread}
+use Rattle.avro_resolve.specs.Reading.{ReadsAs}
+use Rattle.avro_resolve.specs.Seen.{IfUnread, IfUnresolved}
 use Rattle.avro_resolve.specs.declared.error.ReadResolveError.{ReadResolveError}
-use Rattle.avro_answer.specs.DataRead.{found_in}
-use Rattle.avro_answer.specs.ReadAnswer.{Found, datum, broken, unresolved, BeginsWith, IsAtFront, IsFound, IsAllFound, read_as}
-use Rattle.avro_answer.specs.inside.AtFront.{IsAllAtFront}
+use Rattle.avro_display.specs.DisplayTree.{display_text}
+use Rattle.avro_answer.specs.DataRead.{fault_found, IsDatumTold}
+use Rattle.avro_answer.specs.ReadAnswer.{Found, datum, broken, unresolved, BeginsWith, IsAtFront, IsFound, IsAllFound, datum_text, nodes_for, read_as}
+use Rattle.avro_answer.specs.declared.form.Form.{Form}
+use Rattle.avro_answer.specs.inside.AtFront.{IsDisplayed}
+use Rattle.avro_answer.specs.inside.DatumParts.{text_around}
 
-same_ok : {A B : Type 0} (r : Result A B) (a b : A) → r ≡ Ok a → r ≡ Ok b → a ≡ b
+pub same_ok : {A B : Type 0} (r : Result A B) (a b : A) → r ≡ Ok a → r ≡ Ok b → a ≡ b
 same_ok r a b g h = cc
 
 same_err : {A B : Type 0} (r : Result A B) (a b : B) → r ≡ Err a → r ≡ Err b → a ≡ b
 same_err r a b g h = cc
 
-same_some : {A : Type 0} (a b : A) → Some a ≡ Some b → a ≡ b
-same_some a b h = cc
-
 same_datum : (u w : Value) (m n : ℕ) → u ≡ w → m ≡ n → datum u m ≡ datum w n
 same_datum u w m n g h = cc
 
--- what holds unless memory ran out holds where an error reports a fault
-reported : (P : Type 0) (e : ReadError) (fault : ReadFault) → read_fault e ≡ Some fault
-    → UnlessOutOfMemory {A = Datum × ℕ} (Err (ReadResolveError.Read e)) P → P
-reported P ReadError.OutOfMemory fault is h = absurd cc
-reported P _ fault is h = h
+around_display : (form : Form) (nodes : List Node) (u : Value) (len : ℕ) → text_around form (display_text nodes (root_of nodes) u) len ≡ datum_text form nodes u len
+around_display Form.Text nodes u len = refl
+around_display Form.Json nodes u len = refl
 
-handed_on : (P : Type 0) (e : ReadError) → UnlessNoMemory {A = Datum × ℕ} (Err e) P → UnlessOutOfMemory {A = Datum × ℕ} (Err (ReadResolveError.Read e)) P
-handed_on P ReadError.OutOfMemory h = tt
-handed_on P _ h = h
+-- what stands at the front of data of a schema is all that is found
+abbrev pub OnlyFound : List Node → Type 0
+OnlyFound writer = (reader : Option (List Node)) (limits : LimitValues) (bytes : List ℕ) (found : Found)
+    → IsAtFront writer reader limits bytes found → IsAllFound writer reader limits 0 bytes found
+
+-- the laws of encodings and of faults
+abbrev pub OnePrefix : Type 0
+OnePrefix = (nodes : List Node) (n : Node) (v w : Value) (a b x y : List ℕ) → Encodes nodes n v a → Encodes nodes n w b → a ++ x ≡ b ++ y → (a ≡ b) × (v ≡ w)
+
+abbrev pub FaultOrWithin : Type 0
+FaultOrWithin = (nodes : List Node) (limits : LimitValues) (id : ℕ) (bytes : List ℕ) (f : ReadFault) (v : Value) (front rest : List ℕ) → is_schema nodes ≡ true
+    → Breaks nodes limits (node_at nodes id) bytes f → Encodes nodes (node_at nodes id) v front → is_within limits v ≡ true → bytes ≡ front ++ rest → ⊥
+
+abbrev pub OneFault : Type 0
+OneFault = (nodes : List Node) (limits : LimitValues) (id : ℕ) (bytes : List ℕ) (f g : ReadFault) → is_schema nodes ≡ true
+    → Breaks nodes limits (node_at nodes id) bytes f → Breaks nodes limits (node_at nodes id) bytes g → f ≡ g
+
+module _ (one_prefix : OnePrefix) (fault_or_within : FaultOrWithin) (one_fault : OneFault) (writer : List Node) (good : is_schema writer ≡ true)
+    (reader : Option (List Node)) (limits : LimitValues) (bytes : List ℕ) where
+  -- bytes begin with one datum
+  one_datum : (v w : Value) (m n : ℕ) → BeginsWith writer limits bytes v m → BeginsWith writer limits bytes w n → (v ≡ w) × (m ≡ n)
+  one_datum v w m n b d =
+      let same = one_prefix writer (root_of writer) v w b.front d.front b.rest d.rest b.encoded d.encoded (sym b.parted ∙ d.parted) in
+      (same.1, b.length_is ∙ ap length same.0 ∙ sym d.length_is)
+
+  no_fault : (v : Value) (m : ℕ) (fault : ReadFault) → BeginsWith writer limits bytes v m → Breaks writer limits (root_of writer) bytes fault → ⊥
+  no_fault v m fault b breaks = fault_or_within writer limits 0 bytes fault v b.front b.rest good breaks b.encoded b.within b.parted
+
+  one_read : (v w : Value) (r s : Resolved) → v ≡ w → read_as writer reader v ≡ r → read_as writer reader w ≡ s → r ≡ s
+  one_read v w r s e g h = sym g ∙ ap (read_as writer reader) e ∙ h
+
+  alone : (found other : Found) → IsAtFront writer reader limits bytes found → IsAtFront writer reader limits bytes other → other ≡ found
+  alone (datum u m) (datum w n) (v, b, reads) (x, d, others) =
+      let same = one_datum x v n m d b in
+      let e = one_read x v (Ok w) (Ok u) same.0 others reads in
+      same_datum w u n m (same_ok (Ok w) w u refl e) same.1
+  alone (datum u m) (broken fault) (v, b, reads) breaks = absurd (no_fault v m fault b breaks)
+  alone (datum u m) (unresolved fault) (v, b, reads) (x, n, d, others) =
+      let e = one_read x v (Err fault) (Ok u) (one_datum x v n m d b).0 others reads in absurd cc
+  alone (broken fault) (datum w n) breaks (x, d, others) = absurd (no_fault x n fault d breaks)
+  alone (broken fault) (broken other) breaks others = ap broken (one_fault writer limits 0 bytes other fault good others breaks)
+  alone (broken fault) (unresolved other) breaks (x, n, d, others) = absurd (no_fault x n fault d breaks)
+  alone (unresolved fault) (datum w n) (v, m, b, reads) (x, d, others) =
+      let e = one_read x v (Ok w) (Err fault) (one_datum x v n m d b).0 others reads in absurd cc
+  alone (unresolved fault) (broken other) (v, m, b, reads) breaks = absurd (no_fault v m other b breaks)
+  alone (unresolved fault) (unresolved other) (v, m, b, reads) (x, n, d, others) =
+      let e = one_read x v (Err other) (Err fault) (one_datum x v n m d b).0 others reads in
+      ap unresolved (same_err (Err other) other fault refl e)
+
+  -- what stands at the front is all that is found
+  pub one_found : (found : Found) → IsAtFront writer reader limits bytes found → IsAllFound writer reader limits 0 bytes found
+  one_found found there = record { there = inr (omega arith, there); alone = others }
+    where
+      others : (other : Found) → IsFound writer reader limits 0 bytes other → other ≡ found
+      others other (inl (few, _)) = absurd (omega (arith, few))
+      others other (inr (_, at)) = alone found other there at
 
 module _ (writer : List Node) (reader : Option (List Node)) (limits : LimitValues) (bytes : List ℕ) where
-  -- what is read is what the bytes begin with, or its fault, or that of the bytes
-  pub record Finds (result : Result (Datum × ℕ) ReadResolveError) : Type 0 where
-    pub found : IfOk result (λ r. (v : Value) × BeginsWith writer limits bytes v r.1 × (read_as writer reader v ≡ Ok (value_of r.0)))
-    pub faulty : IfUnresolved result (λ f. (v : Value) × (len : ℕ) × BeginsWith writer limits bytes v len × (read_as writer reader v ≡ Err (fault_of f)))
-    pub begins : (v : Value) (len : ℕ) → BeginsWith writer limits bytes v len → UnlessOutOfMemory result (AnswersAfter result (read_as writer reader v) len)
-    pub refused : IfUnread result (λ e. IfSome (read_fault e) (Breaks writer limits (root_of writer) bytes))
-    pub breaks : (fault : ReadFault) → Breaks writer limits (root_of writer) bytes fault → UnlessOutOfMemory result (IsUnread result (λ e. read_fault e ≡ Some fault))
+  -- the text of a datum by its display
+  pub displayed_text : (form : Form) (len : ℕ) (display : List ℕ) → IsDisplayed writer reader limits bytes len display
+      → IsDatumTold writer reader limits form 0 bytes (text_around form display len)
+  displayed_text form len display h = record {
+    value = h.value;
+    len = len;
+    is_found = h.is_found;
+    told = ap (λ d. text_around form d len) h.told ∙ around_display form (nodes_for writer reader) h.value len;
+  }
 
-  of_ok : (r : Datum × ℕ) → Finds (Ok r) → IsAllAtFront writer reader limits bytes (datum (value_of r.0) r.1)
-  of_ok r h = record { there = h.found; alone = alone }
+  -- and by what is found
+  pub found_told : (form : Form) (len : ℕ) (u : Value) → IsAllFound writer reader limits 0 bytes (datum u len)
+      → IsDatumTold writer reader limits form 0 bytes (text_around form (display_text (nodes_for writer reader) (root_of (nodes_for writer reader)) u) len)
+  found_told form len u h = record { value = u; len = len; is_found = h; told = around_display form (nodes_for writer reader) u len }
+
+  -- the datum that is read where one is found
+  pub datum_read : (r : Datum × ℕ) → ReadsExactly writer (root_of writer) limits bytes (Ok r)
+      → (u : Value) (len : ℕ) → IsAllFound writer reader limits 0 bytes (datum u len) → read_as writer reader (value_of r.0) ≡ Ok u
+  datum_read r h u len all = by_place all.there
     where
-      alone : (other : Found) → IsAtFront writer reader limits bytes other → other ≡ datum (value_of r.0) r.1
-      alone (datum u len) (v, begins, reads) = let p = h.begins v len begins in
-          same_datum u (value_of r.0) len r.1 (same_ok (read_as writer reader v) u (value_of r.0) reads p.0) (sym p.1)
-      alone (broken fault) breaks = absurd (h.breaks fault breaks)
-      alone (unresolved fault) (v, len, begins, reads) = let p = h.begins v len begins in let e = sym reads ∙ p.0 in absurd cc
+      by_place : IsFound writer reader limits 0 bytes (datum u len) → read_as writer reader (value_of r.0) ≡ Ok u
+      by_place (inl (few, _)) = absurd (omega (arith, few))
+      by_place (inr (_, (v, b, reads))) = ap (read_as writer reader) (h.begins v b.front b.rest b.encoded b.within b.parted).0 ∙ reads
 
-  of_fault : (f : Fault) → Finds (Err (ReadResolveError.Resolve f)) → IsAllAtFront writer reader limits bytes (unresolved (fault_of f))
-  of_fault f h = record { there = h.faulty; alone = alone }
-    where
-      alone : (other : Found) → IsAtFront writer reader limits bytes other → other ≡ unresolved (fault_of f)
-      alone (datum u len) (v, begins, reads) = let e = sym reads ∙ h.begins v len begins in absurd cc
-      alone (broken fault) breaks = absurd (h.breaks fault breaks)
-      alone (unresolved fault) (v, len, begins, reads) = ap unresolved (same_err (read_as writer reader v) fault (fault_of f) reads (h.begins v len begins))
-
-  of_error : (e : ReadError) (fault : ReadFault) → read_fault e ≡ Some fault → Finds (Err (ReadResolveError.Read e)) → IsAllAtFront writer reader limits bytes (broken fault)
-  of_error e fault is h = record { there = subst (λ o. IfSome o (Breaks writer limits (root_of writer) bytes)) is h.refused; alone = alone }
-    where
-      alone : (other : Found) → IsAtFront writer reader limits bytes other → other ≡ broken fault
-      alone (datum u len) (v, begins, reads) = absurd (reported ⊥ e fault is (h.begins v len begins))
-      alone (broken other) breaks = ap broken (same_some other fault (sym (reported (read_fault e ≡ Some other) e fault is (h.breaks other breaks)) ∙ is))
-      alone (unresolved other) (v, len, begins, reads) = absurd (reported ⊥ e fault is (h.begins v len begins))
-
-  pub all_at_front : (result : Result (Datum × ℕ) ReadResolveError) → Finds result → IfSome (found_in result) (IsAllAtFront writer reader limits bytes)
-  all_at_front (Ok r) h = of_ok r h
-  all_at_front (Err (ReadResolveError.Resolve f)) h = of_fault f h
-  all_at_front (Err (ReadResolveError.Read e)) h = by_fault (read_fault e) refl
-    where
-      by_fault : (o : Option ReadFault) → read_fault e ≡ o → IfSome (option_map broken o) (IsAllAtFront writer reader limits bytes)
-      by_fault None is = tt
-      by_fault (Some fault) is = of_error e fault is h
-
-module _ (writer : List Node) (limits : LimitValues) (bytes : List ℕ) where
+module _ (writer : List Node) (all : OnlyFound writer) (limits : LimitValues) (bytes : List ℕ) where
   at_front : (v : Value) (len : ℕ) → len ≤ length bytes → Encodes writer (root_of writer) v (take len bytes) → is_within limits v ≡ true → BeginsWith writer limits bytes v len
   at_front v len in_bytes encoded within = record {
     front = take len bytes;
@@ -100,71 +135,56 @@ module _ (writer : List Node) (limits : LimitValues) (bytes : List ℕ) where
     length_is = sym (length-take-le len bytes in_bytes);
   }
 
+  -- a datum as it is
+  pub plain_is_found : (v : Value) (len : ℕ) → len ≤ length bytes → Encodes writer (root_of writer) v (take len bytes) → is_within limits v ≡ true
+      → IsAllFound writer None limits 0 bytes (datum v len)
+  plain_is_found v len in_bytes encoded within = all None limits bytes (datum v len) (v, at_front v len in_bytes encoded within, refl)
+
+  pub plain_is_displayed : (v : Value) (len : ℕ) → len ≤ length bytes → Encodes writer (root_of writer) v (take len bytes) → is_within limits v ≡ true
+      → IsDisplayed writer None limits bytes len (display_text writer (root_of writer) v)
+  plain_is_displayed v len in_bytes encoded within = record { value = v; is_found = plain_is_found v len in_bytes encoded within; told = refl }
+
+  -- the fault of the bytes
+  pub fault_is_found : (reader : Option (List Node)) (o : Option ReadFault) → IfSome o (Breaks writer limits (root_of writer) bytes)
+      → IfSome (option_map broken o) (IsAllFound writer reader limits 0 bytes)
+  fault_is_found reader None h = tt
+  fault_is_found reader (Some fault) h = all reader limits bytes (broken fault) h
+
   module _ (reader : List Node) where
-    reads : (len : ℕ) (resolved : Resolved) (r : ReadsAs writer reader limits bytes len resolved) → BeginsWith writer limits bytes r.datum len
-    reads len resolved r = at_front r.datum len r.in_bytes r.encoded r.within
+    begins : (len : ℕ) (resolved : Resolved) (r : ReadsAs writer reader limits bytes len resolved) → BeginsWith writer limits bytes r.datum len
+    begins len resolved r = at_front r.datum len r.in_bytes r.encoded r.within
 
-    -- what a plan reads is found
-    pub built : (result : Result (Datum × ℕ) ReadResolveError) → BuildsResolved (λ (d : Datum) v. value_of d ≡ v) writer reader limits bytes result → Finds writer (Some reader) limits bytes result
-    built (Ok r) h = record {
-      found = let s = h.found in (s.2.datum, reads r.1 (Ok s.0) s.2, s.2.resolves ∙ ap Ok (sym s.1));
-      faulty = tt;
-      begins = λ v len b. let p = h.begins v b.front b.rest b.encoded b.within b.parted in (p.2 ∙ ap Ok (sym p.1), p.3 ∙ sym b.length_is);
-      refused = tt;
-      breaks = h.breaks;
-    }
-    built (Err (ReadResolveError.Resolve f)) h = record {
-      found = tt;
-      faulty = let s = h.faulty in (s.1.datum, s.0, reads s.0 (Err (fault_of f)) s.1, s.1.resolves);
-      begins = λ v len b. h.begins v b.front b.rest b.encoded b.within b.parted;
-      refused = tt;
-      breaks = h.breaks;
-    }
-    built (Err (ReadResolveError.Read e)) h = record {
-      found = tt;
-      faulty = tt;
-      begins = λ v len b. h.begins v b.front b.rest b.encoded b.within b.parted;
-      refused = h.refused;
-      breaks = h.breaks;
-    }
+    -- what is read for a reader
+    pub read_is_found : (len : ℕ) (u : Value) → ReadsAs writer reader limits bytes len (Ok u) → IsAllFound writer (Some reader) limits 0 bytes (datum u len)
+    read_is_found len u r = all (Some reader) limits bytes (datum u len) (r.datum, begins len (Ok u) r, r.resolves)
 
-  -- so is what is read as it is
-  pub read_whole : (r : Datum × ℕ) → ReadsExactly writer (root_of writer) limits bytes (Ok r) → Finds writer None limits bytes (Ok r)
-  read_whole r h = record {
-    found = let s = h.found in (value_of r.0, at_front (value_of r.0) r.1 s.0 s.1 s.2, refl);
-    faulty = tt;
-    begins = λ v len b. let p = h.begins v b.front b.rest b.encoded b.within b.parted in (ap Ok (sym p.0), p.1 ∙ sym b.length_is);
-    refused = tt;
-    breaks = h.breaks;
-  }
+    -- its display
+    pub read_is_displayed : (stands : List ℕ → Type 0) (nodes : List Node) → nodes ≡ reader → {E : Type 0} (result : Result ℕ E)
+        → IfOk result (λ len. (u : Value) × ReadsAs writer reader limits bytes len (Ok u) × stands (display_text nodes (root_of nodes) u))
+        → IfOk result (λ len. (display : List ℕ) × IsDisplayed writer (Some reader) limits bytes len display × stands display)
+    read_is_displayed stands nodes same (Ok len) (u, r, here) = (
+      display_text nodes (root_of nodes) u,
+      record { value = u; is_found = read_is_found len u r; told = ap (λ ns. display_text ns (root_of ns) u) same },
+      here,
+    )
+    read_is_displayed stands nodes same (Err e) h = tt
 
-  pub read_broken : (e : ReadError) → ReadsExactly writer (root_of writer) limits bytes (Err e) → Finds writer None limits bytes (Err (ReadResolveError.Read e))
-  read_broken e h = record {
-    found = tt;
-    faulty = tt;
-    begins = λ v len b. handed_on ⊥ e (h.begins v b.front b.rest b.encoded b.within b.parted);
-    refused = h.refused;
-    breaks = λ fault b. handed_on (read_fault e ≡ Some fault) e (h.breaks fault b);
-  }
+    -- why it is refused
+    unresolved_is_found : (f : Fault) (len : ℕ) → ReadsAs writer reader limits bytes len (Err (fault_of f)) → IsAllFound writer (Some reader) limits 0 bytes (unresolved (fault_of f))
+    unresolved_is_found f len r = all (Some reader) limits bytes (unresolved (fault_of f)) (r.datum, len, begins len (Err (fault_of f)) r, r.resolves)
 
-module _ (writer : List Node) (reader : Option (List Node)) (limits : LimitValues) (skip : ℕ) (bytes : List ℕ) where
-  -- where bytes are fewer than those that are skipped
-  pub too_few : length bytes < skip → IsAllFound writer reader limits skip bytes (broken (end_of_input 0))
-  too_few few = record { there = inl (few, refl); alone = alone }
-    where
-      alone : (other : Found) → IsFound writer reader limits skip bytes other → other ≡ broken (end_of_input 0)
-      alone other (inl (_, is)) = is
-      alone other (inr (enough, _)) = absurd (omega (arith, few, enough))
+    pub refusal_is_found : (e : ReadResolveError)
+        → ((f : Fault) → e ≡ ReadResolveError.Resolve f → (len : ℕ) × ReadsAs writer reader limits bytes len (Err (fault_of f)))
+        → ((x : ReadError) → e ≡ ReadResolveError.Read x → IfSome (read_fault x) (Breaks writer limits (root_of writer) bytes))
+        → IfSome (fault_found e) (IsAllFound writer (Some reader) limits 0 bytes)
+    refusal_is_found (ReadResolveError.Resolve f) g h = let p = g f refl in unresolved_is_found f p.0 p.1
+    refusal_is_found (ReadResolveError.Read e) g h = fault_is_found (Some reader) (read_fault e) (h e refl)
 
-  -- and where they are not
-  after : skip ≤ length bytes → (found : Found) → IsAllAtFront writer reader limits (drop skip bytes) found → IsAllFound writer reader limits skip bytes found
-  after enough found h = record { there = inr (enough, h.there); alone = alone }
-    where
-      alone : (other : Found) → IsFound writer reader limits skip bytes other → other ≡ found
-      alone other (inl (few, _)) = absurd (omega (arith, few, enough))
-      alone other (inr (_, at)) = h.alone other at
-
-  pub behind_skipped : skip ≤ length bytes → (rest : List ℕ) → rest ≡ drop skip bytes → (o : Option Found)
-      → IfSome o (IsAllAtFront writer reader limits rest) → IfSome o (IsAllFound writer reader limits skip bytes)
-  behind_skipped enough rest is None h = tt
-  behind_skipped enough rest is (Some found) h = after enough found (subst (λ b. IsAllAtFront writer reader limits b found) is h)
+    -- the same of a result
+    pub refusals_are_found : {A : Type 0} (result : Result A ReadResolveError)
+        → IfUnresolved result (λ f. (len : ℕ) × ReadsAs writer reader limits bytes len (Err (fault_of f)))
+        → IfUnread result (λ e. IfSome (read_fault e) (Breaks writer limits (root_of writer) bytes))
+        → IfErr result (λ e. IfSome (fault_found e) (IsAllFound writer (Some reader) limits 0 bytes))
+    refusals_are_found (Ok a) g h = tt
+    refusals_are_found (Err (ReadResolveError.Resolve f)) g h = unresolved_is_found f g.0 g.1
+    refusals_are_found (Err (ReadResolveError.Read e)) g h = fault_is_found (Some reader) (read_fault e) h

@@ -2,6 +2,8 @@ pub mod public
 pub mod Certified
 pub mod DataFound
 pub mod DataLines
+pub mod DataPlans
+pub mod DataPuts
 pub mod DataTexts
 pub mod FaultFronts
 pub mod FaultLines

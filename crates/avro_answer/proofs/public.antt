@@ -1,3 +1,4 @@
 -- Lemmas that the crates above cite.
 pub mod FaultsAnswers
 pub mod PairLimits
+pub mod Skipped

@@ -1,10 +1,8 @@
 -- What reading encoded data returns.
-use Rattle.std.specs.Prelude.{◌≡◌, ℕ, List, Option, Some, Result, Ok, Err, option_map}
+use Rattle.std.specs.Prelude.{◌≡◌, ℕ, List, Option, Some, option_map}
 use Rattle.avro_schema.specs.Value.{Value}
 use Rattle.avro_schema.specs.Node.{Node}
 use Rattle.avro_schema.specs.Fits.{LimitValues}
-use Rattle.avro_schema.specs.Seen.{value_of}
-use Rattle.avro_schema.specs.declared.datum.Datum.{Datum}
 use Rattle.avro_cursor.specs.Seen.{read_fault}
 use Rattle.avro_compare.specs.Seen.{fault_of}
 use Rattle.avro_resolve.specs.declared.error.ReadResolveError.{ReadResolveError}
@@ -16,11 +14,6 @@ use Rattle.avro_answer.specs.declared.form.Form.{Form}
 abbrev pub fault_found : ReadResolveError → Option Found
 fault_found (ReadResolveError.Read e) = option_map broken (read_fault e)
 fault_found (ReadResolveError.Resolve f) = Some (unresolved (fault_of f))
-
--- what a result says is found
-abbrev pub found_in : Result (Datum × ℕ) ReadResolveError → Option Found
-found_in (Ok r) = Some (datum (value_of r.0) r.1)
-found_in (Err e) = fault_found e
 
 -- the text of an error
 abbrev pub error_text : ReadResolveError → List ℕ

@@ -16,5 +16,5 @@ pub mod ReadAnswer
 pub mod DataRead
 pub mod ReadHeadline
 pub mod ReadsAnswer
-pub mod inside
 pub mod DataPut
+pub mod inside

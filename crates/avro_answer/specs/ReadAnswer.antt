@@ -58,23 +58,10 @@ pub record IsAllFound (writer : List Node) (reader : Option (List Node)) (limits
   pub there : IsFound writer reader limits skip bytes found
   pub alone : (other : Found) → IsFound writer reader limits skip bytes other → other ≡ found
 
--- what is before the display of a datum
-abbrev pub head_of : Form → ℕ → List ℕ
-head_of Form.Text len = codes "bytes " ++ decimal len ++ codes "\ndatum "
-head_of Form.Json len = codes "{\"bytes\":" ++ decimal len ++ codes ",\"datum\":"
-
--- what is after it
-abbrev pub tail_of : Form → List ℕ
-tail_of Form.Text = codes "\n"
-tail_of Form.Json = codes "}\n"
-
--- the length of an encoding and a display, as two lines or as a line of JSON
-abbrev pub text_around : Form → List ℕ → ℕ → List ℕ
-text_around form display len = head_of form len ++ display ++ tail_of form
-
 -- the length of the encoding and the display of the datum, as two lines or as a line of JSON
 abbrev pub datum_text : Form → List Node → Value → ℕ → List ℕ
-datum_text form nodes u len = text_around form (display_text nodes (root_of nodes) u) len
+datum_text Form.Text nodes u len = codes "bytes " ++ decimal len ++ codes "\ndatum " ++ display_text nodes (root_of nodes) u ++ codes "\n"
+datum_text Form.Json nodes u len = codes "{\"bytes\":" ++ decimal len ++ codes ",\"datum\":" ++ display_text nodes (root_of nodes) u ++ codes "}\n"
 
 -- the text of what is found, by the word that names the data: of a datum, or the line of the fault
 abbrev pub found_text : Form → List ℕ → List Node → Found → List ℕ

@@ -1,5 +1,6 @@
 -- What only proofs and private contracts need.
 pub mod AtFront
+pub mod DatumParts
 pub mod FaultsAdded
 pub mod FrontKept
 pub mod JsonText

@@ -14,7 +14,7 @@ ghost use Rattle.avro_answer.specs.declared.refusal.Refusal.TheVariants.{Writer,
 
 use crate::answer::Answer;
 use crate::data_plan::DataPlan;
-use crate::datum_texts::{behind, data_refusal, is_memory};
+use crate::datum_texts::{data_refusal, is_memory};
 use crate::form::Form;
 use crate::reading::{read_reader, read_writer};
 use crate::refusal::Refusal;
@@ -44,10 +44,7 @@ pub fn read_schemas(
     ensures refused { IfErr result (λ e. IfSome (fault_found e) (IsAllFound (schema_nodes writer.now) (option_map schema_nodes (option_copied reader.entry)) limits.now skip bytes.now)) }
 {
     match DataPlan::new(alloc, writer, reader) {
-        Ok(plan) => {
-            let data = behind(bytes, skip)?;
-            plan.tell(alloc, data, limits, form, &mut Room::new(alloc))
-        }
+        Ok(plan) => plan.tell(alloc, bytes, skip, limits, form, &mut Room::new(alloc)),
         Err(_) => Err(ReadResolveError::Read(ReadError::OutOfMemory)),
     }
 }

@@ -4,15 +4,17 @@ ghost use Rattle.std.specs.Option.{IfSome};
 ghost use Rattle.avro_schema.specs.SeenSchema.{schema_nodes};
 
 use crate::data_error::DataError;
-use crate::datum_texts::{append_head, is_memory, tail};
+use crate::data_found::{display_for, display_plain, pass_for, pass_plain};
+use crate::data_put::{as_data, put_for, put_plain, put_shown};
+use crate::datum_texts::{behind, head, is_memory, tail};
 use crate::form::Form;
 use crate::putting::put_text;
-use avro_binary::{Nothing, ReadError, decode, walk};
+use avro_binary::{ReadError, decode};
 use avro_device::{Output, WriteOutput};
-use avro_display::{DisplayTable, Plain, PutError, Text, put_displayed};
+use avro_display::{DisplayTable, PutError, Text};
 use avro_resolve::{Plan, ReadResolveError};
 use avro_schema::{Datum, Limits, Memory, Schema};
-use avro_show::{Resolved, Room, display_read, display_resolved, put_resolved};
+use avro_show::Room;
 use std::alloc::Global;
 use std::marker::Model;
 
@@ -45,19 +47,24 @@ impl<'a> Model for DataPlan<'a> {
 }
 
 impl<'a> DataPlan<'a> {
-    ghost use Rattle.std.specs.Prelude.{◌≡◌, ℕ, [], List, IfOk, OnOk, option_map, option_copied};
-    ghost use Rattle.avro_schema.specs.Node.{root_of};
-    ghost use Rattle.avro_schema.specs.Seen.{value_of};
-    ghost use Rattle.avro_schema.specs.Value.{Value};
-    ghost use Rattle.avro_display.specs.DisplayTree.{display_text};
-    ghost use Rattle.avro_display.specs.Pieces.{PutsText};
-    ghost use Rattle.avro_answer.specs.DataPut.{IfRefused, IsFor};
+    ghost use Rattle.std.specs.Prelude.{◌≡◌, ◌≢◌, ◌⊎◌, ◌++◌, ℕ, [], List, Ok, IfOk, OnOk, OnErr, IsErrOf, option_map, option_copied};
     ghost use Rattle.std.specs.Option.{IfSome};
     ghost use Rattle.std.specs.Result.{IfErr};
+    ghost use Rattle.avro_schema.specs.Node.{root_of};
+    ghost use Rattle.avro_schema.specs.Seen.{value_of};
     ghost use Rattle.avro_schema.specs.SeenSchema.{schema_nodes};
-    ghost use Rattle.avro_answer.specs.DataRead.{fault_found, found_in, IsDatumTold};
-    ghost use Rattle.avro_answer.specs.ReadAnswer.{IsAllFound, nodes_for};
-    ghost use Rattle.avro_answer.specs.inside.AtFront.{IsAllAtFront};
+    ghost use Rattle.avro_schema.specs.Value.{Value};
+    ghost use Rattle.avro_device.specs.PutFront.{PutsFrontOf};
+    ghost use Rattle.avro_display.specs.DisplayTree.{display_text};
+    ghost use Rattle.avro_display.specs.Pieces.{PutsText};
+    ghost use Rattle.avro_display.specs.declared.put_error.PutError.{PutError};
+    ghost use Rattle.avro_show.specs.Spans.{StandsIn};
+    ghost use Rattle.avro_answer.specs.DataPut.{IfPutFails, IfRefused};
+    ghost use Rattle.avro_answer.specs.DataRead.{fault_found, IsDatumTold};
+    ghost use Rattle.avro_answer.specs.ReadAnswer.{datum, IsAllFound, nodes_for, read_as};
+    ghost use Rattle.avro_answer.specs.inside.AtFront.{IsDisplayed};
+    ghost use Rattle.avro_answer.specs.inside.DatumParts.{text_around};
+    ghost use Rattle.avro_answer.specs.declared.data_error.DataError.{DataError};
 
     /// The plan of a writer's schema, and of a reader's where there is one.
     ///
@@ -83,12 +90,31 @@ impl<'a> DataPlan<'a> {
         })
     }
 
-    /// Reads the datum at the front of bytes, as what it is for the reader where there is one, and returns its text.
+    /// Reads the datum after a number of bytes, as what it is for the reader where there is one, and returns its text.
     ///
     /// # Errors
     ///
     /// The first fault of the bytes, and else the first fault of resolution; `OutOfMemory`.
     pub(crate) fn tell(
+        &self,
+        alloc: Global,
+        bytes: &[u8],
+        skip: usize,
+        limits: &Limits,
+        form: Form,
+        room: &mut Room,
+    ) -> Result<Vec<u8>, ReadResolveError>
+        ensures read { IfOk result (λ text. IsDatumTold (schema_nodes self.now.0) (option_map schema_nodes self.now.1) limits.now form skip bytes.now text.items) }
+        ensures refused { IfErr result (λ e. IfSome (fault_found e) (IsAllFound (schema_nodes self.now.0) (option_map schema_nodes self.now.1) limits.now skip bytes.now)) }
+    {
+        match behind(bytes, skip) {
+            Ok(data) => self.text_of(alloc, data, limits, form, room),
+            Err(error) => Err(error),
+        }
+    }
+
+    /// The text of the datum at the front of bytes.
+    fn text_of(
         &self,
         alloc: Global,
         bytes: &[u8],
@@ -112,8 +138,8 @@ impl<'a> DataPlan<'a> {
     ///
     /// # Errors
     ///
-    /// The first fault of the bytes, and else the first fault of resolution, before anything is put; the output failed, or took none of
-    /// the bytes; memory ran out.
+    /// `Refused`: the first fault of the bytes, and else the first fault of resolution, or memory ran out; nothing was put. `Put`: the
+    /// output failed, or took none of the bytes, or memory ran out; a prefix of the text was put.
     pub fn put<O: Output>(
         &self,
         out: &mut O,
@@ -123,22 +149,24 @@ impl<'a> DataPlan<'a> {
         form: Form,
         room: &mut Room,
     ) -> Result<(), DataError>
-        ensures put { OnOk result ((text : List ℕ) × IsDatumTold (schema_nodes self.now.0) (option_map schema_nodes self.now.1) limits.now form 0 bytes.now text × O.keeps out.old text out.new) }
-        ensures refused { IfRefused result (λ e. O.keeps out.old [] out.new × IfSome (fault_found e) (IsAllFound (schema_nodes self.now.0) (option_map schema_nodes self.now.1) limits.now 0 bytes.now)) }
+        ensures put { OnOk result ((text : List ℕ) × IsDatumTold (schema_nodes self.now.0) (option_map schema_nodes self.now.1) limits.now form 0 bytes.now text
+            × O.keeps out.old text out.new) }
+        ensures front { IfPutFails result ((text : List ℕ) × IsDatumTold (schema_nodes self.now.0) (option_map schema_nodes self.now.1) limits.now form 0 bytes.now text
+            × PutsFrontOf O.keeps out.old out.new text) }
+        ensures refused { IfRefused result (λ e. O.keeps out.old [] out.new
+            × IfSome (fault_found e) (IsAllFound (schema_nodes self.now.0) (option_map schema_nodes self.now.1) limits.now 0 bytes.now)) }
+        ensures works { OnOk result (O.failures out.new ≡ O.failures out.old) }
+        ensures fails { IsErrOf result (DataError.Put PutError.CannotWrite) → (O.failures out.new ≢ O.failures out.old) ⊎ O.stuck out.new }
+        ensures memory { IsErrOf result (DataError.Put PutError.OutOfMemory) → O.failures out.new ≡ O.failures out.old }
+        ensures unused { IfRefused result (λ e. O.failures out.new ≡ O.failures out.old) }
     {
-        let mut text = Vec::new(alloc);
-        match self.display(alloc, bytes, limits, room) {
-            Ok(len) => {
-                append_head(&mut text, len, form)?;
-                text.extend_from_slice(room.shown())?;
-                text.extend_from_slice(tail(form))?;
-                Ok(put_text(out, &text)?)
-            }
+        match self.display(alloc, bytes, limits, &mut *room) {
+            Ok(len) => as_data(put_shown(out, alloc, room, len, form)),
             Err(error) => {
-                if !is_memory(&error) {
-                    return Err(DataError::Refused(error));
+                if is_memory(&error) {
+                    return self.put_long(out, alloc, bytes, limits, form);
                 }
-                self.put_long(out, alloc, bytes, limits, form)
+                Err(DataError::Refused(error))
             }
         }
     }
@@ -151,25 +179,29 @@ impl<'a> DataPlan<'a> {
         limits: &Limits,
         room: &mut Room,
     ) -> Result<usize, ReadResolveError>
-        ensures { IfSome (found_in result) (IsAllAtFront (schema_nodes self.now.0) (option_map schema_nodes self.now.1) limits.now bytes.now) }
+        ensures shown { IfOk result (λ len. (display : List ℕ) × IsDisplayed (schema_nodes self.now.0) (option_map schema_nodes self.now.1) limits.now bytes.now len display
+            × StandsIn room.new.text room.new.shown display) }
+        ensures refused { IfErr result (λ e. IfSome (fault_found e) (IsAllFound (schema_nodes self.now.0) (option_map schema_nodes self.now.1) limits.now 0 bytes.now)) }
     {
         match &self.plan {
-            Some(plan) => display_resolved(alloc, &plan.by_ref(), &self.table, bytes, limits, room),
-            None => own(display_read(alloc, &self.table, bytes, limits, room)),
+            Some(plan) => display_for(alloc, plan, &self.table, bytes, limits, room),
+            None => display_plain(alloc, &self.table, bytes, limits, room),
         }
     }
 
     /// Passes the datum at the front of bytes, and returns the length of its encoding.
     fn pass(&self, alloc: Global, bytes: &[u8], limits: &Limits) -> Result<usize, ReadResolveError>
-        ensures { IfSome (found_in result) (IsAllAtFront (schema_nodes self.now.0) (option_map schema_nodes self.now.1) limits.now bytes.now) }
+        ensures found { IfOk result (λ len. (u : Value) × IsAllFound (schema_nodes self.now.0) (option_map schema_nodes self.now.1) limits.now 0 bytes.now (datum u len)) }
+        ensures refused { IfErr result (λ e. IfSome (fault_found e) (IsAllFound (schema_nodes self.now.0) (option_map schema_nodes self.now.1) limits.now 0 bytes.now)) }
     {
         match &self.plan {
-            Some(plan) => Ok(plan.read(alloc, bytes, limits, &mut Nothing)?.1),
-            None => own(walk(alloc, self.writer, self.writer.root(), bytes, limits)),
+            Some(plan) => pass_for(alloc, plan, bytes, limits),
+            None => pass_plain(alloc, self.writer, bytes, limits),
         }
     }
 
-    /// Puts the text of the datum at the front of bytes in pieces. They are passed first, so that only memory can run out then.
+    /// Puts the text of the datum at the front of bytes in pieces. The datum is passed first, so that its faults are found before anything
+    /// is put.
     fn put_long<O: Output>(
         &self,
         out: &mut O,
@@ -178,49 +210,100 @@ impl<'a> DataPlan<'a> {
         limits: &Limits,
         form: Form,
     ) -> Result<(), DataError>
-        ensures put { OnOk result ((text : List ℕ) × IsDatumTold (schema_nodes self.now.0) (option_map schema_nodes self.now.1) limits.now form 0 bytes.now text × O.keeps out.old text out.new) }
-        ensures refused { IfRefused result (λ e. O.keeps out.old [] out.new × IfSome (fault_found e) (IsAllFound (schema_nodes self.now.0) (option_map schema_nodes self.now.1) limits.now 0 bytes.now)) }
+        ensures put { OnOk result ((text : List ℕ) × IsDatumTold (schema_nodes self.now.0) (option_map schema_nodes self.now.1) limits.now form 0 bytes.now text
+            × O.keeps out.old text out.new) }
+        ensures front { IfPutFails result ((text : List ℕ) × IsDatumTold (schema_nodes self.now.0) (option_map schema_nodes self.now.1) limits.now form 0 bytes.now text
+            × PutsFrontOf O.keeps out.old out.new text) }
+        ensures refused { IfRefused result (λ e. O.keeps out.old [] out.new
+            × IfSome (fault_found e) (IsAllFound (schema_nodes self.now.0) (option_map schema_nodes self.now.1) limits.now 0 bytes.now)) }
+        ensures works { OnOk result (O.failures out.new ≡ O.failures out.old) }
+        ensures fails { IsErrOf result (DataError.Put PutError.CannotWrite) → (O.failures out.new ≢ O.failures out.old) ⊎ O.stuck out.new }
+        ensures memory { IsErrOf result (DataError.Put PutError.OutOfMemory) → O.failures out.new ≡ O.failures out.old }
+        ensures unused { IfRefused result (λ e. O.failures out.new ≡ O.failures out.old) }
     {
-        let len = self.pass(alloc, bytes, limits)?;
-        let (datum, _) = own(decode(alloc, self.writer, self.writer.root(), bytes, limits))?;
-        let mut text = Vec::new(alloc);
-        append_head(&mut text, len, form)?;
-        let mut text = Text::holding(text);
-        self.put_datum(&mut *out, &mut text, &datum)?;
-        text.append(tail(form))?;
-        Ok(put_text(out, text.as_slice())?)
+        match self.pass(alloc, bytes, limits) {
+            Ok(len) => as_data(self.put_found(out, alloc, bytes, limits, len, form)),
+            Err(error) => Err(DataError::Refused(error)),
+        }
     }
 
-    /// Appends the display of a writer's datum, as what it is for the reader where there is one, to a text that is put in pieces.
+    /// Puts the text of a datum that is at the front of bytes, by the length of its encoding.
+    fn put_found<O: Output>(
+        &self,
+        out: &mut O,
+        alloc: Global,
+        bytes: &[u8],
+        limits: &Limits,
+        len: usize,
+        form: Form,
+    ) -> Result<(), PutError>
+        ensures put { (u : Value) → IsAllFound (schema_nodes self.now.0) (option_map schema_nodes self.now.1) limits.now 0 bytes.now (datum u len)
+            → OnOk result (O.keeps out.old (text_around form (display_text (nodes_for (schema_nodes self.now.0) (option_map schema_nodes self.now.1)) (root_of (nodes_for (schema_nodes self.now.0) (option_map schema_nodes self.now.1))) u) len) out.new) }
+        ensures front { (u : Value) → IsAllFound (schema_nodes self.now.0) (option_map schema_nodes self.now.1) limits.now 0 bytes.now (datum u len)
+            → OnErr result (PutsFrontOf O.keeps out.old out.new (text_around form (display_text (nodes_for (schema_nodes self.now.0) (option_map schema_nodes self.now.1)) (root_of (nodes_for (schema_nodes self.now.0) (option_map schema_nodes self.now.1))) u) len)) }
+        ensures works { OnOk result (O.failures out.new ≡ O.failures out.old) }
+        ensures fails { IsErrOf result PutError.CannotWrite → (O.failures out.new ≢ O.failures out.old) ⊎ O.stuck out.new }
+        ensures memory { IsErrOf result PutError.OutOfMemory → O.failures out.new ≡ O.failures out.old }
+    {
+        let datum = self.datum_of(alloc, bytes, limits)?;
+        self.put_pieces(out, alloc, &datum, len, form)
+    }
+
+    /// The writer's datum at the front of bytes.
+    fn datum_of(&self, alloc: Global, bytes: &[u8], limits: &Limits) -> Result<Datum, Memory>
+        ensures { (u : Value) (len : ℕ) → IsAllFound (schema_nodes self.now.0) (option_map schema_nodes self.now.1) limits.now 0 bytes.now (datum u len)
+            → IfOk result (λ d. read_as (schema_nodes self.now.0) (option_map schema_nodes self.now.1) (value_of d) ≡ Ok u) }
+    {
+        match decode(alloc, self.writer, self.writer.root(), bytes, limits) {
+            Ok(read) => Ok(read.0),
+            Err(_) => Err(Memory),
+        }
+    }
+
+    /// Puts the text of what a writer's datum is for the reader, where there is one, in pieces.
+    fn put_pieces<O: Output>(
+        &self,
+        out: &mut O,
+        alloc: Global,
+        datum: &Datum,
+        len: usize,
+        form: Form,
+    ) -> Result<(), PutError>
+        ensures put { (u : Value) → read_as (schema_nodes self.now.0) (option_map schema_nodes self.now.1) (value_of datum.now) ≡ Ok u
+            → OnOk result (O.keeps out.old (text_around form (display_text (nodes_for (schema_nodes self.now.0) (option_map schema_nodes self.now.1)) (root_of (nodes_for (schema_nodes self.now.0) (option_map schema_nodes self.now.1))) u) len) out.new) }
+        ensures front { (u : Value) → read_as (schema_nodes self.now.0) (option_map schema_nodes self.now.1) (value_of datum.now) ≡ Ok u
+            → OnErr result (PutsFrontOf O.keeps out.old out.new (text_around form (display_text (nodes_for (schema_nodes self.now.0) (option_map schema_nodes self.now.1)) (root_of (nodes_for (schema_nodes self.now.0) (option_map schema_nodes self.now.1))) u) len)) }
+        ensures works { OnOk result (O.failures out.new ≡ O.failures out.old) }
+        ensures fails { IsErrOf result PutError.CannotWrite → (O.failures out.new ≢ O.failures out.old) ⊎ O.stuck out.new }
+        ensures memory { IsErrOf result PutError.OutOfMemory → O.failures out.new ≡ O.failures out.old }
+    {
+        let head = head(alloc, len, form)?;
+        let mut text = Text::holding(head);
+        self.put_datum(&mut *out, &mut text, datum)?;
+        text.append(tail(form))?;
+        put_text(out, text.as_slice())
+    }
+
+    /// Appends the display of what a writer's datum is for the reader, where there is one, to a text that is put in pieces.
     fn put_datum<O: Output>(
         &self,
         out: &mut O,
         text: &mut Text,
         datum: &Datum,
     ) -> Result<(), PutError>
-        ensures put { (u : Value) → IsFor (schema_nodes self.now.0) (option_map schema_nodes self.now.1) (value_of datum.now) u
-            → OnOk result (PutsText O.keeps out.old text.old (display_text (nodes_for (schema_nodes self.now.0) (option_map schema_nodes self.now.1)) (root_of (nodes_for (schema_nodes self.now.0) (option_map schema_nodes self.now.1))) u) out.new text.new) }
+        ensures put { (u : Value) → read_as (schema_nodes self.now.0) (option_map schema_nodes self.now.1) (value_of datum.now) ≡ Ok u
+            → OnOk result (PutsText O.keeps out.old text.old (display_text (nodes_for (schema_nodes self.now.0) (option_map schema_nodes self.now.1))
+            (root_of (nodes_for (schema_nodes self.now.0) (option_map schema_nodes self.now.1))) u) out.new text.new) }
+        ensures front { (u : Value) → read_as (schema_nodes self.now.0) (option_map schema_nodes self.now.1) (value_of datum.now) ≡ Ok u
+            → OnErr result (PutsFrontOf O.keeps out.old out.new (text.old ++ display_text (nodes_for (schema_nodes self.now.0) (option_map schema_nodes self.now.1))
+            (root_of (nodes_for (schema_nodes self.now.0) (option_map schema_nodes self.now.1))) u)) }
+        ensures works { OnOk result (O.failures out.new ≡ O.failures out.old) }
+        ensures fails { IsErrOf result PutError.CannotWrite → (O.failures out.new ≢ O.failures out.old) ⊎ O.stuck out.new }
+        ensures memory { IsErrOf result PutError.OutOfMemory → O.failures out.new ≡ O.failures out.old }
     {
-        let root = self.writer.root();
         match &self.plan {
-            Some(plan) => {
-                let plan = plan.by_ref();
-                put_resolved(out, text, &Resolved::new(&plan, &self.table), datum)
-            }
-            None => put_displayed(
-                out,
-                text,
-                &Plain::new(&self.table),
-                Some((Some(root), datum)),
-            ),
+            Some(plan) => put_for(out, text, plan, &self.table, datum),
+            None => put_plain(out, text, &self.table, datum),
         }
-    }
-}
-
-/// The result of reading a datum without a reader.
-fn own<A>(read: Result<A, ReadError>) -> Result<A, ReadResolveError> {
-    match read {
-        Ok(found) => Ok(found),
-        Err(error) => Err(ReadResolveError::Read(error)),
     }
 }

@@ -1,9 +1,10 @@
 //! What is told of a datum that was read, and of data that are refused.
 
-ghost use Rattle.std.specs.Prelude.{◌≡◌, ◌≢◌, ◌≤◌, ◌++◌, drop, false, length, IfOk, OnOk};
+ghost use Rattle.std.specs.Prelude.{◌≡◌, ◌≢◌, ◌<◌, ◌≤◌, ◌++◌, drop, false, true, length, IfOk, OnOk};
+ghost use Rattle.std.specs.Result.{IfErr};
 ghost use Rattle.avro_cursor.specs.declared.error.ReadError.{ReadError};
 ghost use Rattle.avro_resolve.specs.declared.error.ReadResolveError.TheVariants.{Read};
-ghost use Rattle.avro_answer.specs.ReadAnswer.{head_of, tail_of};
+ghost use Rattle.avro_answer.specs.inside.DatumParts.{before_of, between_of, head_of, tail_of, text_around};
 ghost use Rattle.avro_answer.specs.RefusalText.{refusal_text};
 ghost use Rattle.avro_answer.specs.DataRead.{error_text};
 
@@ -15,20 +16,53 @@ use avro_certificate::append_decimal;
 use avro_resolve::ReadResolveError;
 use std::alloc::{AllocError, Global};
 
-/// Appends what is before the display of a datum: the length of its encoding.
-pub(crate) fn append_head(text: &mut Vec<u8>, len: usize, form: Form) -> Result<(), AllocError>
-    ensures { OnOk result (text.new.items ≡ text.old.items ++ head_of form len) }
+/// The text of a datum by its display and the length of its encoding.
+pub(crate) fn text_with(
+    alloc: Global,
+    display: &[u8],
+    len: usize,
+    form: Form,
+) -> Result<Vec<u8>, AllocError>
+    ensures { IfOk result (λ text. text.items ≡ text_around form display.now len) }
 {
-    let (before, after): (&[u8], &[u8]) = match form {
-        Form::Text => (b"bytes ", b"\ndatum "),
-        Form::Json => (b"{\"bytes\":", b",\"datum\":"),
-    };
-    text.extend_from_slice(before)?;
-    append_decimal(text, len as u64)?;
-    text.extend_from_slice(after)
+    let mut text = head(alloc, len, form)?;
+    text.extend_from_slice(display)?;
+    text.extend_from_slice(tail(form))?;
+    Ok(text)
 }
 
-/// What is after it.
+/// What is before the display of a datum: the length of its encoding.
+pub(crate) fn head(alloc: Global, len: usize, form: Form) -> Result<Vec<u8>, AllocError>
+    ensures { IfOk result (λ text. text.items ≡ head_of form len) }
+{
+    let mut text = Vec::new(alloc);
+    text.extend_from_slice(before(form))?;
+    append_decimal(&mut text, len as u64)?;
+    text.extend_from_slice(between(form))?;
+    Ok(text)
+}
+
+/// What is before the length.
+fn before(form: Form) -> &'static [u8]
+    ensures { result.now ≡ before_of form }
+{
+    match form {
+        Form::Text => b"bytes ",
+        Form::Json => b"{\"bytes\":",
+    }
+}
+
+/// What is between that and the display.
+fn between(form: Form) -> &'static [u8]
+    ensures { result.now ≡ between_of form }
+{
+    match form {
+        Form::Text => b"\ndatum ",
+        Form::Json => b",\"datum\":",
+    }
+}
+
+/// What is after the display.
 pub(crate) fn tail(form: Form) -> &'static [u8]
     ensures { result.now ≡ tail_of form }
 {
@@ -81,12 +115,14 @@ pub(crate) fn is_memory(error: &ReadResolveError) -> bool
 ///
 /// `EndOfInput` at their end if there are not so many.
 pub fn behind(bytes: &[u8], skip: usize) -> Result<&[u8], ReadResolveError>
-    ensures behind { IfOk result (λ data. data.now ≡ drop skip bytes.now) }
-    ensures within { IfOk result (λ data. skip ≤ length bytes.now) }
+    ensures behind { IfOk result (λ rest. rest.now ≡ drop skip bytes.now) }
+    ensures within { IfOk result (λ _. skip ≤ length bytes.now) }
+    ensures few { IfErr result (λ _. length bytes.now < skip) }
+    ensures end { IfErr result (λ e. e ≡ Read (ReadError.EndOfInput 0)) }
 {
     if bytes.len() < skip {
         return Err(ReadResolveError::Read(ReadError::EndOfInput { place: 0 }));
     }
-    let (_, data) = bytes.split_at(skip);
-    Ok(data)
+    let (_, rest) = bytes.split_at(skip);
+    Ok(rest)
 }

@@ -17,7 +17,7 @@ ghost use Rattle.avro_answer.specs.declared.refusal.Refusal.TheVariants.{Writer,
 use crate::answer::Answer;
 use crate::data_answers::read_reader_of;
 use crate::data_plan::DataPlan;
-use crate::datum_texts::{append_error, behind, is_memory};
+use crate::datum_texts::{append_error, is_memory};
 use crate::form::Form;
 use crate::history_texts::cut;
 use crate::reading::read_writer;
@@ -113,11 +113,7 @@ fn line_of(
 ) -> Result<Answer, Memory>
     ensures { IfOk result (λ a. IsLineTold (schema_nodes plan.now.0) (option_map schema_nodes plan.now.1) limits.now skip bytes.now a.text.items a.status) }
 {
-    let told = match behind(bytes, skip) {
-        Ok(data) => plan.tell(alloc, data, limits, Form::Json, room),
-        Err(error) => Err(error),
-    };
-    match told {
+    match plan.tell(alloc, bytes, skip, limits, Form::Json, room) {
         Ok(text) => Ok(Answer { text, status: 0 }),
         Err(error) => fault_line(alloc, &error),
     }

@@ -3,7 +3,7 @@
 ghost use Rattle.std.specs.Prelude.{◌≡◌, ◌++◌, [], ◌≤◌, List, ℕ, IfNone, IfOk, OnOk, OnErr, length, max};
 ghost use Rattle.std.specs.Option.{IfSome};
 ghost use Rattle.avro_zigzag.specs.Number.{number_bytes};
-ghost use Rattle.avro_cursor.specs.Encoding.{plain_bytes, plain_blocks};
+ghost use Rattle.avro_cursor.specs.Encoding.{plain_blocks};
 ghost use Rattle.avro_binary.specs.Outputs.{Grows};
 ghost use Rattle.avro_packed.specs.Appended.{AppendsWithin, Holds, Keeps, branch_bytes};
 
@@ -146,23 +146,6 @@ impl Appending {
     {
         let start = self.begin(branch)?;
         append_number(value, &mut self.out)?;
-        Ok(self.since(start))
-    }
-
-    /// Writes a length, and the bytes.
-    #[inline(always)]
-    pub(crate) fn measured(
-        &mut self,
-        branch: Option<u32>,
-        content: &[u8],
-    ) -> Result<Written, AllocError>
-        ensures kept { OnOk result (Keeps self.old self.new) }
-        ensures holds { IfOk result (λ out. Holds self.new.bytes out (branch_bytes branch ++ plain_bytes content.now)) }
-        ensures stays { (front : List ℕ) → Grows front self.old.bytes → Grows front self.new.bytes }
-    {
-        let start = self.begin(branch)?;
-        append_number(content.len() as i64, &mut self.out)?;
-        self.out.extend_from_slice(content)?;
         Ok(self.since(start))
     }
 

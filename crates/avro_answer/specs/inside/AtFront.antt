@@ -1,17 +1,27 @@
 -- What is found at the front of bytes.
-use Rattle.std.specs.Prelude.{◌≡◌, ℕ, List, [], ◌∷◌, codes, Option, Some}
-use Rattle.avro_schema.specs.Node.{Node}
+use Rattle.std.specs.Prelude.{◌≡◌, ℕ, List, [], ◌∷◌, codes, Option, Some, Result, Ok, Err}
+use Rattle.avro_schema.specs.Node.{Node, root_of}
+use Rattle.avro_schema.specs.Value.{Value}
 use Rattle.avro_schema.specs.Fits.{LimitValues}
 use Rattle.avro_resolve.specs.declared.error.ReadResolveError.{ReadResolveError}
 use Rattle.avro_answer.specs.DataRead.{fault_found}
-use Rattle.avro_answer.specs.ReadAnswer.{Found, IsAtFront, IsAllFound, found_text, found_status, nodes_for}
+use Rattle.avro_display.specs.DisplayTree.{display_text}
+use Rattle.avro_display.specs.declared.put_error.PutError.{PutError}
+use Rattle.avro_answer.specs.ReadAnswer.{Found, datum, IsAllFound, found_text, found_status, nodes_for}
 use Rattle.avro_answer.specs.ReadsAnswer.{found_line, all_status}
+use Rattle.avro_answer.specs.declared.data_error.DataError.{DataError}
 use Rattle.avro_answer.specs.declared.form.Form.{Form}
 
--- this stands there, and nothing else does
-pub record IsAllAtFront (writer : List Node) (reader : Option (List Node)) (limits : LimitValues) (bytes : List ℕ) (found : Found) : Type 0 where
-  pub there : IsAtFront writer reader limits bytes found
-  pub alone : (other : Found) → IsAtFront writer reader limits bytes other → other ≡ found
+-- a datum is found at the front with an encoding of this length, and this is its display
+pub record IsDisplayed (writer : List Node) (reader : Option (List Node)) (limits : LimitValues) (bytes : List ℕ) (len : ℕ) (display : List ℕ) : Type 0 where
+  pub value : Value
+  pub is_found : IsAllFound writer reader limits 0 bytes (datum value len)
+  pub told : display ≡ display_text (nodes_for writer reader) (root_of (nodes_for writer reader)) value
+
+-- what was put of a result of putting, as one of data
+abbrev pub of_put : {A : Type 0} → Result A PutError → Result A DataError
+of_put (Ok x) = Ok x
+of_put (Err e) = Err (DataError.Put e)
 
 -- a fault is found, and this is its line with the status of a refusal
 pub record IsRefusalTold (error : ReadResolveError) (text : List ℕ) (status : ℕ) : Type 0 where

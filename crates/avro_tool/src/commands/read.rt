@@ -83,17 +83,25 @@ fn tell_datum<'a, O: Output>(
         asked.now.form asked.now.skip bytes.now text × O.keeps out.old text out.new) }
     ensures good { IfOk result (λ f. finding_status f ≡ 0) }
 {
-    let reader = match reader {
-        Some(reader) => Some(reader.schema()),
-        None => None,
-    };
-    let plan = DataPlan::new(alloc, writer, reader)?;
+    let plan = plan_of(alloc, writer, reader)?;
     match put_datum(alloc, asked, &plan, bytes, out) {
         Ok(()) => Ok(Finding::Good),
-        Err(DataError::Refused(error)) => {
-            Err(Failure::of_data(asked.data, told_of(error, is_cut)))
-        }
-        Err(DataError::Put(error)) => Err(Failure::from(error)),
+        Err(error) => Err(failure_of(asked.data, error, is_cut)),
+    }
+}
+
+/// How the data are read.
+fn plan_of<'a>(
+    alloc: Global,
+    writer: &'a Schema,
+    reader: Option<&'a ReaderText>,
+) -> Result<DataPlan<'a>, Memory>
+    ensures written { IfOk result (λ p. p.0 ≡ writer.now) }
+    ensures read { IfOk result (λ p. option_map schema_nodes p.1 ≡ option_map (λ t. schema_nodes t.1) (option_copied reader.entry)) }
+{
+    match reader {
+        Some(reader) => DataPlan::new(alloc, writer, Some(reader.schema())),
+        None => DataPlan::new(alloc, writer, None),
     }
 }
 
@@ -173,9 +181,21 @@ fn put_datum<O: Output>(
     ensures refused { IfRefused result (λ e. O.keeps out.old [] out.new × IfSome (fault_found e) (IsAllFound (schema_nodes plan.now.0) (option_map schema_nodes plan.now.1)
         datum_limits asked.now.skip bytes.now)) }
 {
-    let data = behind(bytes, asked.skip as usize)?;
-    let mut room = Room::new(alloc);
-    plan.put(out, alloc, data, &Limits::default(), asked.form, &mut room)
+    match behind(bytes, asked.skip as usize) {
+        Ok(rest) => {
+            let mut room = Room::new(alloc);
+            plan.put(out, alloc, rest, &Limits::default(), asked.form, &mut room)
+        }
+        Err(error) => Err(DataError::Refused(error)),
+    }
+}
+
+/// The failure of data whose text is not put.
+fn failure_of<'a>(word: &'a str, error: DataError, is_cut: bool) -> Failure<'a> {
+    match error {
+        DataError::Refused(error) => Failure::of_data(word, told_of(error, is_cut)),
+        DataError::Put(error) => Failure::from(error),
+    }
 }
 
 /// The error of data that may have been cut: where these end in the datum, a limit is exceeded.

@@ -1,0 +1,92 @@
+-- What was put of the text of a datum.
+use Rattle.std.proofs.Common.{◌≡◌, ◌∙◌, ℕ, List, [], ◌++◌, Result, Ok, Err, refl, sym, ap, subst, append_assoc}
+use Rattle.std.specs.Prelude.{IfOk, IsErrOf, OnErr, OnOk}
+use Rattle.std.specs.Result.{IfErr}
+use Rattle.avro_device.specs.PutFront.{PutsFrontOf}
+use Rattle.avro_display.specs.Pieces.{PutsText}
+use Rattle.avro_display.specs.declared.put_error.PutError.{PutError}
+use Rattle.avro_display.proofs.public.Fronts.{fronts_both, fronts_held, fronts_longer}
+use Rattle.avro_resolve.specs.declared.error.ReadResolveError.{ReadResolveError}
+use Rattle.avro_answer.specs.DataPut.{IfPutFails, IfRefused}
+use Rattle.avro_answer.specs.declared.data_error.DataError.{DataError}
+use Rattle.avro_answer.specs.declared.form.Form.{Form}
+use Rattle.avro_answer.specs.inside.AtFront.{of_put}
+use Rattle.avro_answer.specs.inside.DatumParts.{head_of, tail_of, text_around}
+
+pub if_ok : {A E : Type 0} {P Q : A → Type 0} → ((a : A) → P a → Q a) → (r : Result A E) → IfOk r P → IfOk r Q
+if_ok f (Ok a) h = f a h
+if_ok f (Err e) h = tt
+
+pub if_err : {A E : Type 0} {P Q : E → Type 0} → ((e : E) → P e → Q e) → (r : Result A E) → IfErr r P → IfErr r Q
+if_err f (Ok a) h = tt
+if_err f (Err e) h = f e h
+
+-- ---- A result of putting, as one of data
+
+module _ {A : Type 0} where
+  ok_of : {P Q : Type 0} → (P → Q) → (r : Result A PutError) → OnOk r P → OnOk (of_put r) Q
+  ok_of f (Ok x) h = f h
+  ok_of f (Err e) h = tt
+
+  err_of : {P Q : Type 0} → (P → Q) → (r : Result A PutError) → OnErr r P → IfPutFails (of_put r) Q
+  err_of f (Ok x) h = tt
+  err_of f (Err e) h = f h
+
+  accepted : (P : ReadResolveError → Type 0) (r : Result A PutError) → IfRefused (of_put r) P
+  accepted P (Ok x) = tt
+  accepted P (Err e) = tt
+
+  failed_with : (e : PutError) (r : Result A PutError) → of_put r ≡ Err (DataError.Put e) → r ≡ Err e
+  failed_with e (Ok x) is = absurd cc
+  failed_with e (Err other) is = cc
+
+  module _ (r : Result A PutError) (d : Result A DataError) (same : d ≡ of_put r) where
+    pub ok_as_data : {P Q : Type 0} → (P → Q) → OnOk r P → OnOk d Q
+    ok_as_data {P} {Q} f h = subst (λ (x : Result A DataError). OnOk x Q) (sym same) (ok_of f r h)
+
+    pub err_as_data : {P Q : Type 0} → (P → Q) → OnErr r P → IfPutFails d Q
+    err_as_data {P} {Q} f h = subst (λ (x : Result A DataError). IfPutFails x Q) (sym same) (err_of f r h)
+
+    pub not_refused : (P : ReadResolveError → Type 0) → IfRefused d P
+    not_refused P = subst (λ (x : Result A DataError). IfRefused x P) (sym same) (accepted P r)
+
+    pub error_as_data : (e : PutError) → IsErrOf d (DataError.Put e) → IsErrOf r e
+    error_as_data e is = failed_with e r (sym same ∙ is)
+
+-- ---- A text in parts
+
+module _ {O : Type 0} (keeps : O → List ℕ → O → Type 0) where
+  -- nothing was put
+  pub none_put : (s : O) (text : List ℕ) → keeps s [] s → PutsFrontOf keeps s s text
+  none_put s text none = record { front = []; later = text; kept = none; split = refl }
+
+-- the display behind a head and before a tail
+in_parts : (form : Form) (display : List ℕ) (len : ℕ) → head_of form len ++ (display ++ tail_of form) ≡ text_around form display len
+in_parts form display len = sym (append_assoc (head_of form len) display (tail_of form))
+
+module _ {O : Type 0} (keeps : O → List ℕ → O → Type 0) (form : Form) (display : List ℕ) (len : ℕ) (held : List ℕ) (begun : held ≡ head_of form len) where
+  whole : held ++ (display ++ tail_of form) ≡ text_around form display len
+  whole = ap (λ h. h ++ (display ++ tail_of form)) begun ∙ in_parts form display len
+
+  -- a prefix of the display was put
+  pub front_of_display : (s t : O) → PutsFrontOf keeps s t (held ++ display) → PutsFrontOf keeps s t (text_around form display len)
+  front_of_display s t f = subst (λ b. PutsFrontOf keeps s t b) whole (fronts_longer keeps s t held display (tail_of form) f)
+
+  module _ (s t : O) (left : List ℕ) (put : PutsText keeps s held display t left) where
+    -- the tail was not
+    pub front_of_tail : PutsFrontOf keeps s t (text_around form display len)
+    front_of_tail = front_of_display s t (fronts_held keeps s t held display left put)
+
+    module _ (chain : (s t u : O) (front back : List ℕ) → keeps s front t → keeps t back u → keeps s (front ++ back) u)
+        (u : O) (last tail : List ℕ) (grown : last ≡ left ++ tail) (ended : tail ≡ tail_of form) where
+      -- all was put
+      pub all_put : keeps t last u → keeps s (text_around form display len) u
+      all_put k = subst (λ b. keeps s b u)
+          (ap (λ b. put.0 ++ b) (grown ∙ ap (λ b. left ++ b) ended) ∙ sym (append_assoc put.0 left (tail_of form)) ∙ ap (λ b. b ++ tail_of form) (sym put.2)
+          ∙ append_assoc held display (tail_of form) ∙ whole)
+          (chain s t u put.0 last put.1 k)
+
+      -- a prefix of what was left was put
+      pub front_of_last : PutsFrontOf keeps t u last → PutsFrontOf keeps s u (text_around form display len)
+      front_of_last f = subst (λ b. PutsFrontOf keeps s u b) whole
+          (fronts_both keeps chain s t u held display left (tail_of form) put (subst (λ b. PutsFrontOf keeps t u b) (grown ∙ ap (λ b. left ++ b) ended) f))
