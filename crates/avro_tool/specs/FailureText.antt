@@ -1,7 +1,9 @@
 -- What the program says where it ends without an answer: the exit status, and the line of what is refused.
-use Rattle.std.specs.Prelude.{◌≡◌, ◌≢◌, ℕ, List}
+use Rattle.std.specs.Borrow.{Bor}
+use Rattle.std.specs.Prelude.{◌≡◌, ◌≢◌, ℕ, List, IsSome}
 use Rattle.avro_answer.specs.DataRead.{error_text}
 use Rattle.avro_schema_json.specs.Refusals.{schema_code}
+use Rattle.avro_file.specs.FileSeen.{file_fault}
 use Rattle.avro_certificate.specs.CertificateRead.{certificate_code}
 use Rattle.avro_answer.specs.RefusalText.{refusal_text}
 use Rattle.avro_display.specs.declared.put_error.PutError.{PutError}
@@ -35,6 +37,18 @@ IsRefusal _ line = Unit {0}
 abbrev pub put_failure : PutError → Failure
 put_failure PutError.CannotWrite = Failure.CannotPrint
 put_failure PutError.OutOfMemory = Failure.OutOfMemory
+
+-- a failure of telling what was found: standard output cannot be written, or memory ran out
+abbrev pub IsPutFailure : Failure → Type 0
+IsPutFailure Failure.CannotPrint = Unit {0}
+IsPutFailure Failure.OutOfMemory = Unit {0}
+IsPutFailure _ = ⊥
+
+-- a failure of telling what a file has, which is named by this word: that of telling, or it cannot be read, or is refused for a fault
+abbrev pub IsFileFailure : Bor (List ℕ) → Failure → Type 0
+IsFileFailure word (Failure.Container w e) = (w ≡ word) × IsSome (file_fault e)
+IsFileFailure word (Failure.CannotRead w) = w ≡ word
+IsFileFailure word f = IsPutFailure f
 
 -- words that ask for nothing: memory ran out exactly where the parser says so
 pub record IsUsageOf (e : Error) (failure : Failure) : Type 0 where

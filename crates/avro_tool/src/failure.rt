@@ -1,11 +1,13 @@
-ghost use Rattle.std.specs.Prelude.{◌≡◌, ◌≢◌, IfOk};
+ghost use Rattle.std.specs.Prelude.{◌≡◌, ◌≢◌, ℕ, List, IfOk};
+ghost use denote.Ref.{Bor};
 ghost use Rattle.avro_certificate.specs.declared.error.CertError.{CertError};
 ghost use Rattle.avro_schema_json.specs.declared.error.SchemaError.{SchemaError};
-ghost use Rattle.avro_tool.specs.FailureText.{exit_status, IsRefusal};
+ghost use Rattle.avro_tool.specs.FailureText.{exit_status, IsFileFailure, IsRefusal};
+ghost use Rattle.avro_file.specs.Named.{IsNamed};
 ghost use Rattle.avro_file.specs.declared.error.CopyError.{CopyError};
 ghost use Rattle.avro_cursor.specs.declared.error.ReadError.{ReadError};
 ghost use Rattle.avro_resolve.specs.declared.error.ReadResolveError.TheVariants.{Read};
-ghost use Rattle.avro_tool.specs.declared.failure.Failure.TheVariants.{Schema, Certificate, Container, Data, CannotRead, CannotWrite, OutOfMemory};
+ghost use Rattle.avro_tool.specs.declared.failure.Failure.TheVariants.{Schema, Certificate, Container, Data, CannotRead, CannotWrite, CannotPrint, OutOfMemory};
 
 use crate::container_line::container_line;
 use crate::number_options::NumberOption;
@@ -127,6 +129,9 @@ impl<'a> Failure<'a> {
         ensures written { error ≡ CopyError.OutputFailed → result ≡ CannotWrite word.exit }
         ensures memory { error ≡ CopyError.OutOfMemory → result ≡ OutOfMemory }
         ensures refused { error ≢ CopyError.InputFailed → error ≢ CopyError.OutputFailed → error ≢ CopyError.OutOfMemory → result ≡ Container word.exit error }
+        ensures only_read { (w : Bor (List ℕ)) → result ≡ CannotRead w → error ≡ CopyError.InputFailed }
+        ensures not_printed { result ≢ CannotPrint }
+        ensures named { IsNamed error → error ≢ CopyError.OutputFailed → error ≢ CopyError.FailedBefore → IsFileFailure word.exit result }
     {
         match error {
             CopyError::InputFailed => Failure::CannotRead(word),

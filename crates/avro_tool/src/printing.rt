@@ -1,6 +1,6 @@
 //! Answers, each printed by one write.
 
-ghost use Rattle.std.specs.Prelude.{◌≡◌, OnOk, OnErr};
+ghost use Rattle.std.specs.Prelude.{◌≡◌, ◌≢◌, ◌⊎◌, OnOk, OnErr};
 ghost use Rattle.std.specs.Result.{IfErr};
 ghost use Rattle.avro_device.specs.PutFront.{PutsFrontOf};
 ghost use Rattle.avro_tool.specs.declared.failure.Failure.TheVariants.{CannotPrint};
@@ -14,6 +14,8 @@ pub(crate) fn print<'a, O: Output>(out: &mut O, answer: &str) -> Result<(), Fail
     ensures front { OnErr result (PutsFrontOf O.keeps out.old out.new answer.now) }
     ensures flushed { OnOk result (O.flushed out.new) }
     ensures fails { IfErr result (λ f. f ≡ CannotPrint) }
+    ensures failed { OnErr result ((O.failures out.new ≢ O.failures out.old) ⊎ O.stuck out.new) }
+    ensures works { OnOk result (O.failures out.new ≡ O.failures out.old) }
 {
     print_bytes(out, answer.as_bytes())
 }
@@ -24,6 +26,8 @@ pub(crate) fn print_bytes<'a, O: Output>(out: &mut O, answer: &[u8]) -> Result<(
     ensures front { OnErr result (PutsFrontOf O.keeps out.old out.new answer.now) }
     ensures flushed { OnOk result (O.flushed out.new) }
     ensures fails { IfErr result (λ f. f ≡ CannotPrint) }
+    ensures failed { OnErr result ((O.failures out.new ≢ O.failures out.old) ⊎ O.stuck out.new) }
+    ensures works { OnOk result (O.failures out.new ≡ O.failures out.old) }
 {
     match put_answer(out, answer) {
         Ok(()) => Ok(()),
@@ -36,6 +40,8 @@ fn put_answer<O: Output>(out: &mut O, answer: &[u8]) -> Result<(), DeviceFault>
     ensures put { OnOk result (O.keeps out.old answer.now out.new) }
     ensures front { OnErr result (PutsFrontOf O.keeps out.old out.new answer.now) }
     ensures flushed { OnOk result (O.flushed out.new) }
+    ensures failed { OnErr result ((O.failures out.new ≢ O.failures out.old) ⊎ O.stuck out.new) }
+    ensures works { OnOk result (O.failures out.new ≡ O.failures out.old) }
 {
     put_all(&mut *out, answer)?;
     out.flush()?;

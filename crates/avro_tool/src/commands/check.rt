@@ -1,10 +1,12 @@
-ghost use Rattle.std.specs.Prelude.{◌≡◌, IfOk, Err, Some};
+ghost use Rattle.std.specs.Prelude.{◌≡◌, ◌≢◌, IfOk, IsErrOf, Err, Some};
+ghost use Rattle.std.specs.Result.{IfErr};
 ghost use Rattle.avro_file.specs.FileFault.{FileFault};
 ghost use Rattle.avro_file.specs.FileSeen.{file_fault};
 ghost use Rattle.avro_file.specs.declared.error.CopyError.{CopyError};
 ghost use Rattle.avro_container.specs.Checking.{Takes, IsWhole, IsFaulty};
 ghost use Rattle.avro_tool.specs.DefaultLimits.{default_limits};
-ghost use Rattle.avro_tool.specs.declared.failure.Failure.TheVariants.{Container};
+ghost use Rattle.avro_tool.specs.FailureText.{IsFileFailure};
+ghost use Rattle.avro_tool.specs.declared.failure.Failure.TheVariants.{Container, CannotRead, CannotPrint};
 
 use crate::failure::Failure;
 use crate::files::container::{open_container, open_watched, tell_file_counts};
@@ -90,6 +92,9 @@ fn counts_of<'a, I: Input>(
         (IsWhole default_limits (I.ended input.new) counts.items counts.blocks)) }
     ensures refused { (e : CopyError) (f : FileFault) → result ≡ Err (Container word.exit e) → file_fault e ≡ Some f
         → Takes I.gives input.old input.new (IsFaulty default_limits (I.ended input.new) f) }
+    ensures fails { IfErr result (IsFileFailure word.exit) }
+    ensures not_printed { result ≢ Err CannotPrint }
+    ensures lost { IsErrOf result (CannotRead word.exit) → I.failures input.new ≢ I.failures input.old }
 {
     match check(alloc, input, &FileLimits::default()) {
         Ok(counts) => Ok(counts),

@@ -1,6 +1,6 @@
 //! Printing what the header of a container contains.
 
-ghost use Rattle.std.specs.Prelude.{◌≡◌, ◌++◌, ◌∷◌, [], List, ℕ, IfOk, OnOk, Err, Some, None, codes, string_bytes, encode_utf8_all};
+ghost use Rattle.std.specs.Prelude.{◌≡◌, ◌≢◌, ◌⊎◌, ◌++◌, ◌∷◌, [], List, ℕ, IfOk, OnOk, IsErrOf, Err, Some, None, codes, string_bytes, encode_utf8_all};
 ghost use Rattle.std.specs.Result.{IfErr};
 ghost use Rattle.serde_json.specs.View.{view};
 ghost use Rattle.serde_json.specs.Written.{compact_text};
@@ -9,12 +9,14 @@ ghost use Rattle.avro_file.specs.File.{property};
 ghost use Rattle.avro_file.specs.FileFault.{FileFault, in_header, no_schema};
 ghost use Rattle.avro_file.specs.FileSeen.{file_fault};
 ghost use Rattle.avro_file.specs.HeaderTaken.{TakesHeaderFault};
+ghost use Rattle.avro_file.specs.Named.{IsNamed};
 ghost use Rattle.avro_file.specs.Parts.{properties_of};
 ghost use Rattle.avro_file.specs.declared.error.CopyError.{CopyError};
 ghost use Rattle.avro_tool.specs.DefaultLimits.{default_limits};
+ghost use Rattle.avro_tool.specs.FailureText.{IsFileFailure};
 ghost use Rattle.avro_tool.specs.FoundStatus.{finding_status};
 ghost use Rattle.avro_tool.specs.HeaderText.{IsHeaderLine, IsHeaderTold, metadata_tree};
-ghost use Rattle.avro_tool.specs.declared.failure.Failure.TheVariants.{Container};
+ghost use Rattle.avro_tool.specs.declared.failure.Failure.TheVariants.{Container, CannotRead, CannotPrint, OutOfMemory};
 
 use crate::Finding;
 use crate::failure::Failure;
@@ -51,6 +53,11 @@ fn tell_header<'a, I: Input, O: Output>(
     ensures good { IfOk result (λ f. finding_status f ≡ 0) }
     ensures refused { (e : CopyError) (f : FileFault) → result ≡ Err (Container word.exit e) → file_fault e ≡ Some f
         → TakesHeaderFault I.gives I.ended input.old input.new default_limits.header f }
+    ensures fails { IfErr result (IsFileFailure word.exit) }
+    ensures failed { IsErrOf result CannotPrint → (O.failures out.new ≢ O.failures out.old) ⊎ O.stuck out.new }
+    ensures memory { IsErrOf result OutOfMemory → O.failures out.new ≡ O.failures out.old }
+    ensures works { OnOk result (O.failures out.new ≡ O.failures out.old) }
+    ensures lost { IsErrOf result (CannotRead word.exit) → I.failures input.new ≢ I.failures input.old }
 {
     match header_line(alloc, input, is_metadata) {
         Ok(line) => {
@@ -69,6 +76,10 @@ fn header_line<I: Input>(
 ) -> Result<Vec<u8>, CopyError>
     ensures told { IfOk result (λ line. IsHeaderTold I.gives input.old input.new default_limits.header is_metadata line.items) }
     ensures refused { IfErr result (λ e. (f : FileFault) → file_fault e ≡ Some f → TakesHeaderFault I.gives I.ended input.old input.new default_limits.header f) }
+    ensures lost { IsErrOf result CopyError.InputFailed → I.failures input.new ≢ I.failures input.old }
+    ensures named { IfErr result IsNamed }
+    ensures no_output { result ≢ Err CopyError.OutputFailed }
+    ensures first { result ≢ Err CopyError.FailedBefore }
 {
     let metadata = read_metadata(alloc, input, &FileLimits::default())?;
     let line = line_of(alloc, &metadata, is_metadata)?;
@@ -83,6 +94,7 @@ fn line_of(
 ) -> Result<Vec<u8>, CopyError>
     ensures told { IfOk result (λ line. IsHeaderLine is_metadata (properties_of metadata.now) line.items) }
     ensures refused { IfErr result (λ e. (f : FileFault) → file_fault e ≡ Some f → (f ≡ in_header no_schema) × (property (codes "avro.schema") (properties_of metadata.now) ≡ None)) }
+    ensures fails { IfErr result (λ e. (e ≡ CopyError.NoSchema) ⊎ (e ≡ CopyError.OutOfMemory)) }
 {
     let Some(text) = schema_text(metadata) else {
         return Err(CopyError::NoSchema);

@@ -1,13 +1,15 @@
 //! A container from one stream to another.
 
-ghost use Rattle.std.specs.Prelude.{◌≡◌, List, ℕ, IfOk, OnOk, OnErr, Err, Some};
+ghost use Rattle.std.specs.Prelude.{◌≡◌, ◌≢◌, ◌⊎◌, List, ℕ, IfOk, OnOk, OnErr, IsErrOf, Err, Some};
 ghost use denote.Ref.{Bor};
+ghost use Rattle.std.specs.Result.{IfErr};
 ghost use Rattle.avro_file.specs.FileFault.{FileFault};
 ghost use Rattle.avro_file.specs.FileSeen.{file_fault};
 ghost use Rattle.avro_file.specs.declared.error.CopyError.{CopyError};
 ghost use Rattle.avro_container.specs.Copying.{CopiesFile, CopiesFront, CopiesUpTo};
 ghost use Rattle.avro_container.specs.TaskSeen.{job_from};
 ghost use Rattle.avro_tool.specs.DefaultLimits.{default_limits};
+ghost use Rattle.avro_tool.specs.FailureText.{IsFileFailure};
 ghost use Rattle.avro_tool.specs.declared.failure.Failure.{Failure};
 
 use crate::Finding;
@@ -110,6 +112,10 @@ fn pipe_from<'a, I: Input, O: Output>(
     ensures front { OnErr result (CopiesFront I.gives O.keeps input.old input.new out.old out.new (job_from reader.entry sync) default_limits) }
     ensures refused { (word : Bor (List ℕ)) (e : CopyError) (f : FileFault) → result ≡ Err (Failure.Container word e) → file_fault e ≡ Some f
         → CopiesUpTo I.gives O.keeps input.old input.new out.old out.new (job_from reader.entry sync) default_limits (I.ended input.new) f }
+    ensures fails { IfErr result (λ f. (word : Bor (List ℕ)) × IsFileFailure word f) }
+    ensures failed { IsErrOf result Failure.CannotPrint → (O.failures out.new ≢ O.failures out.old) ⊎ O.stuck out.new }
+    ensures works { OnOk result (O.failures out.new ≡ O.failures out.old) }
+    ensures lost { (word : Bor (List ℕ)) → IsErrOf result (Failure.CannotRead word) → I.failures input.new ≢ I.failures input.old }
 {
     match copy(alloc, input, out, reader, sync, &FileLimits::default()) {
         Ok(counts) => Ok(counts),

@@ -1,14 +1,16 @@
 //! The data of a container, a line for each.
 
-ghost use Rattle.std.specs.Prelude.{◌≡◌, IfOk, OnOk, OnErr, Err, Some};
+ghost use Rattle.std.specs.Prelude.{◌≡◌, ◌≢◌, ◌⊎◌, IfOk, OnOk, OnErr, IsErrOf, Err, Some};
+ghost use Rattle.std.specs.Result.{IfErr};
 ghost use Rattle.avro_file.specs.FileFault.{FileFault};
 ghost use Rattle.avro_file.specs.FileSeen.{file_fault};
 ghost use Rattle.avro_file.specs.declared.error.CopyError.{CopyError};
 ghost use Rattle.avro_container.specs.Moved.{Moved};
 ghost use Rattle.avro_lines.specs.Shown.{ShowsFault, ShowsFront, ShowsWhole, nodes_of};
 ghost use Rattle.avro_tool.specs.DefaultLimits.{default_limits};
+ghost use Rattle.avro_tool.specs.FailureText.{IsFileFailure};
 ghost use Rattle.avro_tool.specs.FoundStatus.{finding_status};
-ghost use Rattle.avro_tool.specs.declared.failure.Failure.TheVariants.{Container};
+ghost use Rattle.avro_tool.specs.declared.failure.Failure.TheVariants.{Container, CannotRead, CannotPrint};
 
 use crate::Finding;
 use crate::failure::Failure;
@@ -71,6 +73,10 @@ fn tell_lines<'a, I: Input, O: Output>(
     ensures refused { (e : CopyError) (f : FileFault) → result ≡ Err (Container word.exit e) → file_fault e ≡ Some f
         → Moved I.gives O.keeps input.old input.new out.old out.new (λ taken put. ShowsFault (nodes_of reader.entry) limit default_limits (I.ended input.new) taken put f) }
     ensures good { IfOk result (λ f. finding_status f ≡ 0) }
+    ensures fails { IfErr result (IsFileFailure word.exit) }
+    ensures failed { IsErrOf result CannotPrint → (O.failures out.new ≢ O.failures out.old) ⊎ O.stuck out.new }
+    ensures works { OnOk result (O.failures out.new ≡ O.failures out.old) }
+    ensures lost { IsErrOf result (CannotRead word.exit) → I.failures input.new ≢ I.failures input.old }
 {
     match show(alloc, input, out, reader, limit, &FileLimits::default()) {
         Ok(()) => Ok(Finding::Good),

@@ -1,7 +1,10 @@
-ghost use Rattle.std.specs.Prelude.{◌≡◌, IfOk, OnOk};
+ghost use Rattle.std.specs.Prelude.{◌≡◌, ◌≢◌, ◌⊎◌, IfOk, OnOk, OnErr, IsErrOf};
+ghost use Rattle.std.specs.Result.{IfErr};
 ghost use Rattle.avro_answer.specs.JsonAnswer.{json_line, counts_tree};
 ghost use Rattle.avro_answer.specs.declared.form.Form.{Form};
+ghost use Rattle.avro_tool.specs.FailureText.{IsPutFailure};
 ghost use Rattle.avro_tool.specs.FoundStatus.{finding_status};
+ghost use Rattle.avro_tool.specs.declared.failure.Failure.TheVariants.{CannotPrint, OutOfMemory};
 
 use crate::Finding;
 use crate::failure::Failure;
@@ -66,7 +69,10 @@ pub(crate) fn tell_counts<'a, O: Output>(
     out: &mut O,
     counts: Counts,
 ) -> Result<Finding, Failure<'a>>
-    ensures { IfOk result (λ f. finding_status f ≡ 0) }
+    ensures good { IfOk result (λ f. finding_status f ≡ 0) }
+    ensures fails { IfErr result (λ f. f ≡ CannotPrint) }
+    ensures failed { OnErr result ((O.failures out.new ≢ O.failures out.old) ⊎ O.stuck out.new) }
+    ensures works { OnOk result (O.failures out.new ≡ O.failures out.old) }
 {
     print_counts(out, counts)?;
     Ok(Finding::Good)
@@ -84,6 +90,10 @@ pub(crate) fn tell_file_counts<'a, O: Output>(
 ) -> Result<Finding, Failure<'a>>
     ensures json { form ≡ Form.Json → OnOk result (O.keeps out.old (json_line (counts_tree word.now counts.items counts.blocks)) out.new) }
     ensures good { IfOk result (λ f. finding_status f ≡ 0) }
+    ensures fails { IfErr result IsPutFailure }
+    ensures failed { IsErrOf result CannotPrint → (O.failures out.new ≢ O.failures out.old) ⊎ O.stuck out.new }
+    ensures memory { IsErrOf result OutOfMemory → O.failures out.new ≡ O.failures out.old }
+    ensures works { OnOk result (O.failures out.new ≡ O.failures out.old) }
 {
     let Counts { items, blocks } = counts;
     match form {
@@ -98,12 +108,15 @@ pub(crate) fn tell_file_counts<'a, O: Output>(
 }
 
 /// Prints the line of two counts by one write.
-pub(crate) fn print_counts<'a, O: Output>(out: &mut O, counts: Counts) -> Result<(), Failure<'a>> {
+pub(crate) fn print_counts<'a, O: Output>(out: &mut O, counts: Counts) -> Result<(), Failure<'a>>
+    ensures fails { IfErr result (λ f. f ≡ CannotPrint) }
+    ensures failed { OnErr result ((O.failures out.new ≢ O.failures out.old) ⊎ O.stuck out.new) }
+    ensures works { OnOk result (O.failures out.new ≡ O.failures out.old) }
+{
     let Counts { items, blocks } = counts;
     let mut line = Cursor::new([0; ROOM_OF_COUNTS]);
-    if writeln!(line, "data {items} blocks {blocks}").is_err() {
-        return Err(Failure::CannotPrint);
-    }
+    // The line of the greatest counts fits.
+    let _ = writeln!(line, "data {items} blocks {blocks}");
     let len = (line.position() as usize).min(ROOM_OF_COUNTS);
     print_bytes(out, &line.get_ref()[..len])
 }

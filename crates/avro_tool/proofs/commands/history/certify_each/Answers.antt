@@ -14,6 +14,7 @@ loop-index-init g c =
       none_yet g.O.Output.keeps c.args.out.now (EachAnswer history.form Mode.Backward false (names_of c.as_slice-files.result.now) c.args.writers.now c.args.reader.now history.limits)
           (g.met.O.Output.none c.args.out.now),
       λ good. adds_none (schema_nodes c.args.reader.now) c.args.certificates.now.items,
+      refl,
     )
 
 pub loop-index-preserved : goal.loop-index-preserved
@@ -39,6 +40,7 @@ loop-index-preserved g c =
           adds_next schemas (schema_nodes c.args.reader.now) c.loop-index.index c.index-writers-index.result
           c.args.certificates.now.items c.loop-index.certificates.items c.certify_one.new.certificates.items
           here c.index-writers-index.is (c.loop-index.invariant.1 both.0) (c.in_ok-certified.ensures.kept both.1),
+      c.in_ok-certified.ensures.works ∙ c.loop-index.invariant.2,
     )
 
 pub returns-clause-answered : goal.returns-clause-answered
@@ -55,6 +57,9 @@ returns-clause-answered g c =
 
 pub returns-clause-verdict : goal.returns-clause-verdict
 returns-clause-verdict g c = c.loop-index.invariant.0.verdict
+
+pub returns-clause-works : goal.returns-clause-works
+returns-clause-works g c = c.loop-index.invariant.2
 
 pub returns-clause-kept : goal.returns-clause-kept
 returns-clause-kept g c = λ same good.

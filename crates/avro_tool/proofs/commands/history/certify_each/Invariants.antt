@@ -13,3 +13,4 @@ invariant-loop-index g l =
     (EachAnswer l.history.form Mode.Backward false (names_of l.files) l.writers l.reader l.history.limits)
     × (finding_status l.finding ≡ 0
     → AddsClosed (map schema_nodes (take l.index l.writers)) (schema_nodes l.reader) l.initial.certificates.items l.certificates.items)
+    × (g.O.Output.failures l.out ≡ g.O.Output.failures l.initial.out)
