@@ -7,7 +7,7 @@ use avro_texts::{Seeded, Seeding};
 /// How many bytes of a namespace are taken in.
 const FRONT: usize = 256;
 
-/// A byte that ends a text, and one that ends a list of texts. No name has them.
+/// A byte that ends a text, and one that ends a list of texts or of fields. No name has them.
 const TEXT_END: [u8; 1] = [0];
 
 const LIST_END: [u8; 1] = [1];
@@ -41,9 +41,9 @@ fn take_node(seeding: &mut Seeding, node: &Node) {
         Node::Long => seeding.take(&[3]),
         Node::Bytes => seeding.take(&[4]),
         Node::Str => seeding.take(&[5]),
-        Node::Array(items) => take_edges(seeding, 6, &[*items]),
-        Node::Map(values) => take_edges(seeding, 7, &[*values]),
-        Node::Union(branches) => take_edges(seeding, 8, branches),
+        Node::Array(items) => take_edge(seeding, 6, *items),
+        Node::Map(values) => take_edge(seeding, 7, *values),
+        Node::Union(branches) => take_branches(seeding, branches),
         Node::Record(record) => take_record(seeding, record),
         Node::Enum(en) => take_enum(seeding, en),
         Node::Fixed(fixed) => take_fixed(seeding, fixed),
@@ -60,12 +60,18 @@ fn take_count(seeding: &mut Seeding, count: usize) {
     seeding.take(&(count as u64).to_le_bytes());
 }
 
-/// Takes in the nodes that a node of a kind has as its parts.
-fn take_edges(seeding: &mut Seeding, kind: u8, nodes: &[NodeId]) {
+/// Takes in the node that one of a kind has as its part.
+fn take_edge(seeding: &mut Seeding, kind: u8, node: NodeId) {
     seeding.take(&[kind]);
-    take_count(seeding, nodes.len());
-    for node in nodes {
-        take_number(seeding, node.0);
+    take_number(seeding, node.0);
+}
+
+/// Takes in the branches of a union, behind how many there are.
+fn take_branches(seeding: &mut Seeding, branches: &[NodeId]) {
+    seeding.take(&[8]);
+    take_count(seeding, branches.len());
+    for branch in branches {
+        take_number(seeding, branch.0);
     }
 }
 
@@ -73,10 +79,10 @@ fn take_edges(seeding: &mut Seeding, kind: u8, nodes: &[NodeId]) {
 fn take_record(seeding: &mut Seeding, record: &RecordNode) {
     seeding.take(&[9]);
     take_names(seeding, &record.name, &record.aliases);
-    take_count(seeding, record.fields.len());
     for field in &record.fields {
         take_field(seeding, field);
     }
+    seeding.take(&LIST_END);
 }
 
 /// Takes in a field.
@@ -117,14 +123,11 @@ fn take_name(seeding: &mut Seeding, name: &FullName) {
     take_space(seeding, name.namespace().as_bytes());
 }
 
-/// Takes in a namespace: its length, and its first bytes. A long one is in each name that is declared below it, so that all
-/// of it would be read too often; and a text has room for few that differ only behind these.
+/// Takes in the front of a namespace. A long one is in each name that is declared below it, so that all of it would be read
+/// too often; and a text has room for few that differ only behind these bytes.
 fn take_space(seeding: &mut Seeding, space: &[u8]) {
-    take_count(seeding, space.len());
-    match space.get(..FRONT) {
-        Some(front) => seeding.take(front),
-        None => seeding.take(space),
-    }
+    seeding.take(space.get(..FRONT).unwrap_or(space));
+    seeding.take(&TEXT_END);
 }
 
 /// Takes in symbols, or the aliases of a field.
