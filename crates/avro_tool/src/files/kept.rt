@@ -51,6 +51,9 @@ fn refuse_streams<'a, R: Files>(
         output: regular_file(rt, STANDARD_OUTPUT)?,
         error: regular_file(rt, STANDARD_ERROR)?,
     };
+    if streams.output.is_none() && streams.error.is_none() {
+        return Ok(());
+    }
     for word in read {
         refuse_stream(rt, request, &streams, Some(word))?;
     }
