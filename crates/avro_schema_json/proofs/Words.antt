@@ -18,6 +18,7 @@ pub use Rattle.avro_schema_json.specs.DeclaredFaults.{HasFault, faults_of, or_el
 pub use Rattle.avro_schema_json.specs.DeclaredSchema.{DeclaresSchema, are_all_defaults_read, are_defaults_read, completed_field, completed_node, completed_nodes, declared, field_default, field_without_default, is_default_read, is_empty, node_without_defaults, nodes_without_defaults}
 pub use Rattle.avro_schema_json.specs.Declares.{Form, Known, Made, Meaning, RawField, RawNode, Word, array_form, boolean_word, branches_of, bytes_word, container_of, defining, definition_of, enum_form, enum_named, error_form, faulty, field_meaning, field_meanings, field_of, fields_from, fields_under, fixed_form, fixed_named, form_of, id_of, in_turn, int_word, long_word, made_of, map_form, meaning_of, meaning_under, name_faults, no_field, no_form, no_parts, node_with, null_word, record_form, record_named, reference, string_word, type_name, type_of_form, type_of_word, union_of, unsupported_word, use_of, word_form, word_of}
 pub use Rattle.avro_schema_json.specs.Refusals.{refusal_of, refusal_of_fault}
+pub use Rattle.avro_schema_json.specs.declared.defaults.parents.Places.{Places}
 pub use Rattle.avro_schema_json.specs.declared.defaults.parts.Mark.{Mark}
 pub use Rattle.avro_schema_json.specs.declared.defaults.rows.Row.{Row}
 pub use Rattle.avro_schema_json.specs.declared.error.SchemaError.{SchemaError}
@@ -28,7 +29,7 @@ pub use Rattle.avro_schema_json.specs.inside.Kinds.{AreKinds, HasKind, HasRow, K
 pub use Rattle.avro_schema_json.specs.inside.KnownNames.{AreNumbered, AreWithin, Key, known_in, name_at, number_of}
 pub use Rattle.avro_schema_json.specs.inside.Marks.{ArePartsMarked, IsMarked, IsPartUnder, IsSetOf, Stays, marked, member_at, part_at}
 pub use Rattle.avro_schema_json.specs.inside.OwnDefaults.{all_without_defaults, default_of_fields, fields_seen, node_or_null, own_default, without_defaults}
-pub use Rattle.avro_schema_json.specs.inside.Parents.{AreFields, AreParents, HasField, HasParent, HasParts, IsField, IsParent, IsPart, IsStep, KeepsLabels, KeepsParents, KeepsUnder, Label, Numbered, Parents, Under, words_at, words_of, words_or_none, words_under, has_bit, label_of}
+pub use Rattle.avro_schema_json.specs.inside.Parents.{AreFields, AreParents, HasField, HasParent, HasParts, IsField, IsParent, IsPart, IsStep, KeepsLabels, KeepsParents, KeepsPlaces, KeepsUnder, Label, Numbered, Parents, Under, words_at, words_in, words_in_some, words_of, words_or_none, words_under, has_bit, label_of}
 pub use Rattle.avro_schema_json.specs.inside.Reading.{IsAdded, IsAttribute, IsBegun, IsRead, IsRefusal, Reads, Refuses, State, beginning_faults, fields_meaning, limit_faults, made_at}
 pub use Rattle.avro_schema_json.specs.inside.ReadingSeen.{Keeps, state_of}
 pub use Rattle.avro_schema_json.specs.inside.Repeats.{AreFieldsDistinct, AreNamesDistinct, HasDistinctNames, RecordRepeatsName, Repeats, RepeatsName, SomeRepeats, SomeRepeatsName, code_by, kind_code}

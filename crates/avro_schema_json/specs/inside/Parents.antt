@@ -1,5 +1,5 @@
 -- Under which labels a node is a part of which nodes, its parents.
-use Rattle.std.specs.Prelude.{◌≡◌, ℕ, ◌/◌, ◌%◌, true, List, [], slice_get, get_or, Option, Some, None, unwrap_or, bytes_eq, Contains}
+use Rattle.std.specs.Prelude.{◌≡◌, ℕ, ◌/◌, ◌%◌, ◌==◌, true, cond, List, [], slice_get, get_or, Option, Some, None, unwrap_or, bytes_eq, Contains}
 use Rattle.std.specs.Global.{Vec}
 use Rattle.std.specs.Int.{bit_at}
 use Rattle.std.specs.Ordering.{nat_cmp}
@@ -10,6 +10,7 @@ use Rattle.avro_texts.specs.declared.seeded.Seeded.{Seeded}
 use Rattle.avro_schema.specs.Node.{Node, FieldNode, node_at, items_node, values_node}
 use Rattle.avro_schema_json.specs.inside.Rows.{has_place}
 use Rattle.avro_schema_json.specs.inside.Covers.{place_of, own_ids}
+use Rattle.avro_schema_json.specs.declared.defaults.parents.Places.{Places}
 
 -- how a part is in what holds it
 pub data Label : Type 0 where
@@ -46,16 +47,24 @@ abbrev pub words_or_none : Option (Vec ℕ) → List ℕ
 words_or_none None = []
 words_or_none (Some words) = words.items
 
+-- the words of the parents of one of 64 places, none if its bit is not set
+abbrev pub words_in : Places → ℕ → List ℕ
+words_in places i = cond (bit_at places.bits i == 1) (words_or_none (get nat_cmp places.parents i)) []
+
+abbrev pub words_in_some : Option Places → ℕ → List ℕ
+words_in_some None i = []
+words_in_some (Some places) i = words_in places i
+
 -- the parents of each place under one label, and those under each, by the number of the label
 abbrev pub Under : Type 0
-Under = BTreeMap ℕ (Vec ℕ)
+Under = BTreeMap ℕ Places
 
 abbrev pub Parents : Type 0
 Parents = BTreeMap ℕ Under
 
 -- the words of the parents of a place
 abbrev pub words_under : Under → ℕ → List ℕ
-words_under under place = words_or_none (get nat_cmp under place)
+words_under under place = words_in_some (get nat_cmp under (place / 64)) (place % 64)
 
 abbrev pub words_at : Option Under → ℕ → List ℕ
 words_at None place = []
@@ -105,6 +114,9 @@ abbrev pub AreParents : List Node → ℕ → Numbered → Parents → Type 0
 AreParents nodes last labels parents = (x : ℕ) → IsParent nodes last labels parents (node_at nodes x) (place_of last x)
 
 -- what was there is there
+abbrev pub KeepsPlaces : Places → Places → Type 0
+KeepsPlaces before after = (i parent : ℕ) → has_bit (words_in before i) parent → has_bit (words_in after i) parent
+
 abbrev pub KeepsUnder : Under → Under → Type 0
 KeepsUnder before after = (part parent : ℕ) → has_bit (words_under before part) parent → has_bit (words_under after part) parent
 

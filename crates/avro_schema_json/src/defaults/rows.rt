@@ -1,6 +1,6 @@
 //! Sets of nodes as rows of bits. Each node has a place, the number of its bit; a row has all nodes whose bits are set.
 
-ghost use Rattle.std.specs.Prelude.{◌≡◌, ◌/◌, ◌%◌, ℕ, true};
+ghost use Rattle.std.specs.Prelude.{◌≡◌, ◌/◌, ◌%◌, ◌==◌, ℕ, true};
 ghost use Rattle.std.specs.Int.{bit_at};
 ghost use Rattle.avro_schema_json.specs.inside.Covers.{place_of as place_by};
 ghost use Rattle.avro_schema_json.specs.inside.Rows.{has_place, IsWithin};
@@ -27,12 +27,14 @@ pub(crate) fn empty_row() -> Row {
 pub(crate) fn has(row: &Row, place: usize) -> bool
     ensures { result ≡ has_place row.now.words place }
 {
-    let word = place / 64;
-    if word < 64 {
-        (row.words[word] >> (place % 64)) & 1 == 1
-    } else {
-        true
-    }
+    (word_of(row, place / 64) >> (place % 64)) & 1 == 1
+}
+
+/// The bits of 64 places. Those past the row count as set.
+pub(crate) fn word_of(row: &Row, word: usize) -> u64
+    ensures { (p : ℕ) → p / 64 ≡ word → has_place row.now.words p ≡ (bit_at result (p % 64) == 1) }
+{
+    if word < 64 { row.words[word] } else { u64::MAX }
 }
 
 /// Sets bits of a word.
