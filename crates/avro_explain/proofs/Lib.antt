@@ -1,3 +1,4 @@
+pub mod public
 pub mod DetailsLed
 pub mod FaultyData
 pub mod FirstFaults

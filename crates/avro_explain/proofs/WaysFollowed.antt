@@ -143,7 +143,7 @@ module _ (writer reader : List Node) (w r : ℕ) (n q : Node) (from : node_at wr
           subst (λ (m : Node). EachLead IsStepOf (leads_of writer reader w r m q)) (sym is) (branches_step ids ids 0 is (λ j. ap (slice_get ids) (none_more j)))
 
 -- steps and then more
-follow_more : (nodes : List Node) (id x y : ℕ) (steps more : List PathStep) → follow nodes id steps ≡ Some x → follow nodes x more ≡ Some y
+pub follow_more : (nodes : List Node) (id x y : ℕ) (steps more : List PathStep) → follow nodes id steps ≡ Some x → follow nodes x more ≡ Some y
     → follow nodes id (steps ++ more) ≡ Some y
 follow_more nodes id x y [] more h k = subst (λ (i : ℕ). follow nodes i more ≡ Some y) (sym (some_same id x h)) k
 follow_more nodes id x y (s ∷ steps) more h k =
