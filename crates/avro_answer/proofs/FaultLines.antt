@@ -5,6 +5,7 @@ use Rattle.std.specs.List.{AllByRecursion, AllZip, concat}
 use Rattle.std.specs.Prelude.{OnOk}
 use Rattle.serde_json.specs.Data.{Data}
 use Rattle.serde_json.specs.Written.{comma_if, compact_text, items_text}
+use Rattle.avro_device.specs.PutFront.{PutsFrontOf}
 use Rattle.avro_schema.specs.Node.{Node, node_at}
 use Rattle.avro_explain.specs.Details.{details_of}
 use Rattle.avro_explain.specs.Places.{findings, findings_at, findings_from}
@@ -16,7 +17,7 @@ use Rattle.avro_answer.specs.FaultTree.{IsFaultTree}
 use Rattle.avro_answer.specs.JsonAnswer.{tree_items}
 use Rattle.avro_answer.specs.declared.form.Form.{Form}
 use Rattle.avro_answer.specs.declared.named_fault.NamedFault.{NamedFault}
-use Rattle.avro_answer.specs.inside.FaultsAdded.{HavePlaces, AreFaultsAdded, AreLeft, AreTold, IsBegun, IsFaultAdded, faults_end}
+use Rattle.avro_answer.specs.inside.FaultsAdded.{HavePlaces, AreFaultsAdded, AreLeft, AreTold, IsBegun, IsFaultAdded, IsFrontAdded, faults_end}
 use Rattle.avro_answer.specs.inside.NamedLine.{IsNamed, named_line, named_tree}
 
 -- what is left of a list at an index
@@ -88,7 +89,7 @@ module _ (writer reader : List Node) (places : List Place) where
       (one.line ∷ more.0, (one.is, more.1), more.2 ∙ ap (λ t. t ++ concat more.0) one.added ∙ append_assoc before one.line (concat more.0))
 
   -- the trees that were added, as the items of an array
-  trees_of : (later : Bool) (faults : List Finding) (before after : List ℕ) → AreFaultsAdded Form.Json writer reader places later faults before after
+  pub trees_of : (later : Bool) (faults : List Finding) (before after : List ℕ) → AreFaultsAdded Form.Json writer reader places later faults before after
       → (trees : List Data) × AllZip (IsFaultTree writer reader places) faults trees × (after ++ 93 ∷ [] ≡ before ++ items_text later (tree_items trees))
   trees_of later [] before after added = ([], tt, ap (λ t. t ++ 93 ∷ []) added)
   trees_of later (fault ∷ faults) before after (between, one, added) =
@@ -136,6 +137,36 @@ module _ (writer reader : List Node) (places : List Place) where
         subst (AreLeft form writer reader places faults rest true before) (ap (λ t. put ++ t) cut ∙ sym (append_assoc put piece new))
             (left_more faults left rest later fault before (put ++ old) (put ++ mid) is (λ h. behind form later fault put old mid (one h)) have),
       )
+
+      -- nothing more was put
+      pub front_kept : (left : List Finding) (later : Bool) (before old : List ℕ)
+          → (put : List ℕ) × keeps first put then × AreLeft form writer reader places faults left later before (put ++ old)
+          → IsFrontAdded keeps first then form writer reader places faults before
+      front_kept left later before old (put, stood, have) = record {
+        text = put ++ old;
+        left = left;
+        later = later;
+        added = have;
+        put = record { front = put; later = old; kept = stood; split = refl };
+      }
+
+      -- one is left no more, and a prefix of what was kept then was put
+      pub front_more : (left rest : List Finding) (later : Bool) (fault : Finding) (before old mid : List ℕ) → left ≡ fault ∷ rest
+          → (fault.place < length places → IsFaultAdded form writer reader places later fault old mid) → PutsFrontOf keeps then last mid
+          → (put : List ℕ) × keeps first put then × AreLeft form writer reader places faults left later before (put ++ old)
+          → IsFrontAdded keeps first last form writer reader places faults before
+      front_more left rest later fault before old mid is one f (put, stood, have) = record {
+        text = put ++ mid;
+        left = rest;
+        later = true;
+        added = left_more faults left rest later fault before (put ++ old) (put ++ mid) is (λ h. behind form later fault put old mid (one h)) have;
+        put = record {
+          front = put ++ f.front;
+          later = f.later;
+          kept = chain first then last put f.front stood f.kept;
+          split = ap (λ t. put ++ t) f.split ∙ sym (append_assoc put f.front f.later);
+        };
+      }
 
       -- all are put, and what was kept of them with the end
       pub put_all : (known : Form) → form ≡ known → (begun rest whole : List ℕ) → IsBegun form (length faults) begun → whole ≡ rest ++ faults_end form

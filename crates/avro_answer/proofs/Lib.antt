@@ -3,6 +3,7 @@ pub mod Certified
 pub mod DataFound
 pub mod DataLines
 pub mod DataTexts
+pub mod FaultFronts
 pub mod FaultLines
 pub mod Fronts
 pub mod HistoryLines

@@ -1,7 +1,7 @@
 -- What is answered of a verdict that is right.
 use Rattle.std.proofs.Common.{◌≡◌, ◌↔◌, ◌⊎◌, ℕ, ◌<◌, ◌≤◌, ◌*◌, ◌-◌, ◌^◌, Bool, true, false, List, ◌++◌, inl, inr, refl, sym, ap, subst, arith, length}
 use Rattle.std.proofs.lemmas.List.{append_cancel_left}
-use Rattle.std.specs.Prelude.{codes, slice_get, unwrap_or, nat_lt}
+use Rattle.std.specs.Prelude.{None, codes, slice_get, unwrap_or, nat_lt}
 use Rattle.avro_schema.specs.Node.{Node}
 use Rattle.avro_schema.specs.Seen.{value_of}
 use Rattle.avro_schema.specs.Value.{Value, size}
@@ -16,9 +16,9 @@ use Rattle.avro_judge.specs.JudgeRanges.{JudgeLimitValues, AreJudgeLimits}
 use Rattle.avro_judge.specs.declared.verdict.Cause.{Cause}
 use Rattle.avro_judge.specs.declared.verdict.Verdict.{Verdict}
 use Rattle.avro_answer.specs.Texts.{cause_text}
-use Rattle.avro_answer.specs.JudgeAnswer.{SchemasAnswer, StatusAnswer}
-use Rattle.avro_answer.specs.HistoryAnswer.{LineAnswer}
-use Rattle.avro_answer.specs.JsonAnswer.{verdict_status}
+use Rattle.avro_answer.specs.JudgeAnswer.{IsRightFor, SchemasAnswer, SchemasJson, StatusAnswer}
+use Rattle.avro_answer.specs.HistoryAnswer.{LineAnswer, LineJson}
+use Rattle.avro_answer.specs.JsonAnswer.{verdict_status, IsHistoryLine, IsJudgedLine}
 use Rattle.avro_answer.specs.inside.VerdictTexts.{Words, in_words, judge_words, line_words, verdict_text, verdict_words}
 
 abbrev first : List ℕ → ℕ
@@ -130,6 +130,19 @@ module _ (writer reader : Schema) (limits : JudgeLimitValues) where
       alone : (c d : Cause) → word ++ (line_words.undecided c ++ codes "\n") ≡ word ++ (line_words.undecided d ++ codes "\n") → c ≡ d
       alone c d h = same_cause c d (append_cancel_left (codes " undecided ") (cause_text c ++ codes "\n") (cause_text d ++ codes "\n")
           (append_cancel_left word (line_words.undecided c ++ codes "\n") (line_words.undecided d ++ codes "\n") h))
+
+  right_for : (v : Verdict) → IsRight writer reader limits v → IsRightFor (schema_nodes writer) (schema_nodes reader) limits v
+  right_for v right = record { written = writer; read = reader; nodes_written = refl; nodes_read = refl; right = right }
+
+  pub json_answered : (v : Verdict) (line : List ℕ) (status other : ℕ) → IsRight writer reader limits v → IsJudgedLine (schema_nodes writer) v line status
+      → other ≡ status → SchemasJson (schema_nodes writer) (schema_nodes reader) limits line other
+  json_answered v line status other right told same =
+      record { verdict = v; right = right_for v right; told = subst (IsJudgedLine (schema_nodes writer) v line) (sym same) told }
+
+  pub json_line_answered : (word file : List ℕ) (v : Verdict) (line : List ℕ) (status : ℕ) → IsRight writer reader limits v → IsHistoryLine file None v line status
+      → file ≡ word → LineJson word (schema_nodes writer) (schema_nodes reader) limits line status
+  json_line_answered word file v line status right told same =
+      record { verdict = v; right = right_for v right; told = subst (λ f. IsHistoryLine f None v line status) same told }
 
   -- the number of nodes of the datum of a refutation is one of 64 bits
   pub is_small : (v : Verdict) → AreJudgeLimits limits → IsRight writer reader limits v → IfRefuted v (λ r. size (value_of r.datum) ≤ 2 ^ 64 - 1)

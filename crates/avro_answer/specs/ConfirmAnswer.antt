@@ -59,6 +59,19 @@ pub record ConfirmStatus (writer reader certificate : List ℕ) (status : ℕ) :
   pub small : are_small dead pairs ≡ true
   pub answered : SetsStatus written read dead pairs status
 
+-- The same of the line of JSON, with that status.
+pub record ConfirmJson (writer reader certificate line : List ℕ) (status : ℕ) : Type 0 where
+  pub written : List Node
+  pub read : List Node
+  pub dead : List ℕ
+  pub pairs : List Pair
+  pub declares_written : IsReadAs writer written
+  pub declares_read : IsReadAs reader read
+  pub certifies : CertText dead pairs certificate
+  pub small : are_small dead pairs ≡ true
+  pub known : SetsStatus written read dead pairs status
+  pub told : SetsJson written read dead pairs line
+
 -- the text is that of a certificate with numbers up to 4,095
 abbrev pub HasCertificate : List ℕ → Type 0
 HasCertificate text = (dead : List ℕ) × (pairs : List Pair) × CertText dead pairs text × (are_small dead pairs ≡ true)

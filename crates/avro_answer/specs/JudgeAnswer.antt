@@ -2,13 +2,17 @@
 use Rattle.std.specs.Prelude.{◌≡◌, ◌↔◌, ℕ, ◌⊎◌, List, ◌++◌, codes}
 use Rattle.avro_schema.specs.Value.{Value, size}
 use Rattle.avro_schema.specs.Node.{Node, root_of}
+use Rattle.avro_schema.specs.SeenSchema.{schema_nodes}
+use Rattle.avro_schema.specs.declared.schema.Schema.{Schema}
 use Rattle.avro_display.specs.DisplayTree.{display_text}
 use Rattle.avro_compare.specs.Fault.{ResolutionFault}
 use Rattle.avro_certificate.specs.Compatible.{AreCompatible}
 use Rattle.avro_certificate.specs.CertificateText.{decimal}
-use Rattle.avro_judge.specs.Headline.{Refutes, InPairs, IsPassed}
+use Rattle.avro_judge.specs.Headline.{IsRight, Refutes, InPairs, IsPassed}
 use Rattle.avro_judge.specs.JudgeRanges.{JudgeLimitValues}
 use Rattle.avro_judge.specs.declared.verdict.Cause.{Cause}
+use Rattle.avro_judge.specs.declared.verdict.Verdict.{Verdict}
+use Rattle.avro_answer.specs.JsonAnswer.{IsJudgedLine}
 use Rattle.avro_answer.specs.ReadText.{IsReadAs}
 use Rattle.avro_answer.specs.Texts.{fault_text, cause_text}
 
@@ -52,6 +56,20 @@ pub record StatusAnswer (writer reader : List Node) (limits : JudgeLimitValues) 
   pub undecided : (status ≡ 2) ↔ ((cause : Cause) × IsPassed writer reader limits cause)
   pub known : (status ≡ 0) ⊎ (status ≡ 1) ⊎ (status ≡ 2)
 
+-- a verdict that is right for the two schemas with these nodes
+pub record IsRightFor (writer reader : List Node) (limits : JudgeLimitValues) (verdict : Verdict) : Type 0 where
+  pub written : Schema
+  pub read : Schema
+  pub nodes_written : schema_nodes written ≡ writer
+  pub nodes_read : schema_nodes read ≡ reader
+  pub right : IsRight written read limits verdict
+
+-- What is answered of two schemas as JSON: the line of a verdict that is right for them, with its status.
+pub record SchemasJson (writer reader : List Node) (limits : JudgeLimitValues) (line : List ℕ) (status : ℕ) : Type 0 where
+  pub verdict : Verdict
+  pub right : IsRightFor writer reader limits verdict
+  pub told : IsJudgedLine writer verdict line status
+
 -- What is answered of two texts: both declare schemas and are not too long, and it is the answer of those.
 pub record JudgeAnswer (writer reader : List ℕ) (limits : JudgeLimitValues) (text : List ℕ) (status : ℕ) : Type 0 where
   pub written : List Node
@@ -67,3 +85,11 @@ pub record JudgeStatus (writer reader : List ℕ) (limits : JudgeLimitValues) (s
   pub declares_written : IsReadAs writer written
   pub declares_read : IsReadAs reader read
   pub answered : StatusAnswer written read limits status
+
+-- The same of the line of JSON.
+pub record JudgeJson (writer reader : List ℕ) (limits : JudgeLimitValues) (line : List ℕ) (status : ℕ) : Type 0 where
+  pub written : List Node
+  pub read : List Node
+  pub declares_written : IsReadAs writer written
+  pub declares_read : IsReadAs reader read
+  pub answered : SchemasJson written read limits line status

@@ -4,7 +4,7 @@ ghost use Rattle.avro_schema.specs.SeenSchema.{schema_nodes};
 ghost use Rattle.avro_schema_json.specs.Declaration.{max_text};
 ghost use Rattle.avro_schema_json.specs.declared.error.SchemaError.{SchemaError};
 ghost use Rattle.avro_certificate.specs.SeenCertificate.{dead_of, pairs_in};
-ghost use Rattle.avro_answer.specs.ConfirmAnswer.{SetsAnswer, SetsStatus, SetsJson, ConfirmAnswer, ConfirmStatus, HasCertificate, RefusesOneOf};
+ghost use Rattle.avro_answer.specs.ConfirmAnswer.{SetsAnswer, SetsStatus, SetsJson, ConfirmAnswer, ConfirmJson, ConfirmStatus, HasCertificate, RefusesOneOf};
 ghost use Rattle.avro_answer.specs.JsonAnswer.{json_line, confirmed_tree};
 ghost use Rattle.avro_answer.specs.RefusalText.{HaveSchemas};
 ghost use Rattle.avro_answer.specs.declared.form.Form.{Form};
@@ -86,6 +86,7 @@ pub fn confirm_text(
     form: Form,
 ) -> Result<Answer, Refusal>
     ensures answered { IfOk result (λ a. form ≡ Form.Text → ConfirmAnswer writer.now reader.now certificate.now a.text.items a.status) }
+    ensures json { IfOk result (λ a. form ≡ Form.Json → ConfirmJson writer.now reader.now certificate.now a.text.items a.status) }
     ensures status { IfOk result (λ a. ConfirmStatus writer.now reader.now certificate.now a.status) }
     ensures too_long { max_text < length writer.now → IsErrOf result (Writer SchemaError.LimitExceeded) }
     ensures refused { IfErr result (RefusesOneOf writer.now reader.now certificate.now) }

@@ -1,11 +1,12 @@
 //! The lines of all faults of two schemas, by names.
 
-ghost use Rattle.std.specs.Prelude.{◌≡◌, ◌≢◌, ◌<◌, ◌⊎◌, ◌++◌, ℕ, List, false, length, string_bytes, IfOk, OnOk, IsErrOf};
+ghost use Rattle.std.specs.Prelude.{◌≡◌, ◌≢◌, ◌<◌, ◌⊎◌, ◌++◌, ℕ, List, false, length, string_bytes, IfOk, OnOk, OnErr, IsErrOf};
 ghost use Rattle.avro_schema.specs.SeenSchema.{schema_nodes};
-ghost use Rattle.avro_explain.specs.Places.{AreFaults};
+ghost use Rattle.avro_device.specs.PutFront.{PutsFrontOf};
+ghost use Rattle.avro_explain.specs.Places.{AreFaults, ArePlaced};
 ghost use Rattle.avro_answer.specs.FaultLine.{AreFaultLines, IsLineAdded, no_line};
 ghost use Rattle.avro_answer.specs.FaultTree.{AreFaultTrees};
-ghost use Rattle.avro_answer.specs.inside.FaultsAdded.{HavePlaces, AreFaultsAdded, AreTold, IsArrayBegun, IsBegun, IsFaultAdded, IsTreeAdded, faults_end};
+ghost use Rattle.avro_answer.specs.inside.FaultsAdded.{HavePlaces, AreFaultsAdded, AreTold, IsArrayBegun, IsBegun, IsFaultAdded, IsFrontAdded, IsTreeAdded, faults_end};
 ghost use Rattle.avro_answer.specs.declared.form.Form.{Form};
 ghost use Rattle.avro_display.specs.declared.put_error.PutError.{PutError};
 
@@ -27,7 +28,7 @@ const PIECE: usize = 1_048_576;
 ///
 /// # Errors
 ///
-/// The output failed, or took none of the bytes; memory ran out. No clause says what was put then.
+/// The output failed, or took none of the bytes; memory ran out. A prefix of the text was put then.
 pub fn put_faults<O: Output>(
     out: &mut O,
     alloc: Global,
@@ -40,6 +41,12 @@ pub fn put_faults<O: Output>(
         × AreFaultLines (schema_nodes writer.now) (schema_nodes reader.now) found.now.places.items found.now.faults.items text × O.keeps out.old text out.new) }
     ensures json { form ≡ Form.Json → AreFaults (schema_nodes writer.now) (schema_nodes reader.now) found.now.places.items found.now.faults.items → OnOk result ((line : List ℕ)
         × AreFaultTrees (schema_nodes writer.now) (schema_nodes reader.now) found.now.places.items found.now.faults.items line × O.keeps out.old line out.new) }
+    ensures front { form ≡ Form.Text → ArePlaced (schema_nodes writer.now) (schema_nodes reader.now) found.now.places.items
+        → AreFaults (schema_nodes writer.now) (schema_nodes reader.now) found.now.places.items found.now.faults.items → OnErr result ((text : List ℕ)
+        × AreFaultLines (schema_nodes writer.now) (schema_nodes reader.now) found.now.places.items found.now.faults.items text × PutsFrontOf O.keeps out.old out.new text) }
+    ensures front_json { form ≡ Form.Json → ArePlaced (schema_nodes writer.now) (schema_nodes reader.now) found.now.places.items
+        → AreFaults (schema_nodes writer.now) (schema_nodes reader.now) found.now.places.items found.now.faults.items → OnErr result ((line : List ℕ)
+        × AreFaultTrees (schema_nodes writer.now) (schema_nodes reader.now) found.now.places.items found.now.faults.items line × PutsFrontOf O.keeps out.old out.new line) }
     ensures works { OnOk result (O.failures out.new ≡ O.failures out.old) }
     ensures fails { IsErrOf result PutError.CannotWrite → (O.failures out.new ≢ O.failures out.old) ⊎ O.stuck out.new }
     ensures memory { IsErrOf result PutError.OutOfMemory → O.failures out.new ≡ O.failures out.old }
@@ -89,7 +96,7 @@ fn append_faults(
     Ok(())
 }
 
-/// Puts all faults by name, except for what stays in the text.
+/// Puts all faults by name, except for what stays in the text. Where that fails, a prefix of some was put.
 fn put_lines<O: Output>(
     out: &mut O,
     text: &mut String,
@@ -102,6 +109,8 @@ fn put_lines<O: Output>(
     ensures put { HavePlaces found.now.places.items found.now.faults.items → OnOk result ((put : List ℕ) × O.keeps out.old put out.new
         × AreFaultsAdded form (schema_nodes writer.now) (schema_nodes reader.now) found.now.places.items false found.now.faults.items (string_bytes text.old)
         (put ++ string_bytes text.new)) }
+    ensures front { HavePlaces found.now.places.items found.now.faults.items → OnErr result (IsFrontAdded O.keeps out.old out.new form (schema_nodes writer.now)
+        (schema_nodes reader.now) found.now.places.items found.now.faults.items (string_bytes text.old)) }
     ensures works { OnOk result (O.failures out.new ≡ O.failures out.old) }
     ensures fails { IsErrOf result PutError.CannotWrite → (O.failures out.new ≢ O.failures out.old) ⊎ O.stuck out.new }
     ensures memory { IsErrOf result PutError.OutOfMemory → O.failures out.new ≡ O.failures out.old }
@@ -117,9 +126,10 @@ fn put_lines<O: Output>(
     Ok(())
 }
 
-/// Puts and clears a text if it is long.
+/// Puts and clears a text if it is long. Where that fails, a prefix of it was put.
 fn put_piece<O: Output>(out: &mut O, text: &mut String) -> Result<(), PutError>
     ensures put { OnOk result ((put : List ℕ) × O.keeps out.old put out.new × (string_bytes text.old ≡ put ++ string_bytes text.new)) }
+    ensures front { OnErr result (PutsFrontOf O.keeps out.old out.new (string_bytes text.old)) }
     ensures works { OnOk result (O.failures out.new ≡ O.failures out.old) }
     ensures fails { IsErrOf result PutError.CannotWrite → (O.failures out.new ≢ O.failures out.old) ⊎ O.stuck out.new }
     ensures memory { IsErrOf result PutError.OutOfMemory → O.failures out.new ≡ O.failures out.old }

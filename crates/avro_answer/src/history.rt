@@ -2,7 +2,7 @@ ghost use Rattle.std.specs.Prelude.{◌≡◌, ◌++◌, codes, IfOk, option_cop
 ghost use Rattle.std.specs.Result.{IfErr};
 ghost use Rattle.avro_schema.specs.SeenSchema.{schema_nodes};
 ghost use Rattle.avro_judge.specs.Headline.{IsRight};
-ghost use Rattle.avro_answer.specs.HistoryAnswer.{LineAnswer, HistoryAnswer, HistoryStatus, cut_texts, RefusesHistory, AllHaveSchemas};
+ghost use Rattle.avro_answer.specs.HistoryAnswer.{LineAnswer, HistoryAnswer, HistoryJson, HistoryStatus, cut_texts, RefusesHistory, AllHaveSchemas};
 ghost use Rattle.avro_answer.specs.JsonAnswer.{IsHistoryLine};
 ghost use Rattle.avro_answer.specs.JudgeAnswer.{StatusAnswer};
 ghost use Rattle.avro_answer.specs.inside.VerdictTexts.{verdict_words};
@@ -97,8 +97,8 @@ pub fn judge_json_line<'a>(
 }
 
 /// Judges the schema of each text but the last against that of the last, and returns a line for each, which begins with
-/// its number, from 0, with the worst status: a no outranks an undecided, which outranks a yes. The texts are concatenated and given
-/// with their lengths; a length past the end stands for what is left. With JSON output this is proved of the status alone.
+/// its number, from 0, with the worst status: a no outranks an undecided, which outranks a yes. With JSON output each line has that number
+/// for the file. The texts are concatenated and given with their lengths; a length past the end stands for what is left.
 ///
 /// # Errors
 ///
@@ -111,6 +111,7 @@ pub fn history_text(
     form: Form,
 ) -> Result<Answer, Refusal>
     ensures answered { IfOk result (λ a. form ≡ Form.Text → HistoryAnswer (cut_texts texts.now lengths.now) limits.now a.text.items a.status) }
+    ensures json { IfOk result (λ a. form ≡ Form.Json → HistoryJson (cut_texts texts.now lengths.now) limits.now a.text.items a.status) }
     ensures status { IfOk result (λ a. HistoryStatus (cut_texts texts.now lengths.now) limits.now a.status) }
     ensures refused { IfErr result (RefusesHistory (cut_texts texts.now lengths.now)) }
     ensures complete { AllHaveSchemas (cut_texts texts.now lengths.now) → IfErr result (λ e. e ≡ OutOfMemory) }

@@ -3,7 +3,7 @@
 ghost use Rattle.std.specs.Prelude.{◌≡◌, ◌==◌, ◌||◌, if◌then◌else◌, map, string_bytes, IfOk};
 ghost use Rattle.avro_schema.specs.SeenSchema.{schema_nodes};
 ghost use Rattle.avro_certificate.specs.CertificateText.{decimal};
-ghost use Rattle.avro_answer.specs.HistoryAnswer.{LineAnswer, LinesAnswer, LinesStatus, SchemasHistory, SchemasStatus};
+ghost use Rattle.avro_answer.specs.HistoryAnswer.{LineAnswer, LineJson, LinesAnswer, LinesJson, LinesStatus, SchemasHistory, SchemasLines, SchemasStatus};
 ghost use Rattle.avro_answer.specs.JudgeAnswer.{StatusAnswer};
 ghost use Rattle.avro_answer.specs.declared.form.Form.{Form};
 
@@ -22,6 +22,7 @@ pub(crate) fn judge_history(
     form: Form,
 ) -> Result<Answer, Memory>
     ensures answered { IfOk result (λ a. form ≡ Form.Text → SchemasHistory (map schema_nodes schemas.now) limits.now a.text.items a.status) }
+    ensures json { IfOk result (λ a. form ≡ Form.Json → SchemasLines (map schema_nodes schemas.now) limits.now a.text.items a.status) }
     ensures status { IfOk result (λ a. SchemasStatus (map schema_nodes schemas.now) limits.now a.status) }
 {
     match schemas.split_last() {
@@ -42,6 +43,7 @@ fn judge_writers(
     form: Form,
 ) -> Result<Answer, Memory>
     ensures answered { IfOk result (λ a. form ≡ Form.Text → LinesAnswer (map schema_nodes writers.now) (schema_nodes reader.now) limits.now a.text.items a.status) }
+    ensures json { IfOk result (λ a. form ≡ Form.Json → LinesJson (map schema_nodes writers.now) (schema_nodes reader.now) limits.now a.text.items a.status) }
     ensures status { IfOk result (λ a. LinesStatus (map schema_nodes writers.now) (schema_nodes reader.now) limits.now a.status) }
 {
     let mut text = Vec::new(alloc);
@@ -64,6 +66,7 @@ fn judge_numbered(
     form: Form,
 ) -> Result<Answer, Memory>
     ensures answered { IfOk result (λ a. form ≡ Form.Text → LineAnswer (decimal number) (schema_nodes writer.now) (schema_nodes reader.now) limits.now a.text.items a.status) }
+    ensures json { IfOk result (λ a. form ≡ Form.Json → LineJson (decimal number) (schema_nodes writer.now) (schema_nodes reader.now) limits.now a.text.items a.status) }
     ensures status { IfOk result (λ a. StatusAnswer (schema_nodes writer.now) (schema_nodes reader.now) limits.now a.status) }
 {
     let word = digits(alloc, number)?;

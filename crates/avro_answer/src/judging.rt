@@ -8,7 +8,7 @@ ghost use Rattle.avro_judge.specs.Headline.{IsRight};
 ghost use Rattle.avro_judge.specs.declared.verdict.Verdict.{Verdict};
 ghost use Rattle.avro_display.specs.declared.put_error.PutError.{PutError};
 ghost use Rattle.avro_answer.specs.CutAnswer.{IsCut};
-ghost use Rattle.avro_answer.specs.JudgeAnswer.{SchemasAnswer, StatusAnswer, JudgeAnswer, JudgeStatus};
+ghost use Rattle.avro_answer.specs.JudgeAnswer.{SchemasAnswer, SchemasJson, StatusAnswer, JudgeAnswer, JudgeJson, JudgeStatus};
 ghost use Rattle.avro_answer.specs.JsonAnswer.{IsJudgedLine};
 ghost use Rattle.avro_answer.specs.RefusalText.{RefusesPair, HaveSchemas};
 ghost use Rattle.avro_answer.specs.declared.form.Form.{Form};
@@ -64,8 +64,7 @@ pub fn judge_schemas<'a, O: Output>(
     Ok((verdict, status))
 }
 
-/// Judges the schemas of two texts, as [`judge_schemas`] does. Of the answer's text only the front is kept that there is room for. With
-/// JSON output this is proved of the status alone.
+/// Judges the schemas of two texts, as [`judge_schemas`] does. Of the answer's text only the front is kept that there is room for.
 ///
 /// # Errors
 ///
@@ -80,6 +79,8 @@ pub fn judge_text(
 ) -> Result<CutAnswer, Refusal>
     ensures answered { IfOk result (λ a. form ≡ Form.Text → (text : List ℕ)
         × JudgeAnswer writer.now reader.now limits.now text a.answer.status × IsCut room text a) }
+    ensures json { IfOk result (λ a. form ≡ Form.Json → (line : List ℕ)
+        × JudgeJson writer.now reader.now limits.now line a.answer.status × IsCut room line a) }
     ensures status { IfOk result (λ a. JudgeStatus writer.now reader.now limits.now a.answer.status) }
     ensures too_long { max_text < length writer.now → IsErrOf result (Writer SchemaError.LimitExceeded) }
     ensures refused { IfErr result (RefusesPair writer.now reader.now) }
@@ -101,6 +102,8 @@ fn judge_in_room(
 ) -> Result<CutAnswer, Memory>
     ensures answered { IfOk result (λ a. form ≡ Form.Text → (text : List ℕ)
         × SchemasAnswer (schema_nodes writer.now) (schema_nodes reader.now) limits.now text a.answer.status × IsCut room text a) }
+    ensures json { IfOk result (λ a. form ≡ Form.Json → (line : List ℕ)
+        × SchemasJson (schema_nodes writer.now) (schema_nodes reader.now) limits.now line a.answer.status × IsCut room line a) }
     ensures status { IfOk result (λ a. StatusAnswer (schema_nodes writer.now) (schema_nodes reader.now) limits.now a.answer.status) }
 {
     let mut front = Front::new(alloc, room);

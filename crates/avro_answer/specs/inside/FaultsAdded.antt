@@ -3,6 +3,7 @@ use Rattle.std.specs.Prelude.{◌≡◌, ◌<◌, ℕ, Bool, true, false, List, 
 use Rattle.std.specs.List.{AllByRecursion}
 use Rattle.serde_json.specs.Data.{Data}
 use Rattle.serde_json.specs.Written.{comma_if, compact_text, items_text}
+use Rattle.avro_device.specs.PutFront.{PutsFrontOf}
 use Rattle.avro_schema.specs.Node.{Node}
 use Rattle.avro_explain.specs.declared.found.Finding.{Finding}
 use Rattle.avro_explain.specs.declared.found.Place.{Place}
@@ -36,6 +37,15 @@ AreFaultsAdded form writer reader places later (fault ∷ faults) before after =
 pub record AreLeft (form : Form) (writer reader : List Node) (places : List Place) (faults left : List Finding) (later : Bool) (before text : List ℕ) : Type 0 where
   pub placed : HavePlaces places left
   pub whole : (after : List ℕ) → AreFaultsAdded form writer reader places later left text after → AreFaultsAdded form writer reader places false faults before after
+
+-- the faults but for those that are left were added to what stood, and a prefix of that was put
+pub record IsFrontAdded {O : Type 0} (keeps : O → List ℕ → O → Type 0) (from to : O) (form : Form) (writer reader : List Node) (places : List Place) (faults : List Finding)
+    (before : List ℕ) : Type 0 where
+  pub text : List ℕ
+  pub left : List Finding
+  pub later : Bool
+  pub added : AreLeft form writer reader places faults left later before text
+  pub put : PutsFrontOf keeps from to text
 
 -- the start of the line of a no as JSON: the trees as items and two ends make it whole
 abbrev pub IsArrayBegun : List ℕ → Type 0

@@ -21,3 +21,16 @@ returns-clause-answered c = λ is_text. let told = c.in_ok-judge_in_room.ensures
   },
   told.2,
 )
+
+pub returns-clause-json : goal.returns-clause-json
+returns-clause-json c = λ is_json. let told = c.in_ok-judge_in_room.ensures.json is_json in (
+  told.0,
+  record {
+    written = schema_nodes c.in_ok-writer.writer;
+    read = schema_nodes c.in_ok-reader.reader;
+    declares_written = c.in_ok-writer.ensures.found;
+    declares_read = c.in_ok-reader.ensures.found;
+    answered = told.1;
+  },
+  told.2,
+)
