@@ -38,6 +38,7 @@ PROGRAM: Roots = (
     ("Rattle.avro_tool.specs.FoundStatus", "finding_status"),
     ("Rattle.avro_tool.specs.FoundStatus", "worse"),
     ("Rattle.avro_tool.specs.ModeAnswer", "ModeAnswer"),
+    ("Rattle.avro_tool.specs.EachAnswer", "EachAnswer"),
     ("Rattle.avro_tool.specs.DefaultLimits", "default_limits"),
     ("Rattle.avro_answer.specs.JudgeAnswer", "StatusAnswer"),
     ("Rattle.avro_answer.specs.JsonAnswer", "IsJudgedLine"),
