@@ -98,10 +98,10 @@ module _ (form : Form) (mode : Mode) (is_next : Bool) (last : Schema) (limits : 
       let file = (get_or files i d).now in
       let files_are : names_of (drop i files) ≡ file ∷ names_of (drop (i + 1) files) = ap names_of (drop_more files i d named) in
       let schemas_are : drop i schemas ≡ earlier ∷ drop (i + 1) schemas =
-          drop_more schemas i earlier here ∙ ap (λ (s : Schema). s ∷ drop (i + 1) schemas) (sym is) in
+      drop_more schemas i earlier here ∙ ap (λ (s : Schema). s ∷ drop (i + 1) schemas) (sym is) in
       let later_is : later ≡ later_of is_next (drop (i + 1) schemas) last = next ∙ ap (λ (others : List Schema). later_of is_next others last) rest in
       let whole : EachAnswer form mode is_next (file ∷ names_of (drop (i + 1) files)) (earlier ∷ drop (i + 1) schemas) last limits (lines ++ more) (worse one n) =
-          (lines, more, one, n, subst (λ s. ModeAnswer form mode file earlier s limits lines one) later_is answer, given, refl, refl) in
+      (lines, more, one, n, subst (λ s. ModeAnswer form mode file earlier s limits lines one) later_is answer, given, refl, refl) in
       subst (λ fs. EachAnswer form mode is_next fs (drop i schemas) last limits (lines ++ more) (worse one n)) (sym files_are)
       (subst (λ ss. EachAnswer form mode is_next (file ∷ names_of (drop (i + 1) files)) ss last limits (lines ++ more) (worse one n)) (sym schemas_are) whole)
 

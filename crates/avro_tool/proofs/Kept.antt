@@ -66,9 +66,9 @@ pub adds_next : (writers : List Schema) (reader : List Node) (i : ℕ) (writer :
 adds_next writers reader i writer old now new here is before one =
     let ws = map schema_nodes (take i writers) in
     let longer : map schema_nodes (take (i + 1) writers) ≡ ws ++ (schema_nodes writer ∷ []) =
-        ap (map schema_nodes) (take_more writers i writer here)
-        ∙ map-append schema_nodes (take i writers) (get_or writers i writer ∷ [])
-        ∙ ap (λ (s : Schema). map schema_nodes (take i writers) ++ (schema_nodes s ∷ [])) (sym is) in
+    ap (map schema_nodes) (take_more writers i writer here)
+    ∙ map-append schema_nodes (take i writers) (get_or writers i writer ∷ [])
+    ∙ ap (λ (s : Schema). map schema_nodes (take i writers) ++ (schema_nodes s ∷ [])) (sym is) in
     subst (λ all. AddsClosed all reader old new) (sym longer) (adds_both ws (schema_nodes writer ∷ []) reader old now new before one)
 
 pub adds_all : (writers : List Schema) (reader : List Node) (i : ℕ) (old now : List Certificate) → length writers ≤ i

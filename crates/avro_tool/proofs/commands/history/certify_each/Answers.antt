@@ -1,5 +1,5 @@
 -- The lines of each file, after those before it.
-use Rattle.std.proofs.Common.{◌≡◌, ℕ, ◌+◌, ◌<◌, List, length, drop, min, false, refl, sym, ap, ◌∙◌, subst, arith}
+use Rattle.std.proofs.Common.{ℕ, ◌+◌, ◌<◌, List, length, drop, false, refl, sym, ap, ◌∙◌, subst, arith}
 use Rattle.avro_schema.specs.SeenSchema.{schema_nodes}
 use Rattle.avro_tool.specs.EachAnswer.{EachAnswer}
 use Rattle.avro_tool.specs.FoundStatus.{finding_status}
@@ -10,8 +10,7 @@ use Rattle.avro_tool.proofs.commands.history.certify_each.Goals as goal
 
 pub loop-index-init : goal.loop-index-init
 loop-index-init g c =
-    let history = c.args.history.now in
-    (
+    let history = c.args.history.now in (
       none_yet g.O.Output.keeps c.args.out.now (EachAnswer history.form Mode.Backward false (names_of c.as_slice-files.result.now) c.args.writers.now c.args.reader.now history.limits)
           (g.met.O.Output.none c.args.out.now),
       λ good. adds_none (schema_nodes c.args.reader.now) c.args.certificates.now.items,
@@ -26,21 +25,20 @@ loop-index-preserved g c =
     let found = c.in_ok-certified.certified in
     let told = c.in_ok-certified.ensures.answered in
     let named : c.loop-index.index < length files = omega (arith, c.loop-index-test.true, c.min-count.ensures) in
-    let here : c.loop-index.index < length schemas = omega (arith, c.loop-index-test.true, c.min-count.ensures) in
-    (
-    one_more g.O.Output.keeps g.met.O.Output.chain c.args.out.now c.loop-index.out c.certify_one.new.out c.loop-index.finding found c.and-finding.result
-    (EachFrom history.form Mode.Backward false c.args.reader.now history.limits c.loop-index.index files schemas)
-    (EachFrom history.form Mode.Backward false c.args.reader.now history.limits (c.loop-index.index + 1) files schemas)
-    (EachAnswer history.form Mode.Backward false (names_of files) schemas c.args.reader.now history.limits) told.0
-    before told.2 (c.and-finding.ensures.verdict before.verdict c.in_ok-certified.ensures.verdict) (c.and-finding.ensures.status before.verdict c.in_ok-certified.ensures.verdict)
-    (each_more history.form Mode.Backward false c.args.reader.now history.limits files schemas c.loop-index.index _ c.index-writers-index.result c.args.reader.now (drop (c.loop-index.index + 1) schemas) told.0 (finding_status found)
-    named here c.index-writers-index.is refl refl told.1),
-    λ good.
-        let both = both_yes (finding_status c.loop-index.finding) (finding_status found)
-            (sym (c.and-finding.ensures.status before.verdict c.in_ok-certified.ensures.verdict) ∙ good) in
-        adds_next schemas (schema_nodes c.args.reader.now) c.loop-index.index c.index-writers-index.result
-        c.args.certificates.now.items c.loop-index.certificates.items c.certify_one.new.certificates.items
-        here c.index-writers-index.is (c.loop-index.invariant.1 both.0) (c.in_ok-certified.ensures.kept both.1),
+    let here : c.loop-index.index < length schemas = omega (arith, c.loop-index-test.true, c.min-count.ensures) in (
+      one_more g.O.Output.keeps g.met.O.Output.chain c.args.out.now c.loop-index.out c.certify_one.new.out c.loop-index.finding found c.and-finding.result
+          (EachFrom history.form Mode.Backward false c.args.reader.now history.limits c.loop-index.index files schemas)
+          (EachFrom history.form Mode.Backward false c.args.reader.now history.limits (c.loop-index.index + 1) files schemas)
+          (EachAnswer history.form Mode.Backward false (names_of files) schemas c.args.reader.now history.limits) told.0
+          before told.2 (c.and-finding.ensures.verdict before.verdict c.in_ok-certified.ensures.verdict) (c.and-finding.ensures.status before.verdict c.in_ok-certified.ensures.verdict)
+          (each_more history.form Mode.Backward false c.args.reader.now history.limits files schemas c.loop-index.index _ c.index-writers-index.result c.args.reader.now (drop (c.loop-index.index + 1) schemas) told.0 (finding_status found)
+          named here c.index-writers-index.is refl refl told.1),
+      λ good.
+          let both = both_yes (finding_status c.loop-index.finding) (finding_status found)
+          (sym (c.and-finding.ensures.status before.verdict c.in_ok-certified.ensures.verdict) ∙ good) in
+          adds_next schemas (schema_nodes c.args.reader.now) c.loop-index.index c.index-writers-index.result
+          c.args.certificates.now.items c.loop-index.certificates.items c.certify_one.new.certificates.items
+          here c.index-writers-index.is (c.loop-index.invariant.1 both.0) (c.in_ok-certified.ensures.kept both.1),
     )
 
 pub returns-clause-answered : goal.returns-clause-answered

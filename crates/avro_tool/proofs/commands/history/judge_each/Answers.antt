@@ -1,5 +1,5 @@
 -- The lines of each file, after those before it.
-use Rattle.std.proofs.Common.{◌≡◌, ℕ, ◌+◌, ◌<◌, List, length, min, subst, arith, ap, ◌∙◌, drop}
+use Rattle.std.proofs.Common.{ℕ, ◌+◌, ◌<◌, List, length, subst, arith}
 use Rattle.avro_tool.specs.EachAnswer.{EachAnswer}
 use Rattle.avro_tool.specs.FoundStatus.{finding_status}
 use Rattle.avro_tool.proofs.EachLines.{EachFrom, names_of, none_yet, one_more, all_done, each_more, each_done}
