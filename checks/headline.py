@@ -38,6 +38,8 @@ PROGRAM: Roots = (
     ("Rattle.avro_tool.specs.FoundStatus", "finding_status"),
     ("Rattle.avro_tool.specs.FoundStatus", "worse"),
     ("Rattle.avro_tool.specs.ModeAnswer", "ModeAnswer"),
+    ("Rattle.avro_tool.specs.EachAnswer", "EachAnswer"),
+    ("Rattle.avro_tool.specs.KeptCertificates", "AddsClosed"),
     ("Rattle.avro_tool.specs.DefaultLimits", "default_limits"),
     ("Rattle.avro_answer.specs.JudgeAnswer", "StatusAnswer"),
     ("Rattle.avro_answer.specs.JsonAnswer", "IsJudgedLine"),
@@ -54,7 +56,7 @@ PROGRAM: Roots = (
 )
 # The crates and their files in the order in which each rests on those before it.
 CRATES = (
-    "name", "schema", "zigzag", "device", "cursor", "binary", "compare", "resolve", "certificate", "least", "explain", "judge", "schema_json", "display",
+    "name", "schema", "zigzag", "device", "cursor", "binary", "compare", "resolve", "certificate", "least", "explain", "judge", "history", "schema_json", "display",
     "canonical", "answer", "file", "container", "migration", "tool",
 )
 WORD = re.compile(r"[A-Za-z_][\w\-]*")

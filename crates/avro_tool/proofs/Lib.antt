@@ -1,1 +1,3 @@
+pub mod EachLines
+pub mod Kept
 pub mod Verdicts

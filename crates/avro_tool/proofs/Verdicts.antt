@@ -1,16 +1,21 @@
 -- The finding of a verdict has its status.
-use Rattle.std.proofs.Common.{◌≡◌, ℕ, ◌≤◌, ◌⊎◌, inl, inr, Bool, true, false, List, refl, sym, subst, arith}
+use Rattle.std.proofs.Common.{◌≡◌, ℕ, ◌≤◌, ◌⊎◌, inl, inr, Bool, true, false, List, Option, refl, sym, subst, arith}
 use Rattle.avro_schema.specs.Node.{Node}
+use Rattle.avro_schema.specs.SeenSchema.{schema_nodes}
+use Rattle.avro_schema.specs.declared.schema.Schema.{Schema}
 use Rattle.avro_compare.specs.Children.{Pair}
 use Rattle.avro_certificate.specs.Closed.{is_closed}
+use Rattle.avro_judge.specs.Headline.{IsRight}
 use Rattle.avro_judge.specs.JudgeRanges.{JudgeLimitValues}
 use Rattle.avro_answer.specs.ConfirmAnswer.{SetsAnswer, SetsStatus}
 use Rattle.avro_answer.specs.HistoryAnswer.{LineAnswer}
-use Rattle.avro_answer.specs.JsonAnswer.{IsJudgedLine}
+use Rattle.avro_answer.specs.JsonAnswer.{IsHistoryLine, IsJudgedLine}
 use Rattle.avro_answer.specs.JudgeAnswer.{SchemasAnswer, StatusAnswer}
+use Rattle.avro_answer.specs.declared.form.Form.{Form}
 use Rattle.avro_judge.specs.declared.verdict.Verdict.{Verdict}
+use Rattle.avro_tool.specs.ModeAnswer.{line_word, FormAnswer}
 
-few : (s : ℕ) → (s ≡ 0) ⊎ (s ≡ 1) ⊎ (s ≡ 2) → s ≤ 2
+pub few : (s : ℕ) → (s ≡ 0) ⊎ (s ≡ 1) ⊎ (s ≡ 2) → s ≤ 2
 few s (inl e) = omega (arith, e)
 few s (inr (inl e)) = omega (arith, e)
 few s (inr (inr e)) = omega (arith, e)
@@ -26,9 +31,21 @@ pub judged_line : (w r : List Node) (limits : JudgeLimitValues) (verdict : Verdi
     → (s ≤ 2 → t ≡ s) → IsJudgedLine w verdict line t
 judged_line w r limits verdict line s t a told same = subst (IsJudgedLine w verdict line) (sym (same (few s told.known))) a
 
-pub line_answer : (word : List ℕ) (w r : List Node) (limits : JudgeLimitValues) (text : List ℕ) (s t : ℕ) → LineAnswer word w r limits text s → StatusAnswer w r limits s
-    → (s ≤ 2 → t ≡ s) → LineAnswer word w r limits text t
-line_answer word w r limits text s t a told same = subst (LineAnswer word w r limits text) (sym (same (few s told.known))) a
+in_form : (form : Form) (file : List ℕ) (mode : Option (List ℕ)) (writer reader : Schema) (limits : JudgeLimitValues) (verdict : Verdict) (text : List ℕ) (s : ℕ)
+    → (form ≡ Form.Text → LineAnswer (line_word file mode) (schema_nodes writer) (schema_nodes reader) limits text s)
+    → (form ≡ Form.Json → IsHistoryLine file mode verdict text s) → IsRight writer reader limits verdict
+    → FormAnswer form file mode writer reader limits text s
+in_form Form.Text file mode writer reader limits verdict text s as_text as_json right = as_text refl
+in_form Form.Json file mode writer reader limits verdict text s as_text as_json right = (verdict, right, as_json refl)
+
+pub form_answer : (form : Form) (file : List ℕ) (mode : Option (List ℕ)) (writer reader : Schema) (limits : JudgeLimitValues) (verdict : Verdict) (text : List ℕ) (s t : ℕ)
+    → (form ≡ Form.Text → LineAnswer (line_word file mode) (schema_nodes writer) (schema_nodes reader) limits text s)
+    → (form ≡ Form.Json → IsHistoryLine file mode verdict text s) → IsRight writer reader limits verdict
+    → StatusAnswer (schema_nodes writer) (schema_nodes reader) limits s → (s ≤ 2 → t ≡ s)
+    → FormAnswer form file mode writer reader limits text t
+form_answer form file mode writer reader limits verdict text s t as_text as_json right told same =
+    subst (λ n. FormAnswer form file mode writer reader limits text n) (sym (same (few s told.known)))
+    (in_form form file mode writer reader limits verdict text s as_text as_json right)
 
 sets_few : (w r : List Node) (dead : List ℕ) (pairs : List Pair) (s : ℕ) → SetsStatus w r dead pairs s → s ≤ 2
 sets_few w r dead pairs s a = go (is_closed w r dead pairs) refl

@@ -1,5 +1,7 @@
 pub mod ContainerText
 pub mod DefaultLimits
+pub mod EachAnswer
 pub mod FailureText
 pub mod FoundStatus
+pub mod KeptCertificates
 pub mod ModeAnswer

@@ -1,8 +1,11 @@
 //! The program `avro`, as a function over its words, a reader and two writers. Of its own functions these are proved: the exit status of
-//! each `Failure` and each `Finding`, and the line of each refusal; that the text and the status of `judge`, `explain`, `confirm` and
-//! `schema` are those of `avro_answer` for the schemas that were read, in their order; the counts
-//! of `check`; and that `Watched`, an input around another for `--progress`, takes, ends and counts as the other does. The rest is safe,
-//! and returns.
+//! each `Failure` and each `Finding`, and the line of each refusal; that the text and the status of `judge`, `explain`, `confirm`,
+//! `schema` and `read` are those of `avro_answer` for the schemas and the data that were read, in their order (`judge_pair`,
+//! `explain_pair`, `tell_confirmed`, `tell_schema`, `tell_datum`); that the lines of `history`, as text and as JSON, are those of its
+//! files, in their order, with the worst status, and that the certificates that are kept confirm their schemas (`judge_each`,
+//! `certify_each`); that `pipe` is a copy of what it takes (`pipe_from`); the counts of `check` (`counts_of`), and their line of JSON
+//! (`tell_file_counts`); by which schema `show` shows data (`shown_schema`); the bytes of the file of a refutation (`put_block`); and
+//! that `Watched`, an input around another for `--progress`, takes, ends and counts as the other does. The rest is safe, and returns.
 //!
 //! `run` makes an `Output` of the writer for the answers, and the commands put into that. No failed call of it is retried.
 #![tactic(auto)]

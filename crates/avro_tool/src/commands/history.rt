@@ -1,12 +1,16 @@
-ghost use Rattle.std.specs.Prelude.{◌≡◌, ◌≤◌, ◌++◌, ℕ, List, IfOk, OnOk, option_copied, string_bytes, Some, None, codes};
+ghost use Rattle.std.specs.Prelude.{◌≡◌, ◌≤◌, ◌++◌, ℕ, List, [], ◌∷◌, length, false, map, IfOk, OnOk, option_copied, string_bytes, Some, None, codes};
 ghost use Rattle.avro_schema.specs.SeenSchema.{schema_nodes};
+ghost use Rattle.avro_judge.specs.Answered.{IfApproved};
 ghost use Rattle.avro_judge.specs.Headline.{IsRight};
+ghost use Rattle.avro_history.specs.ConfirmedHistory.{nodes_of_all};
 ghost use Rattle.avro_answer.specs.HistoryAnswer.{LineAnswer};
 ghost use Rattle.avro_answer.specs.JsonAnswer.{IsHistoryLine};
 ghost use Rattle.avro_answer.specs.JudgeAnswer.{StatusAnswer};
 ghost use Rattle.avro_answer.specs.declared.form.Form.{Form};
+ghost use Rattle.avro_tool.specs.EachAnswer.{later_of, EachAnswer};
 ghost use Rattle.avro_tool.specs.FoundStatus.{finding_status, IsVerdict};
-ghost use Rattle.avro_tool.specs.ModeAnswer.{line_word, ModeAnswer};
+ghost use Rattle.avro_tool.specs.KeptCertificates.{AddsClosed};
+ghost use Rattle.avro_tool.specs.ModeAnswer.{line_word, FormAnswer, ModeAnswer};
 ghost use Rattle.avro_tool.specs.declared.request.Mode.{Mode};
 
 use crate::Finding;
@@ -18,7 +22,7 @@ use crate::request::{Evidence, History, Mode};
 use avro_answer::{Form, Judged, answer_confirmed, judge_json_line, judge_line};
 use avro_device::Output;
 use avro_history::{HistoryCert, confirm_history};
-use avro_judge::{Certificate, Verdict};
+use avro_judge::{Approved, Certificate, Verdict};
 use avro_schema::{Memory, Schema};
 use std::alloc::{AllocError, Global};
 use std::rt::Files;
@@ -157,19 +161,43 @@ fn judge_each<'a, O: Output>(
     schemas: &[Schema],
     last: &Schema,
     out: &mut O,
-) -> Result<Finding, Failure<'a>> {
+) -> Result<Finding, Failure<'a>>
+    ensures answered { IfOk result (λ f. (text : List ℕ)
+        × EachAnswer history.now.form history.now.mode history.now.is_next (map (λ w. w.now) history.now.writers.items) schemas.now last.now history.now.limits text (finding_status f)
+        × O.keeps out.old text out.new) }
+    ensures verdict { IfOk result IsVerdict }
+{
+    let files = history.writers.as_slice();
+    let count = files.len().min(schemas.len());
     let mut finding = Finding::Yes;
-    let mut index: usize = 0;
-    for (file, earlier) in history.writers.iter().zip(schemas) {
-        index = index.saturating_add(1);
-        let later = match schemas.get(index) {
-            Some(next) if history.is_next => next,
-            _ => last,
-        };
-        let found = judge_modes(alloc, history, file, earlier, later, out)?;
+    for index in 0..count {
+        let (_, after) = schemas.split_at(index + 1);
+        let later = later_of(history.is_next, after, last);
+        let found = judge_modes(
+            alloc,
+            history,
+            files[index],
+            &schemas[index],
+            later,
+            &mut *out,
+        )?;
         finding = finding.and(found);
     }
     Ok(finding)
+}
+
+/// The schema with which one is judged that has these after it: the next one, where that is asked for and there is one,
+/// else the last one.
+fn later_of<'s>(is_next: bool, after: &'s [Schema], last: &'s Schema) -> &'s Schema
+    ensures { result.now ≡ later_of is_next after.now last.now }
+{
+    if !is_next {
+        return last;
+    }
+    match after.split_first() {
+        Some((next, _)) => next,
+        None => last,
+    }
 }
 
 /// Judges two schemas as the mode asks, and prints the lines of it.
@@ -181,8 +209,8 @@ fn judge_modes<'a, O: Output>(
     later: &Schema,
     out: &mut O,
 ) -> Result<Finding, Failure<'a>>
-    ensures answered { IfOk result (λ f. history.now.form ≡ Form.Text → (text : List ℕ)
-        × ModeAnswer history.now.mode file.now (schema_nodes earlier.now) (schema_nodes later.now) history.now.limits text (finding_status f) × O.keeps out.old text out.new) }
+    ensures answered { IfOk result (λ f. (text : List ℕ)
+        × ModeAnswer history.now.form history.now.mode file.now earlier.now later.now history.now.limits text (finding_status f) × O.keeps out.old text out.new) }
     ensures verdict { IfOk result IsVerdict }
 {
     let line = Line { file, mode: None };
@@ -202,8 +230,8 @@ fn judge_both<'a, O: Output>(
     later: &Schema,
     out: &mut O,
 ) -> Result<Finding, Failure<'a>>
-    ensures answered { IfOk result (λ f. history.now.form ≡ Form.Text → (text : List ℕ)
-        × ModeAnswer Mode.Full file.now (schema_nodes earlier.now) (schema_nodes later.now) history.now.limits text (finding_status f) × O.keeps out.old text out.new) }
+    ensures answered { IfOk result (λ f. (text : List ℕ)
+        × ModeAnswer history.now.form Mode.Full file.now earlier.now later.now history.now.limits text (finding_status f) × O.keeps out.old text out.new) }
     ensures verdict { IfOk result IsVerdict }
 {
     let line = Line {
@@ -228,8 +256,8 @@ fn judge_one<'a, O: Output>(
     reader: &Schema,
     out: &mut O,
 ) -> Result<Finding, Failure<'a>>
-    ensures answered { IfOk result (λ f. history.now.form ≡ Form.Text → (text : List ℕ)
-        × LineAnswer (line_word line.entry.file.now (option_copied line.entry.mode)) (schema_nodes writer.now) (schema_nodes reader.now) history.now.limits text (finding_status f)
+    ensures answered { IfOk result (λ f. (text : List ℕ)
+        × FormAnswer history.now.form line.entry.file.now (option_copied line.entry.mode) writer.now reader.now history.now.limits text (finding_status f)
         × O.keeps out.old text out.new) }
     ensures status { IfOk result (λ f. StatusAnswer (schema_nodes writer.now) (schema_nodes reader.now) history.now.limits (finding_status f)) }
     ensures verdict { IfOk result IsVerdict }
@@ -270,12 +298,30 @@ fn certify_each<'a, O: Output>(
     reader: &Schema,
     certificates: &mut Vec<Certificate>,
     out: &mut O,
-) -> Result<Finding, Failure<'a>> {
+) -> Result<Finding, Failure<'a>>
+    ensures answered { IfOk result (λ f. (text : List ℕ)
+        × EachAnswer history.now.form Mode.Backward false (map (λ w. w.now) history.now.writers.items) writers.now reader.now history.now.limits text (finding_status f)
+        × O.keeps out.old text out.new) }
+    ensures verdict { IfOk result IsVerdict }
+    // After a yes of all the certificates are those that confirm the schemas.
+    ensures kept { IfOk result (λ f. length history.now.writers.items ≡ length writers.now → finding_status f ≡ 0
+        → AddsClosed (nodes_of_all writers.now) (schema_nodes reader.now) certificates.old.items certificates.new.items) }
+{
+    let files = history.writers.as_slice();
+    let count = files.len().min(writers.len());
     let mut finding = Finding::Yes;
-    for (file, writer) in history.writers.iter().zip(writers) {
-        let line = Line { file, mode: None };
-        let found = certify_one(alloc, history, line, writer, reader, certificates, out)?;
-        finding = finding.and(found);
+    for index in 0..count {
+        let file = files[index];
+        let certified = certify_one(
+            alloc,
+            history,
+            file,
+            &writers[index],
+            reader,
+            &mut *certificates,
+            &mut *out,
+        )?;
+        finding = finding.and(certified);
     }
     Ok(finding)
 }
@@ -284,14 +330,38 @@ fn certify_each<'a, O: Output>(
 fn certify_one<'a, O: Output>(
     alloc: Global,
     history: &History<'a>,
-    line: Line<'_>,
+    file: &str,
     writer: &Schema,
     reader: &Schema,
     certificates: &mut Vec<Certificate>,
     out: &mut O,
-) -> Result<Finding, Failure<'a>> {
+) -> Result<Finding, Failure<'a>>
+    ensures answered { IfOk result (λ f. (text : List ℕ)
+        × FormAnswer history.now.form file.now None writer.now reader.now history.now.limits text (finding_status f) × O.keeps out.old text out.new) }
+    ensures verdict { IfOk result IsVerdict }
+    ensures kept { IfOk result (λ f. finding_status f ≡ 0
+        → AddsClosed (schema_nodes writer.now ∷ []) (schema_nodes reader.now) certificates.old.items certificates.new.items) }
+{
+    let line = Line { file, mode: None };
     let judged = judge_as(alloc, history, line, writer, reader)?;
-    let finding = tell_judged(&judged, out)?;
+    let finding = tell_certified(alloc, &judged, certificates, out)?;
+    Ok(finding)
+}
+
+/// Prints the line of a verdict, and keeps the certificate of an approval.
+fn tell_certified<'a, O: Output>(
+    alloc: Global,
+    judged: &Judged<'_>,
+    certificates: &mut Vec<Certificate>,
+    out: &mut O,
+) -> Result<Finding, Failure<'a>>
+    ensures put { OnOk result (O.keeps out.old judged.now.answer.text.items out.new) }
+    ensures verdict { IfOk result IsVerdict }
+    ensures status { IfOk result (λ f. judged.now.answer.status ≤ 2 → finding_status f ≡ judged.now.answer.status) }
+    ensures kept { OnOk result (IfApproved judged.now.verdict (λ a.
+        AddsClosed (schema_nodes a.0 ∷ []) (schema_nodes a.1) certificates.old.items certificates.new.items)) }
+{
+    let finding = tell_judged(judged, out)?;
     keep_certificate(alloc, &judged.verdict, certificates)?;
     Ok(finding)
 }
@@ -311,15 +381,26 @@ fn keep_certificate(
     alloc: Global,
     verdict: &Verdict<'_>,
     certificates: &mut Vec<Certificate>,
-) -> Result<(), Memory> {
+) -> Result<(), Memory>
+    ensures { OnOk result (IfApproved verdict.now (λ a.
+        AddsClosed (schema_nodes a.0 ∷ []) (schema_nodes a.1) certificates.old.items certificates.new.items)) }
+{
     match verdict {
-        Verdict::Approved(approved) => {
-            let certificate = approved.certificate(alloc)?;
-            match certificates.push(certificate) {
-                Ok(()) => Ok(()),
-                Err(_) => Err(Memory),
-            }
-        }
-        _ => Ok(()),
+        Verdict::Approved(approved) => keep_approval(alloc, approved, certificates),
+        Verdict::Refuted(_) => Ok(()),
+        Verdict::Undecided(_) => Ok(()),
     }
+}
+
+/// Keeps the certificate of an approval.
+fn keep_approval(
+    alloc: Global,
+    approved: &Approved<'_>,
+    certificates: &mut Vec<Certificate>,
+) -> Result<(), Memory>
+    ensures { OnOk result (AddsClosed (schema_nodes approved.now.0 ∷ []) (schema_nodes approved.now.1) certificates.old.items certificates.new.items) }
+{
+    let certificate = approved.certificate(alloc)?;
+    certificates.push(certificate)?;
+    Ok(())
 }

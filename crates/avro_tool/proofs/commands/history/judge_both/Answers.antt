@@ -4,9 +4,9 @@ use Rattle.avro_tool.specs.FoundStatus.{finding_status}
 use Rattle.avro_tool.proofs.commands.history.judge_both.Goals as goal
 
 pub returns-clause-answered : goal.returns-clause-answered
-returns-clause-answered g c = λ is_text.
-    let backward = c.in_ok-backward.ensures.answered is_text in
-    let forward = c.in_ok-forward.ensures.answered is_text in (
+returns-clause-answered g c =
+    let backward = c.in_ok-backward.ensures.answered in
+    let forward = c.in_ok-forward.ensures.answered in (
       backward.0 ++ forward.0,
       (
         backward.0,

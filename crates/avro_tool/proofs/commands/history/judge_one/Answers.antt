@@ -2,16 +2,15 @@
 use Rattle.std.specs.Prelude.{option_copied}
 use Rattle.avro_schema.specs.SeenSchema.{schema_nodes}
 use Rattle.avro_tool.specs.FoundStatus.{finding_status}
-use Rattle.avro_tool.specs.ModeAnswer.{line_word}
-use Rattle.avro_tool.proofs.Verdicts.{judged_status, line_answer}
+use Rattle.avro_tool.proofs.Verdicts.{form_answer, judged_status}
 use Rattle.avro_tool.proofs.commands.history.judge_one.Goals as goal
 
 pub returns-clause-answered : goal.returns-clause-answered
-returns-clause-answered g c = λ is_text. (
+returns-clause-answered g c = (
   c.in_ok-judged.judged.answer.text.items,
-  line_answer (line_word c.args.line.file.now (option_copied c.args.line.mode)) (schema_nodes c.args.writer.now) (schema_nodes c.args.reader.now) c.args.history.now.limits
-      c.in_ok-judged.judged.answer.text.items c.in_ok-judged.judged.answer.status (finding_status c.in_ok-finding.finding)
-      (c.in_ok-judged.ensures.answered is_text) c.in_ok-judged.ensures.status c.in_ok-finding.ensures.status,
+  form_answer c.args.history.now.form c.args.line.file.now (option_copied c.args.line.mode) c.args.writer.now c.args.reader.now c.args.history.now.limits
+      c.in_ok-judged.judged.verdict c.in_ok-judged.judged.answer.text.items c.in_ok-judged.judged.answer.status (finding_status c.in_ok-finding.finding)
+      c.in_ok-judged.ensures.answered c.in_ok-judged.ensures.json c.in_ok-judged.ensures.right c.in_ok-judged.ensures.status c.in_ok-finding.ensures.status,
   c.in_ok-finding.ensures.put,
 )
 
