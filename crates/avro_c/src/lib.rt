@@ -6,8 +6,8 @@
 #![tactic(auto)]
 
 ghost use Rattle.std.specs.Prelude.{◌≡◌, ◌≤◌, ◌<◌, ◌↔◌, ◌⊎◌, codes, length, sum};
-ghost use Rattle.avro_answer.specs.JudgeAnswer.{JudgeAnswer, JudgeStatus};
-ghost use Rattle.avro_answer.specs.ExplainAnswer.{ExplainAnswer};
+ghost use Rattle.avro_answer.specs.JudgeAnswer.{JudgeAnswer, JudgeJson, JudgeStatus};
+ghost use Rattle.avro_answer.specs.ExplainAnswer.{ExplainAnswer, ExplainJson};
 ghost use Rattle.avro_answer.specs.ConfirmAnswer.{ConfirmAnswer, HasCertificate, RefusesOneOf};
 ghost use Rattle.avro_answer.specs.HistoryAnswer.{HistoryAnswer, cut_texts, RefusesHistory, AllHaveSchemas};
 ghost use Rattle.avro_answer.specs.ExplainAnswer.{ExplainStatus};
@@ -62,7 +62,7 @@ pub extern "C" fn avrojudge_judge_text(
     }
 }
 
-/// The same as `avrojudge_judge_text`, with a line of JSON for the text, of which no clause says what it is.
+/// The same as `avrojudge_judge_text`, with a line of JSON for the text.
 #[unsafe(no_mangle)]
 pub extern "C" fn avrojudge_judge_json_text(
     alloc: Global,
@@ -73,6 +73,7 @@ pub extern "C" fn avrojudge_judge_json_text(
     wanted: &mut usize,
 ) -> u32
     ensures answered { result ≤ 2 → IsTold (λ _. JudgeStatus writer.now reader.now (asked_limits limits.now.pairs limits.now.size limits.now.depth)) out.old out.new wanted.new result }
+    ensures json { result ≤ 2 → IsTold (JudgeJson writer.now reader.now (asked_limits limits.now.pairs limits.now.size limits.now.depth)) out.old out.new wanted.new result }
     ensures refused { result ≡ 3 → IsRefused (RefusesPair writer.now reader.now) out.old out.new wanted.new }
     ensures nothing { 3 < result → IsUntouched out.old out.new wanted.new }
     ensures known { (result ≤ 3) ⊎ (result ≡ 5) ⊎ (result ≡ 64) }
@@ -82,9 +83,8 @@ pub extern "C" fn avrojudge_judge_json_text(
     let Some(limits) = limits_of(limits) else {
         return put_nothing(status::USAGE, wanted);
     };
-    // The whole text is kept: of its front in this form no clause of `judge_text` speaks.
-    match judge_text(alloc, writer, reader, &limits, Form::Json, usize::MAX) {
-        Ok(whole) => tell(&whole.answer, out, wanted),
+    match judge_text(alloc, writer, reader, &limits, Form::Json, out.len()) {
+        Ok(cut) => tell_cut(&cut, out, wanted),
         Err(refusal) => tell_refusal(alloc, refusal, out, wanted),
     }
 }
@@ -116,7 +116,7 @@ pub extern "C" fn avrojudge_explain_text(
     }
 }
 
-/// The same as `avrojudge_explain_text`, with a line of JSON for the text, of which no clause says what it is.
+/// The same as `avrojudge_explain_text`, with a line of JSON for the text.
 #[unsafe(no_mangle)]
 pub extern "C" fn avrojudge_explain_json_text(
     alloc: Global,
@@ -127,6 +127,7 @@ pub extern "C" fn avrojudge_explain_json_text(
     wanted: &mut usize,
 ) -> u32
     ensures answered { result ≤ 2 → IsTold (λ _. ExplainStatus writer.now reader.now (asked_or max_pairs 4194304)) out.old out.new wanted.new result }
+    ensures json { result ≤ 2 → IsTold (ExplainJson writer.now reader.now (asked_or max_pairs 4194304)) out.old out.new wanted.new result }
     ensures refused { result ≡ 3 → IsRefused (RefusesPair writer.now reader.now) out.old out.new wanted.new }
     ensures nothing { 3 < result → IsUntouched out.old out.new wanted.new }
     ensures known { (result ≤ 3) ⊎ (result ≡ 5) ⊎ (result ≡ 64) }
