@@ -40,6 +40,7 @@ PROGRAM: Roots = (
     ("Rattle.avro_tool.specs.ModeAnswer", "ModeAnswer"),
     ("Rattle.avro_tool.specs.EachAnswer", "EachAnswer"),
     ("Rattle.avro_tool.specs.KeptCertificates", "AddsClosed"),
+    ("Rattle.avro_tool.specs.HeaderText", "IsHeaderTold"),
     ("Rattle.avro_tool.specs.DefaultLimits", "default_limits"),
     ("Rattle.avro_answer.specs.JudgeAnswer", "StatusAnswer"),
     ("Rattle.avro_answer.specs.JsonAnswer", "IsJudgedLine"),

@@ -1,3 +1,4 @@
 pub mod EachLines
+pub mod Headers
 pub mod Kept
 pub mod Verdicts

@@ -4,8 +4,9 @@
 //! `explain_pair`, `tell_confirmed`, `tell_schema`, `tell_datum`); that the lines of `history`, as text and as JSON, are those of its
 //! files, in their order, with the worst status, and that the certificates that are kept confirm their schemas (`judge_each`,
 //! `certify_each`); that `pipe` is a copy of what it takes (`pipe_from`); the counts of `check` (`counts_of`), and their line of JSON
-//! (`tell_file_counts`); by which schema `show` shows data (`shown_schema`); the bytes of the file of a refutation (`put_block`); and
-//! that `Watched`, an input around another for `--progress`, takes, ends and counts as the other does. The rest is safe, and returns.
+//! (`tell_file_counts`); that `header` prints the text of the schema of the header that it takes, or the line of all its metadata
+//! (`tell_header`); by which schema `show` shows data (`shown_schema`); the bytes of the file of a refutation (`put_block`); and that
+//! `Watched`, an input around another for `--progress`, takes, ends and counts as the other does. The rest is safe, and returns.
 //!
 //! `run` makes an `Output` of the writer for the answers, and the commands put into that. No failed call of it is retried.
 #![tactic(auto)]

@@ -1,5 +1,14 @@
 //! Printing what the header of a container contains.
 
+ghost use Rattle.std.specs.Prelude.{◌≡◌, ◌++◌, ◌∷◌, [], List, ℕ, IfOk, OnOk, string_bytes, encode_utf8_all};
+ghost use Rattle.serde_json.specs.View.{view};
+ghost use Rattle.serde_json.specs.Written.{compact_text};
+ghost use Rattle.avro_answer.specs.JsonAnswer.{json_line};
+ghost use Rattle.avro_file.specs.Parts.{properties_of};
+ghost use Rattle.avro_tool.specs.DefaultLimits.{default_limits};
+ghost use Rattle.avro_tool.specs.FoundStatus.{finding_status};
+ghost use Rattle.avro_tool.specs.HeaderText.{IsHeaderLine, IsHeaderTold, metadata_tree};
+
 use crate::Finding;
 use crate::failure::Failure;
 use crate::files::container::open_container;
@@ -19,44 +28,106 @@ pub(crate) fn show_header<'a, R: Files + AllocGlobal, O: Output>(
     out: &mut O,
 ) -> Result<Finding, Failure<'a>> {
     let mut input = open_container(rt, word)?;
-    match header_line(rt.alloc(), &mut input, is_metadata) {
-        Ok(line) => print_bytes(out, &line)?,
-        Err(error) => return Err(Failure::of_container(word, error)),
-    }
-    Ok(Finding::Good)
+    tell_header(rt.alloc(), &mut input, word, is_metadata, out)
 }
 
-/// The line to print for a header.
+/// Prints the same of the container with which an input begins.
+fn tell_header<'a, I: Input, O: Output>(
+    alloc: Global,
+    input: &mut I,
+    word: &'a str,
+    is_metadata: bool,
+    out: &mut O,
+) -> Result<Finding, Failure<'a>>
+    ensures told { OnOk result ((line : List ℕ) × IsHeaderTold I.gives input.old input.new default_limits.header is_metadata line × O.keeps out.old line out.new) }
+    ensures flushed { OnOk result (O.flushed out.new) }
+    ensures good { IfOk result (λ f. finding_status f ≡ 0) }
+{
+    match header_line(alloc, input, is_metadata) {
+        Ok(line) => {
+            print_bytes(out, &line)?;
+            Ok(Finding::Good)
+        }
+        Err(error) => Err(Failure::of_container(word, error)),
+    }
+}
+
+/// The line to print for the header with which an input begins.
 fn header_line<I: Input>(
     alloc: Global,
     input: &mut I,
     is_metadata: bool,
-) -> Result<Vec<u8>, CopyError> {
+) -> Result<Vec<u8>, CopyError>
+    ensures { IfOk result (λ line. IsHeaderTold I.gives input.old input.new default_limits.header is_metadata line.items) }
+{
     let metadata = read_metadata(alloc, input, &FileLimits::default())?;
-    let Some(text) = schema_text(&metadata) else {
+    let line = line_of(alloc, &metadata, is_metadata)?;
+    Ok(line)
+}
+
+/// The line to print for a header with this metadata.
+fn line_of(
+    alloc: Global,
+    metadata: &[(String, Vec<u8>)],
+    is_metadata: bool,
+) -> Result<Vec<u8>, CopyError>
+    ensures { IfOk result (λ line. IsHeaderLine is_metadata (properties_of metadata.now) line.items) }
+{
+    let Some(text) = schema_text(metadata) else {
         return Err(CopyError::NoSchema);
     };
-    let mut line = if is_metadata {
-        display_of(alloc, &metadata)?.into_bytes()
+    if is_metadata {
+        let line = metadata_line(alloc, metadata)?;
+        Ok(line)
     } else {
-        text.to_vec(alloc)?
-    };
+        let line = text_line(alloc, text)?;
+        Ok(line)
+    }
+}
+
+/// A text and a line feed.
+fn text_line(alloc: Global, text: &[u8]) -> Result<Vec<u8>, AllocError>
+    ensures { IfOk result (λ line. line.items ≡ text.now ++ 10 ∷ []) }
+{
+    let mut line = text.to_vec(alloc)?;
+    line.push(b'\n')?;
+    Ok(line)
+}
+
+/// The display of metadata and a line feed.
+fn metadata_line(alloc: Global, metadata: &[(String, Vec<u8>)]) -> Result<Vec<u8>, AllocError>
+    ensures { IfOk result (λ line. line.items ≡ json_line (metadata_tree (properties_of metadata.now))) }
+{
+    let mut line = display_of(alloc, metadata)?.into_bytes();
     line.push(b'\n')?;
     Ok(line)
 }
 
 /// The display of metadata: an object of their keys, in the order of their bytes.
-fn display_of(alloc: Global, metadata: &[(String, Vec<u8>)]) -> Result<String, AllocError> {
+fn display_of(alloc: Global, metadata: &[(String, Vec<u8>)]) -> Result<String, AllocError>
+    ensures { IfOk result (λ text. string_bytes text ≡ compact_text (metadata_tree (properties_of metadata.now))) }
+{
+    let tree = tree_of(alloc, metadata)?;
+    let text = tree.to_string(alloc)?;
+    Ok(text)
+}
+
+/// Metadata as an object of their keys.
+fn tree_of(alloc: Global, metadata: &[(String, Vec<u8>)]) -> Result<Value, AllocError>
+    ensures { IfOk result (λ tree. view tree ≡ metadata_tree (properties_of metadata.now)) }
+{
     let mut members: Map<String, Value> = Map::new(alloc);
     for (key, content) in metadata {
         let key = String::from_str(alloc, key)?;
         members.insert(key, Value::String(bytes_text(alloc, content)?))?;
     }
-    Value::Object(members).to_string(alloc)
+    Ok(Value::Object(members))
 }
 
 /// The display of bytes: a text of one character for each, whose code is the byte's value.
-fn bytes_text(alloc: Global, bytes: &[u8]) -> Result<String, AllocError> {
+fn bytes_text(alloc: Global, bytes: &[u8]) -> Result<String, AllocError>
+    ensures { IfOk result (λ text. string_bytes text ≡ encode_utf8_all bytes.now) }
+{
     let mut text = String::new(alloc);
     for byte in bytes {
         text.push(char::from(*byte))?;
