@@ -50,6 +50,7 @@ PROGRAM: Roots = (
     ("Rattle.avro_answer.specs.ConfirmAnswer", "SetsJson"),
     ("Rattle.avro_answer.specs.SchemaAnswer", "NodesAnswer"),
     ("Rattle.avro_answer.specs.DataRead", "IsDatumTold"),
+    ("Rattle.avro_file.specs.HeaderTaken", "TakesHeaderFault"),
     ("Rattle.avro_container.specs.Checking", "IsWhole"),
     ("Rattle.avro_container.specs.Checking", "IsFaulty"),
     ("Rattle.avro_container.specs.Copying", "CopiesFile"),

@@ -1,5 +1,5 @@
--- The members of the properties that are left, after one more was put; and no member is a float.
-use Rattle.std.proofs.Common.{◌≡◌, ℕ, ◌+◌, ◌<◌, Bool, true, false, List, [], ◌∷◌, length, get_or, drop, String, Vec, Global, Ordering, Less, Equal, Greater, string_bytes, string_cmp, nat_cmp, rules, refl, sym, ap, ◌∙◌}
+-- The members of the properties that are left, after one more was put; that no member is a float; and a header without a schema.
+use Rattle.std.proofs.Common.{◌≡◌, ℕ, ◌+◌, ◌<◌, Bool, true, false, List, [], ◌∷◌, ◌++◌, length, get_or, drop, None, codes, String, Vec, Global, Ordering, Less, Equal, Greater, string_bytes, string_cmp, nat_cmp, rules, refl, sym, ap, subst, ◌∙◌, arith, append-nil, length-append}
 use Rattle.std.proofs.lemmas.List.{drop_more}
 use Rattle.std.specs.BTreeMap.{insert_entry}
 use Rattle.std.specs.Cmp.Lexicographic.{slice_cmp}
@@ -10,7 +10,10 @@ use Rattle.serde_json.specs.View.{view, members_view}
 use Rattle.serde_json.specs.Written.{has_float, members_have_float}
 use Rattle.serde_json.specs.declared.value.Value.{Value, the_lemmas}
 use Rattle.serde_json.proofs.Views.{Entry, members_view-insert_entry}
-use Rattle.avro_file.specs.File.{Property}
+use Rattle.avro_file.specs.File.{Property, property, magic}
+use Rattle.avro_file.specs.FileFault.{FileFault, in_header, no_schema}
+use Rattle.avro_file.specs.HeaderFails.{HeaderFails, MetadataStands}
+use Rattle.avro_file.specs.HeaderTaken.{TakesMetadata, TakesHeaderFault}
 use Rattle.avro_file.specs.Parts.{properties_of}
 use Rattle.avro_tool.specs.HeaderText.{put_properties}
 
@@ -51,3 +54,28 @@ put_text k t (member l e ms) h = placed (slice_cmp nat_cmp k l) k l t e ms (put 
 pub all_texts : (ps : List Property) (ms : Members) → members_have_float ms ≡ false → members_have_float (put_properties ps ms) ≡ false
 all_texts [] ms h = h
 all_texts (p ∷ ps) ms h = all_texts ps (put p.name (string (encode_utf8_all p.content)) ms) (put_text p.name (encode_utf8_all p.content) ms h)
+
+-- metadata without a schema was taken
+pub lacks_schema : {I : Type 0} (gives : I → List ℕ → I → Type 0) (ended : I → Type 0) (from to : I) (limit : ℕ) (all : List Property) (f : FileFault)
+    → TakesMetadata gives from to limit all → (f ≡ in_header no_schema) × (property (codes "avro.schema") all ≡ None)
+    → TakesHeaderFault gives ended from to limit f
+lacks_schema gives ended from to limit all f m h =
+    let long : length m.bytes ≡ 4 + length (m.metadata ++ m.sync) = ap length m.stands.split ∙ length-append magic (m.metadata ++ m.sync) in
+    let parts = length-append m.metadata m.sync in
+    let marker = m.marker in
+    let within = m.within in record {
+      bytes = m.bytes;
+      taken = m.taken;
+      stands = (
+        no_schema,
+        h.0,
+        HeaderFails.schema_lacks all (record {
+          metadata = m.metadata;
+          sync = m.sync;
+          rest = [];
+          stands = subst (λ (rest : List ℕ). MetadataStands all m.bytes m.metadata rest) (sym (append-nil m.sync)) m.stands;
+          marker = marker;
+          within = omega (arith, long, parts, marker, within);
+        }) h.1,
+      );
+    }

@@ -1,13 +1,20 @@
 //! Printing what the header of a container contains.
 
-ghost use Rattle.std.specs.Prelude.{◌≡◌, ◌++◌, ◌∷◌, [], List, ℕ, IfOk, OnOk, string_bytes, encode_utf8_all};
+ghost use Rattle.std.specs.Prelude.{◌≡◌, ◌++◌, ◌∷◌, [], List, ℕ, IfOk, OnOk, Err, Some, None, codes, string_bytes, encode_utf8_all};
+ghost use Rattle.std.specs.Result.{IfErr};
 ghost use Rattle.serde_json.specs.View.{view};
 ghost use Rattle.serde_json.specs.Written.{compact_text};
 ghost use Rattle.avro_answer.specs.JsonAnswer.{json_line};
+ghost use Rattle.avro_file.specs.File.{property};
+ghost use Rattle.avro_file.specs.FileFault.{FileFault, in_header, no_schema};
+ghost use Rattle.avro_file.specs.FileSeen.{file_fault};
+ghost use Rattle.avro_file.specs.HeaderTaken.{TakesHeaderFault};
 ghost use Rattle.avro_file.specs.Parts.{properties_of};
+ghost use Rattle.avro_file.specs.declared.error.CopyError.{CopyError};
 ghost use Rattle.avro_tool.specs.DefaultLimits.{default_limits};
 ghost use Rattle.avro_tool.specs.FoundStatus.{finding_status};
 ghost use Rattle.avro_tool.specs.HeaderText.{IsHeaderLine, IsHeaderTold, metadata_tree};
+ghost use Rattle.avro_tool.specs.declared.failure.Failure.TheVariants.{Container};
 
 use crate::Finding;
 use crate::failure::Failure;
@@ -42,6 +49,8 @@ fn tell_header<'a, I: Input, O: Output>(
     ensures told { OnOk result ((line : List ℕ) × IsHeaderTold I.gives input.old input.new default_limits.header is_metadata line × O.keeps out.old line out.new) }
     ensures flushed { OnOk result (O.flushed out.new) }
     ensures good { IfOk result (λ f. finding_status f ≡ 0) }
+    ensures refused { (e : CopyError) (f : FileFault) → result ≡ Err (Container word.exit e) → file_fault e ≡ Some f
+        → TakesHeaderFault I.gives I.ended input.old input.new default_limits.header f }
 {
     match header_line(alloc, input, is_metadata) {
         Ok(line) => {
@@ -58,7 +67,8 @@ fn header_line<I: Input>(
     input: &mut I,
     is_metadata: bool,
 ) -> Result<Vec<u8>, CopyError>
-    ensures { IfOk result (λ line. IsHeaderTold I.gives input.old input.new default_limits.header is_metadata line.items) }
+    ensures told { IfOk result (λ line. IsHeaderTold I.gives input.old input.new default_limits.header is_metadata line.items) }
+    ensures refused { IfErr result (λ e. (f : FileFault) → file_fault e ≡ Some f → TakesHeaderFault I.gives I.ended input.old input.new default_limits.header f) }
 {
     let metadata = read_metadata(alloc, input, &FileLimits::default())?;
     let line = line_of(alloc, &metadata, is_metadata)?;
@@ -71,7 +81,8 @@ fn line_of(
     metadata: &[(String, Vec<u8>)],
     is_metadata: bool,
 ) -> Result<Vec<u8>, CopyError>
-    ensures { IfOk result (λ line. IsHeaderLine is_metadata (properties_of metadata.now) line.items) }
+    ensures told { IfOk result (λ line. IsHeaderLine is_metadata (properties_of metadata.now) line.items) }
+    ensures refused { IfErr result (λ e. (f : FileFault) → file_fault e ≡ Some f → (f ≡ in_header no_schema) × (property (codes "avro.schema") (properties_of metadata.now) ≡ None)) }
 {
     let Some(text) = schema_text(metadata) else {
         return Err(CopyError::NoSchema);
