@@ -2,7 +2,7 @@
 
 use crate::named_place::{field_name, push_all, push_branch};
 use crate::type_names::node_at;
-use avro_compare::{Aim, At, FaultKind, Names, compare};
+use avro_compare::{Target, At, FaultKind, Names, compare};
 use avro_judge::{Refutation, Verdict};
 use avro_schema::{Datum, Memory, Node, NodeId, Schema};
 use std::alloc::{AllocError, Global};
@@ -143,7 +143,7 @@ fn branch_below<'a>(
 /// An item of an array, and what it is for.
 fn item_below<'a>(names: &Names<'_>, part: &Part<'_>, item: Option<&'a Datum>) -> Option<Part<'a>> {
     let w = node_at(names.writer(), part.w)?.items()?;
-    let r = node_at(names.reader(), aimed(names, part))?.items()?;
+    let r = node_at(names.reader(), targeted(names, part))?.items()?;
     Some(Part { datum: item?, w, r })
 }
 
@@ -154,7 +154,7 @@ fn value_below<'a>(
     entry: Option<&'a (String, Datum)>,
 ) -> Option<Part<'a>> {
     let w = node_at(names.writer(), part.w)?.values()?;
-    let r = node_at(names.reader(), aimed(names, part))?.values()?;
+    let r = node_at(names.reader(), targeted(names, part))?.values()?;
     Some(Part {
         datum: &entry?.1,
         w,
@@ -170,7 +170,7 @@ fn field_below<'a>(
     index: usize,
     datum: &'a Datum,
 ) -> Result<Option<Part<'a>>, Memory> {
-    let records = compare(alloc, names, part.w, aimed(names, part))?;
+    let records = compare(alloc, names, part.w, targeted(names, part))?;
     for field in &records.fields {
         match field.1 {
             At::Pair(w, r) if field.0 == index => return Ok(Some(Part { datum, w, r })),
@@ -181,10 +181,10 @@ fn field_below<'a>(
 }
 
 /// The reader's node that a part is for: the branch that takes it, if it is for a union.
-fn aimed(names: &Names<'_>, part: &Part<'_>) -> NodeId {
-    match names.aim(part.w, part.r) {
-        Aim::To(_, node) => node,
-        Aim::Fault(_) => part.r,
+fn targeted(names: &Names<'_>, part: &Part<'_>) -> NodeId {
+    match names.target(part.w, part.r) {
+        Target::To(_, node) => node,
+        Target::Fault(_) => part.r,
     }
 }
 
@@ -195,7 +195,7 @@ fn missing_field<'a>(
     part: &Part<'_>,
     index: usize,
 ) -> Option<&'a str> {
-    let record = node_at(reader, aimed(names, part))?;
+    let record = node_at(reader, targeted(names, part))?;
     field_name(record, index)
 }
 

@@ -1,4 +1,4 @@
-pub mod Aims
+pub mod Targets
 pub mod Entries
 pub mod LeadPairs
 pub mod Leading

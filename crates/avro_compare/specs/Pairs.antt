@@ -10,8 +10,8 @@ use Rattle.avro_compare.specs.Seen.{cause_of}
 use Rattle.avro_compare.specs.Source.{reader_field}
 use Rattle.avro_compare.specs.declared.comparison.At.{At}
 use Rattle.avro_compare.specs.declared.comparison.At.TheVariants.{Ignored, Pair}
-use Rattle.avro_compare.specs.declared.comparison.Aim.{Aim}
-use Rattle.avro_compare.specs.declared.comparison.Aim.TheVariants.{Fault, To}
+use Rattle.avro_compare.specs.declared.comparison.Target.{Target}
+use Rattle.avro_compare.specs.declared.comparison.Target.TheVariants.{Fault, To}
 use Rattle.avro_compare.specs.declared.error.FaultKind.TheVariants.{NoBranch, NoMatch}
 use Rattle.avro_compare.specs.declared.matching.Outcome.{Outcome}
 
@@ -35,28 +35,28 @@ wrapped None resolved = resolved
 wrapped (Some k) resolved = result_map (Value.union k) resolved
 
 -- what resolution gives where a pair of nodes leads
-abbrev pub aimed : List Node → Aim → (Node → Resolved) → Resolved
-aimed reader (Aim.Fault kind) resolve = Err (fault_here (cause_of kind))
-aimed reader (Aim.To branch q) resolve = wrapped branch (resolve (node_at reader q.0))
+abbrev pub targeted : List Node → Target → (Node → Resolved) → Resolved
+targeted reader (Target.Fault kind) resolve = Err (fault_here (cause_of kind))
+targeted reader (Target.To branch q) resolve = wrapped branch (resolve (node_at reader q.0))
 
 -- where a pair of nodes leads into a reader's union: to its first branch that matches
-abbrev pub branch_aim : List ℕ → Option ℕ → Aim
-branch_aim ids None = Fault NoBranch
-branch_aim ids (Some k) = To (Some k) (record { 0 = unwrap_or (slice_get ids k) 0 })
+abbrev pub branch_target : List ℕ → Option ℕ → Target
+branch_target ids None = Fault NoBranch
+branch_target ids (Some k) = To (Some k) (record { 0 = unwrap_or (slice_get ids k) 0 })
 
 -- where a pair of nodes leads, if the writer's is not a union: by the first branch of a reader's union that matches, or
 -- otherwise to the reader's node itself, if it matches
-abbrev pub aim_of : List Node → List Node → Node → NodeId → Node → Aim
-aim_of writer reader n r (Node.union ids) = branch_aim ids (first_match writer reader n ids)
-aim_of writer reader n r q = cond (is_match writer reader n q) (To None r) (Fault NoMatch)
+abbrev pub target_of : List Node → List Node → Node → NodeId → Node → Target
+target_of writer reader n r (Node.union ids) = branch_target ids (first_match writer reader n ids)
+target_of writer reader n r q = cond (is_match writer reader n q) (To None r) (Fault NoMatch)
 
 -- the same of the nodes of two ids
-abbrev pub aim_at : List Node → List Node → NodeId → NodeId → Aim
-aim_at writer reader w r = aim_of writer reader (node_at writer w.0) r (node_at reader r.0)
+abbrev pub target_at : List Node → List Node → NodeId → NodeId → Target
+target_at writer reader w r = target_of writer reader (node_at writer w.0) r (node_at reader r.0)
 
 -- a pair leads there, whatever is resolved
-abbrev pub IsAim : List Node → List Node → Node → Node → Aim → Type 0
-IsAim writer reader w r aim = (resolve : Node → Resolved) → through writer reader w r resolve ≡ aimed reader aim resolve
+abbrev pub IsTarget : List Node → List Node → Node → Node → Target → Type 0
+IsTarget writer reader w r target = (resolve : Node → Resolved) → through writer reader w r resolve ≡ targeted reader target resolve
 
 -- the id of the node of an array's items
 abbrev pub item_id : Node → ℕ

@@ -4,10 +4,10 @@ use Rattle.avro_schema.specs.Node.{Node, FieldNode, node_at, symbols_of}
 use Rattle.avro_schema.specs.declared.schema.NodeId.{NodeId}
 use Rattle.avro_compare.specs.Children.{first_lacking}
 use Rattle.avro_compare.specs.Entries.{AreAscending, entry_at}
-use Rattle.avro_compare.specs.Pairs.{IsSymbol, aim_at, field_for}
+use Rattle.avro_compare.specs.Pairs.{IsSymbol, target_at, field_for}
 use Rattle.avro_compare.specs.Resolve.{enum_as, symbol_at, fields_at}
 use Rattle.avro_compare.specs.Source.{source_of, missing_field}
-use Rattle.avro_compare.specs.declared.comparison.Aim.TheVariants.{To}
+use Rattle.avro_compare.specs.declared.comparison.Target.TheVariants.{To}
 use Rattle.avro_compare.specs.declared.comparison.At.{At}
 use Rattle.avro_compare.specs.declared.comparison.At.TheVariants.{Ignored}
 use Rattle.avro_compare.specs.declared.comparison.Comparison.{Comparison}
@@ -49,8 +49,8 @@ pub record AreInside (w q : Node) (p : Comparison) : Type 0 where
 
 -- what is kept of a pair of nodes is where it leads; and where this is to the reader's node itself, what is inside
 pub record IsComparison (writer reader : List Node) (p : Comparison) : Type 0 where
-  pub aims : p.aim ≡ aim_at writer reader p.w p.r
-  pub inside : (q : NodeId) → p.aim ≡ To None q → AreInside (node_at writer p.w.0) (node_at reader p.r.0) p
+  pub targets : p.target ≡ target_at writer reader p.w p.r
+  pub inside : (q : NodeId) → p.target ≡ To None q → AreInside (node_at writer p.w.0) (node_at reader p.r.0) p
 
 -- the same of each of several
 abbrev pub AreComparisons : List Node → List Node → List Comparison → Type 0

@@ -10,10 +10,10 @@ ghost use Rattle.avro_compare.specs.Leads.{branch_leads, field_lead, field_leads
 ghost use Rattle.avro_compare.specs.Planned.{AreInside, AreSourcesFrom, IsComparison};
 ghost use Rattle.avro_compare.specs.Resolve.{fields_at};
 ghost use Rattle.avro_compare.specs.Source.{source_of};
-ghost use Rattle.avro_compare.specs.declared.comparison.Aim.TheVariants.{To};
+ghost use Rattle.avro_compare.specs.declared.comparison.Target.TheVariants.{To};
 ghost use Rattle.avro_compare.specs.inside.Led.{led_by};
 
-use crate::comparison::{Aim, Comparison, Lead, Step};
+use crate::comparison::{Target, Comparison, Lead, Step};
 use crate::entries::{first_entry, rest_entries};
 use crate::names::Names;
 use crate::sourcing::node_of_field;
@@ -40,10 +40,10 @@ fn has_fault_of_nodes(names: &Names, n: &Node, q: &Node, pair: &Comparison) -> b
 {
     match n {
         Node::Union(_) => false,
-        _ => match pair.aim {
-            Aim::Fault(_) => true,
-            Aim::To(Some(_), _) => false,
-            Aim::To(None, _) => has_fault_inside(n, q, pair),
+        _ => match pair.target {
+            Target::Fault(_) => true,
+            Target::To(Some(_), _) => false,
+            Target::To(None, _) => has_fault_inside(n, q, pair),
         },
     }
 }
@@ -97,7 +97,7 @@ fn leads_of_nodes(
     match n {
         Node::Union(ids) => branch_leads(alloc, ids, pair.r),
         _ => match q {
-            Node::Union(_) => choice_leads(alloc, pair.w, pair.aim),
+            Node::Union(_) => choice_leads(alloc, pair.w, pair.target),
             _ => leads_inside(alloc, names, n, q, pair),
         },
     }
@@ -119,13 +119,13 @@ fn branch_leads(alloc: Global, ids: &[NodeId], r: NodeId) -> Result<Vec<Lead>, M
 }
 
 /// The branch of a reader's union that matches, if there is one.
-fn choice_leads(alloc: Global, w: NodeId, aim: Aim) -> Result<Vec<Lead>, Memory>
-    ensures { IfOk result (λ found. found.items ≡ led_by w.0 aim) }
+fn choice_leads(alloc: Global, w: NodeId, target: Target) -> Result<Vec<Lead>, Memory>
+    ensures { IfOk result (λ found. found.items ≡ led_by w.0 target) }
 {
-    match aim {
-        Aim::To(Some(branch), node) => one_lead(alloc, Step::Choice(branch as usize), w, node),
-        Aim::To(None, _) => Ok(Vec::new(alloc)),
-        Aim::Fault(_) => Ok(Vec::new(alloc)),
+    match target {
+        Target::To(Some(branch), node) => one_lead(alloc, Step::Choice(branch as usize), w, node),
+        Target::To(None, _) => Ok(Vec::new(alloc)),
+        Target::Fault(_) => Ok(Vec::new(alloc)),
     }
 }
 
@@ -203,13 +203,13 @@ fn source_by(
     index: usize,
     field: &Field,
 ) -> Option<usize>
-    requires left { (q : NodeId) → pair.now.aim ≡ To None q → AreSourcesFrom index (fields_at (node_at (schema_nodes names.now.0) pair.now.w.0))
+    requires left { (q : NodeId) → pair.now.target ≡ To None q → AreSourcesFrom index (fields_at (node_at (schema_nodes names.now.0) pair.now.w.0))
         (fields_at (node_at (schema_nodes names.now.1) pair.now.r.0)) left.now }
     requires there { slice_get (fields_at (node_at (schema_nodes names.now.1) pair.now.r.0)) index ≡ Some (field_of field.now) }
     ensures { result ≡ source_of (fields_at (node_at (schema_nodes names.now.0) pair.now.w.0)) (field_of field.now) }
 {
-    match pair.aim {
-        Aim::To(None, _) => first_entry(left, index),
+    match pair.target {
+        Target::To(None, _) => first_entry(left, index),
         _ => names.source_at(pair.w, pair.r, index, field),
     }
 }

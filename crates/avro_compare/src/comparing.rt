@@ -9,7 +9,7 @@ ghost use Rattle.avro_compare.specs.inside.NameTables.{symbols_at};
 ghost use Rattle.avro_compare.specs.inside.Noting.{AreIgnored, noted};
 ghost use Rattle.avro_compare.specs.Planned.{AreFor, AreInside, AreComparisons, AreSources, AreSymbols, IsComparison};
 
-use crate::comparison::{Aim, At, Comparison};
+use crate::comparison::{Target, At, Comparison};
 use crate::entries::push_lone;
 use crate::names::Names;
 use crate::sourcing::{fields_of, missing_among, node_of_field, source_kept};
@@ -58,22 +58,22 @@ fn compare_each(
 pub fn compare(alloc: Global, names: &Names, w: NodeId, r: NodeId) -> Result<Comparison, Memory>
     ensures { IfOk result (λ p. IsComparison (schema_nodes names.now.0) (schema_nodes names.now.1) p × (p.w ≡ w) × (p.r ≡ r)) }
 {
-    let aim = names.aim(w, r);
-    match aim {
-        Aim::Fault(_) => Ok(outside(alloc, w, r, aim)),
-        Aim::To(Some(_), _) => Ok(outside(alloc, w, r, aim)),
-        Aim::To(None, _) => compare_inside(alloc, names, w, r, aim),
+    let target = names.target(w, r);
+    match target {
+        Target::Fault(_) => Ok(outside(alloc, w, r, target)),
+        Target::To(Some(_), _) => Ok(outside(alloc, w, r, target)),
+        Target::To(None, _) => compare_inside(alloc, names, w, r, target),
     }
 }
 
 /// The comparison of a pair of nodes that leads to another node or to a fault. Nothing else is kept of it.
-fn outside(alloc: Global, w: NodeId, r: NodeId, aim: Aim) -> Comparison
-    ensures { (result.aim ≡ aim) × (result.w ≡ w) × (result.r ≡ r) }
+fn outside(alloc: Global, w: NodeId, r: NodeId, target: Target) -> Comparison
+    ensures { (result.target ≡ target) × (result.w ≡ w) × (result.r ≡ r) }
 {
     Comparison {
         w,
         r,
-        aim,
+        target,
         missing: None,
         lacking: None,
         fields: Vec::new(alloc),
@@ -88,10 +88,10 @@ fn compare_inside(
     names: &Names,
     w: NodeId,
     r: NodeId,
-    aim: Aim,
+    target: Target,
 ) -> Result<Comparison, Memory>
     ensures { IfOk result (λ p. AreInside (node_at (schema_nodes names.now.0) w.0) (node_at (schema_nodes names.now.1) r.0) p
-        × (p.aim ≡ aim) × (p.w ≡ w) × (p.r ≡ r)) }
+        × (p.target ≡ target) × (p.w ≡ w) × (p.r ≡ r)) }
 {
     let writes = fields_of(names.writer(), w);
     let reads = fields_of(names.reader(), r);
@@ -102,7 +102,7 @@ fn compare_inside(
     Ok(Comparison {
         w,
         r,
-        aim,
+        target,
         missing: missing_among(writes, reads, &found),
         lacking: find_lacking(names, w, r, &symbols),
         fields,

@@ -9,7 +9,7 @@ pub struct Comparison {
     /// The reader's node.
     pub r: NodeId,
     /// Where the pair leads. The members below are empty unless it leads to the reader's node itself.
-    pub aim: Aim,
+    pub target: Target,
     /// The reader's first field without a source and a default.
     pub missing: Option<usize>,
     /// The first of the writer's symbols that the reader lacks and has no default for.
@@ -45,7 +45,7 @@ pub enum At {
 /// Where a pair of nodes leads, if the writer's is not a union: to a fault, or to a reader's node
 /// that is not a union, by a branch of the reader's union where there is one.
 #[derive(Clone, Copy, Debug, PartialEq, Eq)]
-pub enum Aim {
+pub enum Target {
     /// The nodes do not match, or no branch does.
     Fault(FaultKind),
     /// The reader's node, and the branch that it is of.

@@ -1,5 +1,5 @@
-use crate::comparison::Aim;
-use crate::pairs::{aim_by, first_index};
+use crate::comparison::Target;
+use crate::pairs::{target_by, first_index};
 use crate::part_finding::{
     field_numbers_at, source_by_numbers, symbol_by_numbers, symbol_numbers_at, symbol_numbers_of,
 };
@@ -51,7 +51,7 @@ impl<'a> Names<'a> {
     ghost use Rattle.avro_schema.specs.Seen.{field_of};
     ghost use Rattle.avro_schema.specs.SeenSchema.{schema_nodes};
     ghost use Rattle.avro_compare.specs.Match.{first_match_at};
-    ghost use Rattle.avro_compare.specs.Pairs.{IsAim, IsSymbol, aim_at};
+    ghost use Rattle.avro_compare.specs.Pairs.{IsTarget, IsSymbol, target_at};
     ghost use Rattle.avro_compare.specs.Resolve.{enum_as, fields_at, symbol_at};
     ghost use Rattle.avro_compare.specs.Source.{source_of};
 
@@ -150,12 +150,12 @@ impl<'a> Names<'a> {
     }
 
     /// Where a pair of nodes leads.
-    pub fn aim(&self, w: NodeId, r: NodeId) -> Aim
-        ensures aims { result ≡ aim_at (schema_nodes self.now.0) (schema_nodes self.now.1) w r }
-        ensures leads { IsAim (schema_nodes self.now.0) (schema_nodes self.now.1)
+    pub fn target(&self, w: NodeId, r: NodeId) -> Target
+        ensures targets { result ≡ target_at (schema_nodes self.now.0) (schema_nodes self.now.1) w r }
+        ensures leads { IsTarget (schema_nodes self.now.0) (schema_nodes self.now.1)
             (node_at (schema_nodes self.now.0) w.0) (node_at (schema_nodes self.now.1) r.0) result }
     {
-        aim_by(self.types.as_ref(), self.writer, w, self.reader, r)
+        target_by(self.types.as_ref(), self.writer, w, self.reader, r)
     }
 
     /// The seed of the tables, from all names and edges of the two schemas.

@@ -7,13 +7,13 @@ ghost use Rattle.avro_schema.specs.Seen.{ids_of, node_of};
 ghost use Rattle.avro_schema.specs.SeenSchema.{schema_nodes};
 ghost use Rattle.avro_compare.specs.Match.{first_match_at, first_match};
 ghost use Rattle.avro_compare.specs.inside.TypeNames.{AreTypeNames, branches_at, key_cmp, least as least_of, listed, place_in};
-ghost use Rattle.avro_compare.specs.Pairs.{IsAim, IsFirst, aim_at};
+ghost use Rattle.avro_compare.specs.Pairs.{IsTarget, IsFirst, target_at};
 ghost use Rattle.avro_schema.proofs.public.Choices.{HasFewChoices};
 ghost use Rattle.std.specs.BTreeMap.{get};
 ghost use Rattle.indexmap.specs.IndexSet.{keys};
 ghost use Rattle.avro_compare.specs.inside.NamedTypes.{named_type};
 
-use crate::comparison::Aim;
+use crate::comparison::Target;
 use crate::error::FaultKind;
 use crate::matching::matches_by;
 use crate::reader_types::branches_of;
@@ -32,52 +32,52 @@ pub fn first_match(writer: &Schema, w: NodeId, reader: &Schema, r: NodeId) -> Op
 }
 
 /// Where a pair of nodes leads.
-pub fn aim(writer: &Schema, w: NodeId, reader: &Schema, r: NodeId) -> Aim
-    ensures aims { result ≡ aim_at (schema_nodes writer.now) (schema_nodes reader.now) w r }
-    ensures leads { IsAim (schema_nodes writer.now) (schema_nodes reader.now)
+pub fn target(writer: &Schema, w: NodeId, reader: &Schema, r: NodeId) -> Target
+    ensures targets { result ≡ target_at (schema_nodes writer.now) (schema_nodes reader.now) w r }
+    ensures leads { IsTarget (schema_nodes writer.now) (schema_nodes reader.now)
         (node_at (schema_nodes writer.now) w.0) (node_at (schema_nodes reader.now) r.0) result }
 {
-    aim_by(None, writer, w, reader, r)
+    target_by(None, writer, w, reader, r)
 }
 
 /// The same, by the names of types, if they are there.
-pub(crate) fn aim_by(
+pub(crate) fn target_by(
     names: Option<&TypeNames>,
     writer: &Schema,
     w: NodeId,
     reader: &Schema,
     r: NodeId,
-) -> Aim
+) -> Target
     requires { IfSome names (λ n. AreTypeNames (schema_nodes writer.now) (schema_nodes reader.now) n.now) }
-    ensures { result ≡ aim_at (schema_nodes writer.now) (schema_nodes reader.now) w r }
+    ensures { result ≡ target_at (schema_nodes writer.now) (schema_nodes reader.now) w r }
 {
-    aim_to(names, writer, w, reader, r, reader.get(r))
+    target_to(names, writer, w, reader, r, reader.get(r))
 }
 
 /// Where a pair of nodes leads, given the reader's node.
-fn aim_to(
+fn target_to(
     names: Option<&TypeNames>,
     writer: &Schema,
     w: NodeId,
     reader: &Schema,
     r: NodeId,
     node: &Node,
-) -> Aim
+) -> Target
     requires names { IfSome names (λ n. AreTypeNames (schema_nodes writer.now) (schema_nodes reader.now) n.now) }
     requires there { node_of node.now ≡ node_at (schema_nodes reader.now) r.0 }
     requires few { HasFewChoices (node_of node.now) }
-    ensures { result ≡ aim_at (schema_nodes writer.now) (schema_nodes reader.now) w r }
+    ensures { result ≡ target_at (schema_nodes writer.now) (schema_nodes reader.now) w r }
 {
     match node {
         Node::Union(branches) => match first_matched(names, writer, w, reader, r, branches) {
-            Some(found) => Aim::To(Some(found.0 as u32), found.1),
-            None => Aim::Fault(FaultKind::NoBranch),
+            Some(found) => Target::To(Some(found.0 as u32), found.1),
+            None => Target::Fault(FaultKind::NoBranch),
         },
         _ => {
             if matches_by(names, writer, w, reader, r) {
-                Aim::To(None, r)
+                Target::To(None, r)
             } else {
-                Aim::Fault(FaultKind::NoMatch)
+                Target::Fault(FaultKind::NoMatch)
             }
         }
     }

@@ -10,7 +10,7 @@ ghost use Rattle.avro_explain.specs.Details.{details_of, details_of_kind, missin
 ghost use Rattle.avro_explain.specs.inside.Walks.{detail_for, untaken_from, untaken_one};
 
 use crate::found::Detail;
-use avro_compare::{Aim, Comparison, FaultKind, Names, first_entry, rest_entries, symbol_kept};
+use avro_compare::{Target, Comparison, FaultKind, Names, first_entry, rest_entries, symbol_kept};
 use avro_schema::{Field, Memory, Node};
 use std::alloc::Global;
 
@@ -44,10 +44,10 @@ fn details_of_nodes(
 {
     match n {
         Node::Union(_) => Ok(Vec::new(alloc)),
-        _ => match pair.aim {
-            Aim::Fault(kind) => one_detail(alloc, detail_of(kind)),
-            Aim::To(Some(_), _) => Ok(Vec::new(alloc)),
-            Aim::To(None, _) => details_inside(alloc, names, n, q, pair),
+        _ => match pair.target {
+            Target::Fault(kind) => one_detail(alloc, detail_of(kind)),
+            Target::To(Some(_), _) => Ok(Vec::new(alloc)),
+            Target::To(None, _) => details_inside(alloc, names, n, q, pair),
         },
     }
 }

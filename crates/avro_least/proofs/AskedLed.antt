@@ -3,13 +3,13 @@ use Rattle.std.proofs.Common.{◌≡◌, ℕ, suc, Bool, true, false, cond, List
 use Rattle.avro_schema.specs.Node.{Node, FieldNode, branches_of, field_ids}
 use Rattle.avro_schema.specs.declared.schema.NodeId.{NodeId}
 use Rattle.avro_compare.specs.Match.{is_match, first_match}
-use Rattle.avro_compare.specs.Pairs.{aim_of, branch_aim, part_to}
+use Rattle.avro_compare.specs.Pairs.{target_of, branch_target, part_to}
 use Rattle.avro_compare.specs.Entries.{first_entry, rest_entries}
 use Rattle.avro_compare.specs.Planned.{AreFor, AreForFrom, part_or_none}
 use Rattle.avro_compare.specs.Source.{reader_field}
 use Rattle.avro_compare.specs.declared.error.FaultKind.TheVariants.{NoMatch}
-use Rattle.avro_compare.specs.declared.comparison.Aim.{Aim}
-use Rattle.avro_compare.specs.declared.comparison.Aim.TheVariants.{Fault, To}
+use Rattle.avro_compare.specs.declared.comparison.Target.{Target}
+use Rattle.avro_compare.specs.declared.comparison.Target.TheVariants.{Fault, To}
 use Rattle.avro_compare.specs.declared.comparison.At.{At}
 use Rattle.avro_least.specs.Asked.{Asked, Row, asked, asked_branch, asked_inside, rows_from}
 use Rattle.avro_least.specs.SeenAsk.{rows_by, theirs_in}
@@ -18,28 +18,28 @@ use Rattle.avro_compare.proofs.public.Entries.{first_for, rest_for}
 -- ---- Where a pair leads
 
 module _ (writer reader : List Node) where
-  abbrev pub asked_of_aim : Asked → Aim → Asked
-  asked_of_aim own (Fault kind) = Asked.whole
-  asked_of_aim own (To (Some k) q) = Asked.same q.0
-  asked_of_aim own (To None q) = own
+  abbrev pub asked_of_target : Asked → Target → Asked
+  asked_of_target own (Fault kind) = Asked.whole
+  asked_of_target own (To (Some k) q) = Asked.same q.0
+  asked_of_target own (To None q) = own
 
-  by_branch : (ids : List ℕ) (o : Option ℕ) (own : Asked) → asked_of_aim own (branch_aim ids o) ≡ asked_branch ids o
+  by_branch : (ids : List ℕ) (o : Option ℕ) (own : Asked) → asked_of_target own (branch_target ids o) ≡ asked_branch ids o
   by_branch ids None own = refl
   by_branch ids (Some k) own = refl
 
-  by_match : (t : Bool) (r : NodeId) (own : Asked) → asked_of_aim own (cond t (To None r) (Fault NoMatch)) ≡ cond t own Asked.whole
+  by_match : (t : Bool) (r : NodeId) (own : Asked) → asked_of_target own (cond t (To None r) (Fault NoMatch)) ≡ cond t own Asked.whole
   by_match true r own = refl
   by_match false r own = refl
 
-  by_aim : (n q : Node) (r : NodeId) → branches_of n ≡ None → asked_of_aim (asked_inside n q) (aim_of writer reader n r q) ≡ asked writer reader n q
-  by_aim (Node.union ps) q r plain = absurd (grind arith)
-  by_aim n (Node.union ids) r plain = by_branch ids (first_match writer reader n ids) (asked_inside n (Node.union ids))
-  by_aim n q r plain = by_match (is_match writer reader n q) r (asked_inside n q)
+  by_target : (n q : Node) (r : NodeId) → branches_of n ≡ None → asked_of_target (asked_inside n q) (target_of writer reader n r q) ≡ asked writer reader n q
+  by_target (Node.union ps) q r plain = absurd (grind arith)
+  by_target n (Node.union ids) r plain = by_branch ids (first_match writer reader n ids) (asked_inside n (Node.union ids))
+  by_target n q r plain = by_match (is_match writer reader n q) r (asked_inside n q)
 
   -- what a pair asks for, where it leads
-  pub asked_led : (n q : Node) (r : NodeId) (aim led : Aim) → branches_of n ≡ None → aim ≡ aim_of writer reader n r q → aim ≡ led
-      → asked_of_aim (asked_inside n q) led ≡ asked writer reader n q
-  asked_led n q r aim led plain e is = ap (asked_of_aim (asked_inside n q)) (sym is ∙ e) ∙ by_aim n q r plain
+  pub asked_led : (n q : Node) (r : NodeId) (target led : Target) → branches_of n ≡ None → target ≡ target_of writer reader n r q → target ≡ led
+      → asked_of_target (asked_inside n q) led ≡ asked writer reader n q
+  asked_led n q r target led plain e is = ap (asked_of_target (asked_inside n q)) (sym is ∙ e) ∙ by_target n q r plain
 
 -- ---- Fields
 

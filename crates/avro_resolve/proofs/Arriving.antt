@@ -17,10 +17,10 @@ use Rattle.avro_binary.specs.declared.place.Place.{Place}
 use Rattle.avro_binary.specs.declared.leaf.Leaf.{Leaf}
 use Rattle.avro_compare.specs.Fault.{ResolutionFault, fault_here, no_match}
 use Rattle.avro_compare.specs.Match.{Matches, arrays, maps, records, is_match, first_match}
-use Rattle.avro_compare.specs.Pairs.{IsAim, aim_at, aim_of, branch_aim, item_id, value_id, wrapped}
+use Rattle.avro_compare.specs.Pairs.{IsTarget, target_at, target_of, branch_target, item_id, value_id, wrapped}
 use Rattle.avro_compare.specs.Resolve.{Resolved, branch_node, fields_at, into_branch, resolve, result_map, through}
 use Rattle.avro_compare.specs.Seen.{cause_of}
-use Rattle.avro_compare.specs.declared.comparison.Aim.TheVariants.{Fault, To}
+use Rattle.avro_compare.specs.declared.comparison.Target.TheVariants.{Fault, To}
 use Rattle.avro_compare.specs.declared.comparison.At.{At}
 use Rattle.avro_compare.specs.declared.comparison.At.TheVariants.{Pair}
 use Rattle.avro_compare.specs.declared.error.FaultKind.{FaultKind}
@@ -48,13 +48,13 @@ got_at [] k low = absurd (omega (arith, low))
 got_at (i ∷ ids) zero low = refl
 got_at (i ∷ ids) (suc k) low = got_at ids k (omega (arith, low))
 
-aim_arrives : (writer reader : List Node) → is_schema reader ≡ true → (w : Node) (r : NodeId) (n : Node) → node_at reader r.0 ≡ n → ArrivesAt writer reader w r.0 (aim_of writer reader w r n)
-aim_arrives writer reader formed w r (Node.union ids) here = chosen (first_match writer reader w ids) refl
+target_arrives : (writer reader : List Node) → is_schema reader ≡ true → (w : Node) (r : NodeId) (n : Node) → node_at reader r.0 ≡ n → ArrivesAt writer reader w r.0 (target_of writer reader w r n)
+target_arrives writer reader formed w r (Node.union ids) here = chosen (first_match writer reader w ids) refl
   where
     rules : meets_its_rules reader (Node.union ids) ≡ true
     rules = subst (λ (m : Node). meets_its_rules reader m ≡ true) here (MeetRules-from_is_schema reader formed r.0)
 
-    chosen : (o : Option ℕ) → first_match writer reader w ids ≡ o → ArrivesAt writer reader w r.0 (branch_aim ids o)
+    chosen : (o : Option ℕ) → first_match writer reader w ids ≡ o → ArrivesAt writer reader w r.0 (branch_target ids o)
     chosen None e = tt
     chosen (Some k) e =
         let low : k < length ids = omega (arith, first_match-within 0 writer reader w ids k e) in
@@ -64,7 +64,7 @@ aim_arrives writer reader formed w r (Node.union ids) here = chosen (first_match
           matches = first_match_matches writer reader w ids k e;
           plain = plain;
         }
-aim_arrives writer reader formed w r n here = chosen (is_match writer reader w n) refl refl
+target_arrives writer reader formed w r n here = chosen (is_match writer reader w n) refl refl
   where
     chosen : (t : Bool) → is_match writer reader w n ≡ t → IsPlain n → ArrivesAt writer reader w r.0 (cond t (To None r) (Fault NoMatch))
     chosen true e plain = record {
@@ -75,8 +75,8 @@ aim_arrives writer reader formed w r n here = chosen (is_match writer reader w n
     chosen false e plain = tt
 
 -- of the nodes of two ids
-pub pair_arrives : (writer reader : List Node) → is_schema reader ≡ true → (w r : NodeId) → ArrivesAt writer reader (node_at writer w.0) r.0 (aim_at writer reader w r)
-pair_arrives writer reader formed w r = aim_arrives writer reader formed (node_at writer w.0) r (node_at reader r.0) refl
+pub pair_arrives : (writer reader : List Node) → is_schema reader ≡ true → (w r : NodeId) → ArrivesAt writer reader (node_at writer w.0) r.0 (target_at writer reader w r)
+pair_arrives writer reader formed w r = target_arrives writer reader formed (node_at writer w.0) r (node_at reader r.0) refl
 
 -- what resolution to null shows of a pair
 abbrev for_null : Node → Resolved
@@ -99,7 +99,7 @@ own_at writer reader w n h = (chosen (is_match writer reader w n) refl h, refl)
     chosen false m e = absurd cc
 
 -- of a pair that leads to the reader's node itself
-pub own_arrives : (writer reader : List Node) (w : Node) (r : NodeId) → IsAim writer reader w (node_at reader r.0) (To None r) → Arrives writer reader w r.0 None r.0
+pub own_arrives : (writer reader : List Node) (w : Node) (r : NodeId) → IsTarget writer reader w (node_at reader r.0) (To None r) → Arrives writer reader w r.0 None r.0
 own_arrives writer reader w r leads =
     let got = own_at writer reader w (node_at reader r.0) (leads for_null) in
     record { into = refl; matches = got.0; plain = got.1 }
@@ -190,7 +190,7 @@ leaf_goes writer reader w r (Leaf.Symbol index) = refl
 module _ {O : Type 0} (S : List Node → Node → Place → O → Value → Type 0) (writer reader nodes : List Node) (n : Node) (at : At) (w r : NodeId) (leaf : Leaf) (pair : at ≡ Pair w r) where
   -- a leaf that is made where its pair leads
   pub leaf_into : (branch : Option ℕ) (q : NodeId) (u : Value) (result : Result (Made O) AllocError) → is_schema reader ≡ true → fits nodes n (leaf_value leaf) ≡ true
-      → IsAim writer reader (node_at writer w.0) (node_at reader r.0) (To branch q) → LeadsTo reader r.0 branch q.0 → leaf_as (node_at writer w.0) (leaf_value leaf) (node_at reader q.0) ≡ Ok u
+      → IsTarget writer reader (node_at writer w.0) (node_at reader r.0) (To branch q) → LeadsTo reader r.0 branch q.0 → leaf_as (node_at writer w.0) (leaf_value leaf) (node_at reader q.0) ≡ Ok u
       → (fits reader (node_at reader q.0) u ≡ true → IfOk result (λ made. MadeAs (of_node S reader r.0) made (Ok (in_branch branch u))))
       → IfOk result (λ made. StandsAs S writer reader nodes n at made (leaf_value leaf))
   leaf_into branch q u (Err e) formed fit leads to is law = tt
@@ -204,14 +204,14 @@ module _ {O : Type 0} (S : List Node → Node → Place → O → Value → Type
       subst (MadeAs (of_node S reader r.0) made) (sym (e ∙ wrapped_ok branch u)) (law (fits_there writer reader formed wn r.0 branch q.0 v u fit_here e to)))
 
   -- a leaf that the reader's node does not take
-  pub leaf_bad : (branch : Option ℕ) (q : NodeId) (fault : Box KeptFault) (g : ResolutionFault) → IsAim writer reader (node_at writer w.0) (node_at reader r.0) (To branch q)
+  pub leaf_bad : (branch : Option ℕ) (q : NodeId) (fault : Box KeptFault) (g : ResolutionFault) → IsTarget writer reader (node_at writer w.0) (node_at reader r.0) (To branch q)
       → leaf_as (node_at writer w.0) (leaf_value leaf) (node_at reader q.0) ≡ Err g → turned fault.value ≡ g → StandsAs S writer reader nodes n at (Made.Faulty fault) (leaf_value leaf)
   leaf_bad branch q fault g leads is same =
       subst (λ (x : At). StandsAs S writer reader nodes n x (Made.Faulty fault) (leaf_value leaf)) (sym pair)
       (λ are there. leaf_goes writer reader (node_at writer w.0) (node_at reader r.0) leaf ∙ leads (leaf_as (node_at writer w.0) (leaf_value leaf)) ∙ ap (wrapped branch) is ∙ wrapped_fault branch g ∙ ap as_fault (sym same))
 
   -- a leaf whose pair leads nowhere
-  pub leaf_lost : (kind : FaultKind) (fault : Box KeptFault) → IsAim writer reader (node_at writer w.0) (node_at reader r.0) (Fault kind)
+  pub leaf_lost : (kind : FaultKind) (fault : Box KeptFault) → IsTarget writer reader (node_at writer w.0) (node_at reader r.0) (Fault kind)
       → turned fault.value ≡ fault_here (cause_of kind) → StandsAs S writer reader nodes n at (Made.Faulty fault) (leaf_value leaf)
   leaf_lost kind fault leads same =
       subst (λ (x : At). StandsAs S writer reader nodes n x (Made.Faulty fault) (leaf_value leaf)) (sym pair)

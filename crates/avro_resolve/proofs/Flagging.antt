@@ -11,8 +11,8 @@ use Rattle.avro_compare.specs.Planned.{AreSources}
 use Rattle.avro_compare.specs.Resolve.{fields_at}
 use Rattle.avro_compare.specs.Source.{source_of}
 use Rattle.avro_compare.proofs.public.Lists.{seen_next}
-use Rattle.avro_resolve.specs.Copied.{AreCopied, CopiedFrom, IsStraight}
-use Rattle.avro_resolve.proofs.StraightRecords.{empty_get}
+use Rattle.avro_resolve.specs.Copied.{AreCopied, CopiedFrom, IsVerbatim}
+use Rattle.avro_resolve.proofs.VerbatimRecords.{empty_get}
 
 -- the node of a field at hand
 pub id_there : (ws : List Field) (k : ℕ) (f : Field) → k < length ws → f ≡ slice_index_or ws k f → slice_get (field_ids (seen_fields ws)) k ≡ Some f.node.0
@@ -47,13 +47,13 @@ module _ (writer reader : List Node) (ws : List FieldNode) where
 pub copied_by : (writer reader : List Node) {xs ws rs ys : List FieldNode} → xs ≡ ws → rs ≡ ys → AreCopied writer reader xs rs → AreCopied writer reader ws ys
 copied_by writer reader {ws = ws} {rs = rs} e f h = subst (λ (gs : List FieldNode). AreCopied writer reader ws gs) f (subst (λ (gs : List FieldNode). AreCopied writer reader gs rs) e h)
 
--- what is kept of a pair that is straight, at equal nodes
+-- what is kept of a pair that is verbatim, at equal nodes
 module _ (writer reader : List Node) (sources : List (ℕ × ℕ)) where
-  abbrev StraightWith : NodeId → NodeId → Type 0
-  StraightWith w r = IsStraight writer reader w r × AreSources (fields_at (node_at writer w.0)) (fields_at (node_at reader r.0)) sources
+  abbrev VerbatimWith : NodeId → NodeId → Type 0
+  VerbatimWith w r = IsVerbatim writer reader w r × AreSources (fields_at (node_at writer w.0)) (fields_at (node_at reader r.0)) sources
 
-  pub straight_at : {v w q r : NodeId} → v ≡ w → q ≡ r → StraightWith v q → StraightWith w r
-  straight_at {v = v} {r = r} e f h = subst (λ (n : NodeId). StraightWith n r) e (subst (λ (n : NodeId). StraightWith v n) f h)
+  pub verbatim_at : {v w q r : NodeId} → v ≡ w → q ≡ r → VerbatimWith v q → VerbatimWith w r
+  verbatim_at {v = v} {r = r} e f h = subst (λ (n : NodeId). VerbatimWith n r) e (subst (λ (n : NodeId). VerbatimWith v n) f h)
 
 -- sources of the same fields
 pub sources_by : {ws xs rs ys : List FieldNode} (sources : List (ℕ × ℕ)) → ws ≡ xs → rs ≡ ys → AreSources xs ys sources → AreSources ws rs sources

@@ -13,9 +13,9 @@ pub mod MapEntries
 pub mod RecordSlots
 pub mod OnePass
 pub mod Knowing
-pub mod Aiming
+pub mod Targeting
 pub mod CopiedLeaves
-pub mod StraightRecords
+pub mod VerbatimRecords
 pub mod Flagging
 pub mod PiecesMade
 pub mod Places

@@ -7,11 +7,11 @@ use Rattle.avro_schema.specs.declared.schema.NodeId.{NodeId}
 use Rattle.avro_cursor.specs.Encoding.{plain}
 use Rattle.avro_binary.specs.Pieces.{piece}
 use Rattle.avro_compare.specs.Fields.{IsField}
-use Rattle.avro_compare.specs.Pairs.{IsAim}
+use Rattle.avro_compare.specs.Pairs.{IsTarget}
 use Rattle.avro_compare.specs.Planned.{AreSources}
 use Rattle.avro_compare.specs.Resolve.{Resolved, Sourced, fields_at, sourced_at, through}
 use Rattle.avro_compare.specs.Source.{missing_field, source_of}
-use Rattle.avro_compare.specs.declared.comparison.Aim.TheVariants.{To}
+use Rattle.avro_compare.specs.declared.comparison.Target.TheVariants.{To}
 use Rattle.avro_compare.specs.declared.comparison.Comparison.{Comparison}
 
 -- a node is fixed
@@ -44,15 +44,15 @@ abbrev pub AreCopied : List Node → List Node → List FieldNode → List Field
 AreCopied writer reader ws rs = (f : FieldNode) → IsField f rs → (k : ℕ) → source_of ws f ≡ Some k → CopiedFrom writer reader ws f k
 
 -- two records that lead to each other, of which no field is missing, and all fields are copied or have their defaults
-pub record IsStraight (writer reader : List Node) (w r : NodeId) : Type 0 where
-  pub leads : IsAim writer reader (node_at writer w.0) (node_at reader r.0) (To None r)
+pub record IsVerbatim (writer reader : List Node) (w r : NodeId) : Type 0 where
+  pub leads : IsTarget writer reader (node_at writer w.0) (node_at reader r.0) (To None r)
   pub complete : missing_field (fields_at (node_at writer w.0)) (fields_at (node_at reader r.0)) ≡ None
   pub copied : AreCopied writer reader (fields_at (node_at writer w.0)) (fields_at (node_at reader r.0))
 
--- if a flag is set, the pair that is kept at its index is straight, and so are the sources of its fields kept
+-- if a flag is set, the pair that is kept at its index is verbatim, and so are the sources of its fields kept
 abbrev pub IsFlag : List Node → List Node → List Comparison → ℕ → Bool → Type 0
 IsFlag writer reader pairs k flag = (p : Comparison) → slice_get pairs k ≡ Some p → flag ≡ true
-    → IsStraight writer reader p.w p.r × AreSources (fields_at (node_at writer p.w.0)) (fields_at (node_at reader p.r.0)) p.sources.items
+    → IsVerbatim writer reader p.w p.r × AreSources (fields_at (node_at writer p.w.0)) (fields_at (node_at reader p.r.0)) p.sources.items
 
 -- each flag says so of the pair at its index
 abbrev pub AreFlags : List Node → List Node → List Comparison → List Bool → Type 0

@@ -1,12 +1,12 @@
-pub(crate) mod flagging;
-pub(crate) mod keeping;
+pub(crate) mod verbatim;
+pub(crate) mod lookup;
 pub(crate) mod known;
 pub(crate) mod ordering;
 pub(crate) mod parts;
 pub(crate) mod plan_pair;
 pub(crate) mod plan_ref;
 pub(crate) mod plan_table;
-pub(crate) mod walking;
+pub(crate) mod reachable;
 
 use crate::error::ReadResolveError;
 use crate::plan::plan_ref::PlanRef;

@@ -1,20 +1,20 @@
 pub(crate) mod copying;
 pub(crate) mod failing;
-pub(crate) mod filling;
+pub(crate) mod slots;
 pub(crate) mod guided;
-pub(crate) mod making;
-pub(crate) mod recording;
-pub(crate) mod running;
+pub(crate) mod leaves;
+pub(crate) mod record_maker;
+pub(crate) mod list_maker;
 
 use crate::plan::plan_ref::PlanRef;
 use crate::resolving::copying::copy_record;
 use crate::resolving::failing::step_apart;
 use crate::resolving::guided::{Filling, Made, Part, Run};
-use crate::resolving::making::{is_long_leaf, make_apart, make_leaf};
-use crate::resolving::recording::{
+use crate::resolving::leaves::{is_long_leaf, make_apart, make_leaf};
+use crate::resolving::record_maker::{
     fill_next, make_record, next_field_part, skip_fields, start_filling,
 };
-use crate::resolving::running::{
+use crate::resolving::list_maker::{
     make_array, make_map, next_part, put_entry, put_item, repeat_item, start_entries, start_items,
 };
 use avro_binary::{Leaf, Make, Place};
@@ -120,7 +120,7 @@ impl<'p, 'a, 'b, M: Make<At = Place>> Make for Resolving<'p, 'a, 'b, M> {
         match at.at {
             At::Ignored => None,
             At::Pair(..) => {
-                if !self.plan.is_straight(self.plan.index_of(at)) {
+                if !self.plan.is_verbatim(self.plan.index_of(at)) {
                     return None;
                 }
                 self.maker.spare_ends(alloc)

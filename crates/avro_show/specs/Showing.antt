@@ -64,7 +64,7 @@ IsAt s pair vs k u = (k < values_count vs → IsWritten s pair (value_at vs k) u
 -- which JSON a part of a writer's datum is displayed as: that of what resolution gives for it
 abbrev pub resolved_shows : Schema × Schema → Schema → Part → Data → Type 0
 resolved_shows s t (Part.Written pair id datum) d = (u : Value) × IsWritten s pair (value_of datum.now) u × (d ≡ shown t id u)
-resolved_shows s t (Part.Aimed pair id datum) d = (u : Value) × IsTaken s pair (value_of datum.now) u × (d ≡ shown t id u)
+resolved_shows s t (Part.Targeted pair id datum) d = (u : Value) × IsTaken s pair (value_of datum.now) u × (d ≡ shown t id u)
 resolved_shows s t (Part.Default p) d = plain_shows (schema_nodes t) p d
 resolved_shows s t Part.Null d = d ≡ Data.null
 resolved_shows s t p d = ⊥
@@ -119,7 +119,7 @@ levels_from s n = defaults_depth (schema_nodes s.1) + (n + n)
 -- how many levels a part of a writer's datum has at most
 abbrev pub resolved_levels : Schema × Schema → Part → ℕ
 resolved_levels s (Part.Written pair id datum) = suc (levels_from s (depth (value_of datum.now)))
-resolved_levels s (Part.Aimed pair id datum) = levels_from s (depth (value_of datum.now))
+resolved_levels s (Part.Targeted pair id datum) = levels_from s (depth (value_of datum.now))
 resolved_levels s (Part.Items pair id items) = levels_from s (suc (values_depth (values_of items.now)))
 resolved_levels s (Part.Entries pair id entries) = levels_from s (suc (entries_depth (entries_of entries.now)))
 resolved_levels s (Part.Fields pair id values) = levels_from s (suc (values_depth (values_of values.now)))

@@ -15,7 +15,7 @@ ghost use Rattle.avro_show.specs.Showing.{AreFields, IsTaken, IsWritten, OpensRe
 ghost use Rattle.avro_show.specs.Taken.{is_union, taken_as};
 
 use crate::part::Part;
-use avro_compare::{Aim, fields_of};
+use avro_compare::{Target, fields_of};
 use avro_cursor::text_of;
 use avro_display::{DisplayTable, Opened, node_fields, symbol_text};
 use avro_resolve::{PlanPair, PlanRef};
@@ -33,12 +33,12 @@ pub(crate) fn opened_written<'a>(
     ensures levels { AreBelow (resolved_levels plan.now) (suc (levels_from plan.now (depth (value_of datum.now)))) result }
 {
     let (pair, datum) = out_of_unions(plan, pair, datum);
-    match pair.aim(plan) {
-        Aim::Fault(_) => Opened::Null,
-        Aim::To(None, q) => opened_aimed(plan, table, pair.aimed(plan, None, q), id, datum),
-        Aim::To(Some(branch), q) => opened_branch(
+    match pair.target(plan) {
+        Target::Fault(_) => Opened::Null,
+        Target::To(None, q) => opened_targeted(plan, table, pair.targeted(plan, None, q), id, datum),
+        Target::To(Some(branch), q) => opened_branch(
             table,
-            pair.aimed(plan, Some(branch), q),
+            pair.targeted(plan, Some(branch), q),
             table.node(id).branch(branch),
             datum,
         ),
@@ -93,13 +93,13 @@ fn opened_branch<'a>(
     ensures levels { (s : SeenSchema × SeenSchema) → AreBelow (resolved_levels s) (suc (levels_from s (depth (value_of datum.now)))) result }
 {
     match table.part_opening(id) {
-        Some(opening) => Opened::Branch(opening, Part::Aimed(pair, id, datum)),
+        Some(opening) => Opened::Branch(opening, Part::Targeted(pair, id, datum)),
         None => Opened::Null,
     }
 }
 
 /// Opens what a reader's node that is no union takes of a datum in no union.
-pub(crate) fn opened_aimed<'a>(
+pub(crate) fn opened_targeted<'a>(
     plan: &PlanRef<'_>,
     table: &'a DisplayTable<'a>,
     pair: PlanPair,

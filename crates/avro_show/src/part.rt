@@ -8,7 +8,7 @@ pub enum Part<'a> {
     /// What a writer's datum is for a reader's node.
     Written(PlanPair, Option<NodeId>, &'a Datum),
     /// What a reader's node that is no union takes of a datum in no union.
-    Aimed(PlanPair, Option<NodeId>, &'a Datum),
+    Targeted(PlanPair, Option<NodeId>, &'a Datum),
     /// The items of an array, by the pair of their nodes.
     Items(PlanPair, Option<NodeId>, &'a [Datum]),
     /// The entries of a map, by the pair of the nodes of their values.

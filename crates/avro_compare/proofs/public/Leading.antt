@@ -8,11 +8,11 @@ use Rattle.avro_compare.specs.Children.{first_lacking}
 use Rattle.avro_compare.specs.Fault.{fault_here, no_match}
 use Rattle.avro_compare.specs.Match.{is_match, first_match, first_match_from}
 use Rattle.avro_compare.specs.inside.NameTables.{symbols_at}
-use Rattle.avro_compare.specs.Pairs.{IsAim, aim_at, aim_of, aimed, branch_aim}
+use Rattle.avro_compare.specs.Pairs.{IsTarget, target_at, target_of, targeted, branch_target}
 use Rattle.avro_compare.specs.Planned.{AreFor, AreInside, AreSources, AreSymbols}
 use Rattle.avro_compare.specs.Resolve.{Resolved, branch_node, fields_at, into_branch, result_map}
 use Rattle.avro_compare.specs.Source.{missing_field}
-use Rattle.avro_compare.specs.declared.comparison.Aim.TheVariants.{Fault, To}
+use Rattle.avro_compare.specs.declared.comparison.Target.TheVariants.{Fault, To}
 use Rattle.avro_compare.specs.declared.error.FaultKind.TheVariants.{NoMatch}
 use Rattle.avro_compare.specs.declared.comparison.Comparison.{Comparison}
 
@@ -35,23 +35,23 @@ first_match_matches writer reader w ids k h =
     let same : found.0 ≡ k = omega (arith, found.1) in
     subst (λ (i : ℕ). is_match writer reader w (branch_node reader ids i) ≡ true) same found.2
 
-pub aim_leads : (writer reader : List Node) (w : Node) (r : NodeId) (q : Node) → node_at reader r.0 ≡ q → IsAim writer reader w q (aim_of writer reader w r q)
-aim_leads writer reader w r (Node.union ids) here = λ resolve. chosen resolve (first_match writer reader w ids) refl
+pub target_leads : (writer reader : List Node) (w : Node) (r : NodeId) (q : Node) → node_at reader r.0 ≡ q → IsTarget writer reader w q (target_of writer reader w r q)
+target_leads writer reader w r (Node.union ids) here = λ resolve. chosen resolve (first_match writer reader w ids) refl
   where
-    chosen : (resolve : Node → Resolved) (o : Option ℕ) → first_match writer reader w ids ≡ o → into_branch writer reader w ids o resolve ≡ aimed reader (branch_aim ids o) resolve
+    chosen : (resolve : Node → Resolved) (o : Option ℕ) → first_match writer reader w ids ≡ o → into_branch writer reader w ids o resolve ≡ targeted reader (branch_target ids o) resolve
     chosen resolve None e = refl
     chosen resolve (Some k) e =
         ap (result_map (Value.union k))
         (cond-true (is_match writer reader w (branch_node reader ids k)) (resolve (branch_node reader ids k)) (Err (fault_here no_match)) (first_match_matches writer reader w ids k e))
-aim_leads writer reader w r q here = λ resolve. chosen resolve (is_match writer reader w q)
+target_leads writer reader w r q here = λ resolve. chosen resolve (is_match writer reader w q)
   where
-    chosen : (resolve : Node → Resolved) (t : Bool) → cond t (resolve q) (Err (fault_here no_match)) ≡ aimed reader (cond t (To None r) (Fault NoMatch)) resolve
+    chosen : (resolve : Node → Resolved) (t : Bool) → cond t (resolve q) (Err (fault_here no_match)) ≡ targeted reader (cond t (To None r) (Fault NoMatch)) resolve
     chosen resolve true = ap resolve (sym here)
     chosen resolve false = refl
 
 -- the same of the nodes of two ids
-pub pair_leads : (writer reader : List Node) (w r : NodeId) → IsAim writer reader (node_at writer w.0) (node_at reader r.0) (aim_at writer reader w r)
-pair_leads writer reader w r = aim_leads writer reader (node_at writer w.0) r (node_at reader r.0) refl
+pub pair_leads : (writer reader : List Node) (w r : NodeId) → IsTarget writer reader (node_at writer w.0) (node_at reader r.0) (target_at writer reader w r)
+pair_leads writer reader w r = target_leads writer reader (node_at writer w.0) r (node_at reader r.0) refl
 
 -- what is kept inside, at equal nodes
 pub inside_by : (writer reader : List Node) {w v r q : NodeId} (p : Comparison) → w ≡ v → r ≡ q → AreInside (node_at writer w.0) (node_at reader r.0) p → AreInside (node_at writer v.0) (node_at reader q.0) p

@@ -12,7 +12,7 @@ ghost use Rattle.avro_least.specs.Asks.{AreTaken, IsKept, view_of};
 ghost use Rattle.avro_least.specs.SeenAsk.{rows_by, rows_of, theirs_in};
 ghost use Rattle.avro_least.specs.inside.Parts.{nodes_of};
 
-use avro_compare::{Aim, At, Comparison, first_entry, rest_entries};
+use avro_compare::{Target, At, Comparison, first_entry, rest_entries};
 use avro_schema::{Field, Memory, Node, NodeId, Schema};
 use std::alloc::Global;
 
@@ -159,10 +159,10 @@ fn ask_nodes<'a>(
 {
     match from {
         Node::Union(ids) => Ask::Branches(ids),
-        _ => match pair.aim {
-            Aim::Fault(_) => Ask::Whole,
-            Aim::To(Some(_), q) => Ask::Same(q),
-            Aim::To(None, _) => ask_inside(from, to, pair),
+        _ => match pair.target {
+            Target::Fault(_) => Ask::Whole,
+            Target::To(Some(_), q) => Ask::Same(q),
+            Target::To(None, _) => ask_inside(from, to, pair),
         },
     }
 }

@@ -19,11 +19,11 @@ use denote.Ref.{Bor}
 use Rattle.avro_compare.specs.Entries.{first_entry}
 use Rattle.avro_compare.specs.Planned.{AreFor, AreForFrom, part_or_none}
 use Rattle.avro_compare.specs.Match.{is_match}
-use Rattle.avro_compare.specs.Pairs.{IsAim, wrapped, item_id, value_id, branch_id, field_for}
+use Rattle.avro_compare.specs.Pairs.{IsTarget, wrapped, item_id, value_id, branch_id, field_for}
 use Rattle.avro_compare.specs.Resolve.{Resolved, Sourced, bytes_as, enum_as, fields_at, int_as, resolve, resolve_entries, resolve_items, resolve_sources, result_map, string_as, symbol_at, through}
 use Rattle.avro_compare.specs.Source.{missing_field, source_of}
-use Rattle.avro_compare.specs.declared.comparison.Aim.{Aim}
-use Rattle.avro_compare.specs.declared.comparison.Aim.TheVariants.{Fault, To}
+use Rattle.avro_compare.specs.declared.comparison.Target.{Target}
+use Rattle.avro_compare.specs.declared.comparison.Target.TheVariants.{Fault, To}
 use Rattle.avro_compare.specs.declared.comparison.At.{At}
 use Rattle.avro_compare.specs.declared.comparison.At.TheVariants.{Ignored, Pair}
 use Rattle.avro_resolve.specs.declared.resolving.guided.Made.{Made}
@@ -78,7 +78,7 @@ pub record Arrives (writer reader : List Node) (w : Node) (r : ℕ) (branch : Op
   pub plain : is_some (branch_kind (node_at reader q)) ≡ true
 
 -- the same of where a pair leads, if it leads to a node
-abbrev pub ArrivesAt : List Node → List Node → Node → ℕ → Aim → Type 0
+abbrev pub ArrivesAt : List Node → List Node → Node → ℕ → Target → Type 0
 ArrivesAt writer reader w r (Fault kind) = Unit {0}
 ArrivesAt writer reader w r (To branch q) = Arrives writer reader w r branch q.0
 
@@ -215,7 +215,7 @@ next_index Slots.Nothing = 0
 
 -- Two nodes lead to each other, no field is missing, and of the writer's fields it is known what they are for.
 pub record IsWhole (writer reader : List Node) (w r : NodeId) (known : List (ℕ × At)) : Type 0 where
-  pub leads : IsAim writer reader (node_at writer w.0) (node_at reader r.0) (To None r)
+  pub leads : IsTarget writer reader (node_at writer w.0) (node_at reader r.0) (To None r)
   pub complete : missing_field (fields_at (node_at writer w.0)) (fields_at (node_at reader r.0)) ≡ None
   pub fields : AreFor (fields_at (node_at writer w.0)) (fields_at (node_at reader r.0)) known
 

@@ -3,12 +3,12 @@ ghost use Rattle.avro_schema.specs.Node.{field_ids, node_at};
 ghost use Rattle.avro_schema.specs.Seen.{field_of, seen_fields};
 ghost use Rattle.avro_schema.specs.SeenSchema.{schema_nodes};
 ghost use Rattle.avro_compare.specs.Entries.{AreAscending, entry_at};
-ghost use Rattle.avro_compare.specs.Pairs.{IsAim, IsSymbol, branch_id, item_id, value_id};
+ghost use Rattle.avro_compare.specs.Pairs.{IsTarget, IsSymbol, branch_id, item_id, value_id};
 ghost use Rattle.avro_compare.specs.Resolve.{enum_as, fields_at, symbol_at};
 ghost use Rattle.avro_compare.specs.Source.{source_of};
 
 use crate::plan::plan_ref::PlanRef;
-use avro_compare::{Aim, fields_of, source_among};
+use avro_compare::{Target, fields_of, source_among};
 use avro_schema::{Field, NodeId};
 
 /// A writer's node and a reader's, and where a plan may keep the pair.
@@ -48,15 +48,15 @@ impl PlanPair {
 
     /// Where the pair leads, if the writer's node is not a union.
     #[inline(always)]
-    pub fn aim(self, plan: &PlanRef<'_>) -> Aim
-        ensures { IsAim (schema_nodes plan.now.0) (schema_nodes plan.now.1)
+    pub fn target(self, plan: &PlanRef<'_>) -> Target
+        ensures { IsTarget (schema_nodes plan.now.0) (schema_nodes plan.now.1)
             (node_at (schema_nodes plan.now.0) self.w.0) (node_at (schema_nodes plan.now.1) self.r.0) result }
     {
-        plan.aim(self.index, self.w, self.r)
+        plan.target(self.index, self.w, self.r)
     }
 
     /// The pair of the same writer's node and the reader's node that the pair leads to, by a branch where there is one.
-    pub fn aimed(self, plan: &PlanRef<'_>, branch: Option<u32>, q: NodeId) -> PlanPair
+    pub fn targeted(self, plan: &PlanRef<'_>, branch: Option<u32>, q: NodeId) -> PlanPair
         ensures of_writer { result.w ≡ self.w }
         ensures of_reader { result.r ≡ q }
     {

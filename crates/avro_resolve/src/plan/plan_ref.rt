@@ -2,15 +2,15 @@ ghost use Rattle.std.specs.Prelude.{◌≡◌, slice_get};
 ghost use Rattle.avro_resolve.specs.inside.Guided.{kept_or};
 
 use crate::error::{ReadResolveError, ResolveError};
-use crate::plan::flagging::{is_set, straight_kept};
-use crate::plan::keeping::{inside_of, pair_of, part_known, whole_kept};
+use crate::plan::verbatim::{is_set, verbatim_kept};
+use crate::plan::lookup::{inside_of, pair_of, part_known, whole_kept};
 use crate::plan::known::{count, index_in};
 use crate::plan::parts::{branch_of, items_of, values_of};
 use crate::read::{put_planned, read_planned};
 use crate::resolution::put_datum;
 use crate::resolving::guided::Part;
 use avro_binary::{Build, Make, Place};
-use avro_compare::{Aim, At, Comparison, aim, fields_of, missing, part_for, symbol_for};
+use avro_compare::{Target, At, Comparison, target, fields_of, missing, part_for, symbol_for};
 use avro_schema::{Datum, Limits, NodeId, Schema};
 use avro_texts::Seeded;
 use indexmap::IndexSet;
@@ -58,16 +58,16 @@ impl<'a> PlanRef<'a> {
     ghost use Rattle.avro_resolve.specs.inside.Guided.{ArrivesAt, IsWhole, branch_part, known_part, of_node};
     ghost use Rattle.avro_binary.specs.Places.{AreTold};
     ghost use Rattle.avro_schema.specs.WellFormed.{is_schema};
-    ghost use Rattle.avro_compare.specs.Pairs.{IsAim, IsSymbol, aim_at, field_for, item_id, value_id, branch_id};
+    ghost use Rattle.avro_compare.specs.Pairs.{IsTarget, IsSymbol, target_at, field_for, item_id, value_id, branch_id};
     ghost use Rattle.avro_compare.specs.Planned.{AreComparisons, AreFor, AreInside, AreSources, IsComparison};
-    ghost use Rattle.avro_resolve.specs.Copied.{AreFlags, IsStraight};
+    ghost use Rattle.avro_resolve.specs.Copied.{AreFlags, IsVerbatim};
     ghost use Rattle.avro_resolve.specs.Reading.{BuildsResolved};
     ghost use Rattle.avro_resolve.specs.Seen.{StandsForResult};
     ghost use Rattle.avro_compare.specs.Resolve.{enum_as, fields_at, resolve_root, symbol_at};
     ghost use Rattle.avro_compare.specs.Source.{missing_field};
 
     /// The plan of two schemas that keeps these pairs. `parts` holds for each pair the indices of the pairs of its
-    /// parts, `flags` which pairs are straight, and `root` is the index of the roots' pair. A pair that is not at its
+    /// parts, `flags` which pairs are verbatim, and `root` is the index of the roots' pair. A pair that is not at its
     /// index is looked for by its number, where `known` has those of all, and else it is resolved by its names.
     pub(crate) fn new(
         writer: &'a Schema,
@@ -237,8 +237,8 @@ impl<'a> PlanRef<'a> {
 
     /// Where a pair of nodes leads.
     #[inline(always)]
-    pub(crate) fn aim(&self, index: u32, w: NodeId, r: NodeId) -> Aim
-        ensures leads { IsAim (schema_nodes self.now.0) (schema_nodes self.now.1)
+    pub(crate) fn target(&self, index: u32, w: NodeId, r: NodeId) -> Target
+        ensures leads { IsTarget (schema_nodes self.now.0) (schema_nodes self.now.1)
             (node_at (schema_nodes self.now.0) w.0) (node_at (schema_nodes self.now.1) r.0) result }
         ensures arrives { ArrivesAt (schema_nodes self.now.0) (schema_nodes self.now.1) (node_at (schema_nodes self.now.0) w.0) r.0 result }
         ensures formed { is_schema (schema_nodes self.now.1) ≡ true }
@@ -246,20 +246,20 @@ impl<'a> PlanRef<'a> {
         // Its contract says that the schema is well formed.
         let _root = self.reader.root();
         match pair_of(self.pairs, index, w, r) {
-            Some(pair) => pair.aim,
-            None => self.aim_by(w, r),
+            Some(pair) => pair.target,
+            None => self.target_by(w, r),
         }
     }
 
     /// Where a pair of nodes leads, as it is kept where their number is kept, or else by name. It stands apart as well.
     #[cold]
     #[inline(never)]
-    fn aim_by(&self, w: NodeId, r: NodeId) -> Aim
-        ensures { result ≡ aim_at (schema_nodes self.now.0) (schema_nodes self.now.1) w r }
+    fn target_by(&self, w: NodeId, r: NodeId) -> Target
+        ensures { result ≡ target_at (schema_nodes self.now.0) (schema_nodes self.now.1) w r }
     {
         match self.pair_by(w, r) {
-            Some(pair) => pair.aim,
-            None => aim(self.writer, w, self.reader, r),
+            Some(pair) => pair.target,
+            None => target(self.writer, w, self.reader, r),
         }
     }
 
@@ -371,19 +371,19 @@ impl<'a> PlanRef<'a> {
         }
     }
 
-    /// Whether the pair at an index is flagged as straight.
+    /// Whether the pair at an index is flagged as verbatim.
     #[inline(always)]
-    pub(crate) fn is_straight(&self, index: u32) -> bool {
+    pub(crate) fn is_verbatim(&self, index: u32) -> bool {
         is_set(self.flags, index)
     }
 
-    /// The sources of the reader's fields, where the two nodes are kept at the index and are straight.
+    /// The sources of the reader's fields, where the two nodes are kept at the index and are verbatim.
     #[inline(always)]
-    pub(crate) fn straight(&self, index: u32, w: NodeId, r: NodeId) -> Option<&'a [(usize, usize)]>
-        ensures { IfSome result (λ sources. IsStraight (schema_nodes self.now.0) (schema_nodes self.now.1) w r
+    pub(crate) fn verbatim(&self, index: u32, w: NodeId, r: NodeId) -> Option<&'a [(usize, usize)]>
+        ensures { IfSome result (λ sources. IsVerbatim (schema_nodes self.now.0) (schema_nodes self.now.1) w r
             × AreSources (fields_at (node_at (schema_nodes self.now.0) w.0)) (fields_at (node_at (schema_nodes self.now.1) r.0)) sources.now) }
     {
-        straight_kept(self.pairs, self.flags, index, w, r)
+        verbatim_kept(self.pairs, self.flags, index, w, r)
     }
 
     /// The reader's symbol for a writer's.

@@ -18,7 +18,7 @@ ghost use Rattle.avro_binary.specs.declared.place.Place.{Place as SeenPlace};
 ghost use Rattle.avro_resolve.specs.inside.Guided.{AreFitting, AreLeaves, StandsAs, of_node};
 
 use crate::plan::plan_ref::PlanRef;
-use crate::resolving::filling::make_default;
+use crate::resolving::slots::make_default;
 use crate::resolving::guided::{Made, Part};
 use avro_binary::{Leaf, Make, Pieces, Place, piece_of};
 use avro_compare::{At, fields_of, first_entry, rest_entries};
@@ -26,7 +26,7 @@ use avro_schema::{Field, Node, NodeId, Schema};
 use avro_zigzag::starts_shortest;
 use std::alloc::{AllocError, Global};
 
-/// What is made of a record whose pair is straight, or `None` where a field is not spelled as it is written.
+/// What is made of a record whose pair is verbatim, or `None` where a field is not spelled as it is written.
 #[inline(always)]
 pub(crate) fn copy_record<M: Make<At = Place>>(
     alloc: Global,
@@ -43,7 +43,7 @@ pub(crate) fn copy_record<M: Make<At = Place>>(
 {
     match part.at {
         At::Ignored => Ok(None),
-        At::Pair(w, r) => match plan.straight(plan.index_of(part), w, r) {
+        At::Pair(w, r) => match plan.verbatim(plan.index_of(part), w, r) {
             Some(sources) => {
                 let reader = plan.reader();
                 // Its contract says that the schema is well formed.

@@ -2,7 +2,7 @@ use Rattle.std.proofs.Common.{◌≡◌, List, IfOk, ap, subst}
 use Rattle.avro_schema.specs.Seen.{node_of, ids_of}
 use Rattle.avro_schema.specs.SeenSchema.{schema_nodes}
 use Rattle.avro_compare.specs.declared.comparison.Lead.{Lead}
-use Rattle.avro_compare.proofs.public.Aims.{aims_of, plain_kept}
+use Rattle.avro_compare.proofs.public.Targets.{targets_of, plain_kept}
 use Rattle.avro_compare.proofs.FaultsLed.{led_leads}
 use Rattle.avro_compare.proofs.children.leads_of_nodes.Goals as goal
 
@@ -13,6 +13,6 @@ returns-in-Union-q c =
     let pair = c.args.pair.now in
     let n = node_of c.args.n.now in
     let q = node_of c.args.q.now in
-    let aims = aims_of writer reader pair n q c.requires.pair c.requires.from c.requires.to in
-    let led = led_leads writer reader n pair.r pair.w.0 (ids_of c.in-Union-q.field-0.items) q pair.aim (plain_kept c.args.n.now c.in_default.not-Union) (ap node_of c.in-Union-q.is) aims in
+    let targets = targets_of writer reader pair n q c.requires.pair c.requires.from c.requires.to in
+    let led = led_leads writer reader n pair.r pair.w.0 (ids_of c.in-Union-q.field-0.items) q pair.target (plain_kept c.args.n.now c.in_default.not-Union) (ap node_of c.in-Union-q.is) targets in
     subst (λ (ls : List Lead). IfOk c.choice_leads.result (λ found. found.items ≡ ls)) led c.choice_leads.ensures

@@ -11,7 +11,7 @@ use Rattle.avro_compare.specs.Resolve.{field_value, fields_at}
 use Rattle.avro_resolve.proofs.Copies.{copied_by}
 use Rattle.avro_resolve.proofs.Filled.{fitting_all}
 use Rattle.avro_resolve.proofs.Slots.{values_seen}
-use Rattle.avro_resolve.proofs.StraightRecords.{straight_record}
+use Rattle.avro_resolve.proofs.VerbatimRecords.{verbatim_record}
 use Rattle.avro_resolve.proofs.resolving.copying.copy_record.Goals as goal
 
 pub returns-in_ok-out-in-Some-2-clause-stands : goal.returns-in_ok-out-in-Some-2-clause-stands
@@ -35,7 +35,7 @@ returns-in_ok-out-in-Some-2-clause-stands g c = λ nodes name aliases fs vs told
     let copied = copied_by (T c.fields.new.self) (T c.copy_fields.new.maker) c.in-Some.sources.now c.in_ok-start-in-Some.start fields bytes ends read of_reader c.deref.ensures.value
     (λ xs found to sources plain leaves fits starts. subst (λ o. IfSome o (λ made. T c.copy_fields.new.maker (schema_nodes c.reader-reader.result.now) (seen_fields c.fields_of-reads.result.now) to made (map (field_value xs found) (seen_fields c.fields_of-reads.result.now)))) c.in-Some-2.is
     (c.in_ok-fields-in-Some.ensures.stands xs found to told sources plain leaves fits starts)) in
-    straight_record SN writer reader nodes name aliases fs vs bytes ends c.args.part.at w r out formed c.in-Pair.is c.in-Some.ensures.0 spelled fit
+    verbatim_record SN writer reader nodes name aliases fs vs bytes ends c.args.part.at w r out formed c.in-Pair.is c.in-Some.ensures.0 spelled fit
     (λ found own others is whole plain leaves.
     let values = map (field_value ws found) rs in
     let same = values_seen ws rs found in

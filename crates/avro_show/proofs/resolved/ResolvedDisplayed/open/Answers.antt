@@ -4,8 +4,8 @@ use Rattle.avro_show.proofs.resolved.ResolvedDisplayed.open.Goals as goal
 pub returns-in-Written-clause-opens : goal.returns-in-Written-clause-opens
 returns-in-Written-clause-opens c = rw c.in-Written.is (λ d h. c.opened_written.ensures.opens h.0 d h.1 h.2)
 
-pub returns-in-Aimed-clause-opens : goal.returns-in-Aimed-clause-opens
-returns-in-Aimed-clause-opens c = rw c.in-Aimed.is (λ d h. c.opened_aimed.ensures.opens h.0 d h.1 h.2)
+pub returns-in-Targeted-clause-opens : goal.returns-in-Targeted-clause-opens
+returns-in-Targeted-clause-opens c = rw c.in-Targeted.is (λ d h. c.opened_targeted.ensures.opens h.0 d h.1 h.2)
 
 pub returns-in-Default-clause-opens : goal.returns-in-Default-clause-opens
 returns-in-Default-clause-opens c =

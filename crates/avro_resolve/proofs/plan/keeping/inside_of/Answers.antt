@@ -1,9 +1,0 @@
-use Rattle.std.proofs.Common.{◌≡◌, None, rules}
-use Rattle.avro_compare.specs.declared.comparison.Aim.TheVariants.{To}
-use Rattle.avro_resolve.proofs.plan.keeping.inside_of.Goals as goal
-
-pub returns-in-To-None-default : goal.returns-in-To-None-default
-returns-in-To-None-default c = λ writer reader kept.
-    let here = c.in-To-None-default in
-    let own : c.args.pair.now.aim ≡ To None here.field-1 = search rules in
-    kept.inside here.field-1 own
