@@ -21,7 +21,7 @@ use crate::refusal::Refusal;
 use avro_binary::ReadError;
 use avro_resolve::ReadResolveError;
 use avro_schema::{Limits, Memory, Schema};
-use avro_show::Room;
+use avro_show::Scratch;
 use std::alloc::Global;
 
 /// Reads the datum at the start of data after `skip` bytes, whatever follows it, as what it is for a reader's schema if there is one, and
@@ -44,7 +44,7 @@ pub fn read_schemas(
     ensures refused { IfErr result (λ e. IfSome (fault_found e) (IsAllFound (schema_nodes writer.now) (option_map schema_nodes (option_copied reader.entry)) limits.now skip bytes.now)) }
 {
     match DataPlan::new(alloc, writer, reader) {
-        Ok(plan) => plan.tell(alloc, bytes, skip, limits, form, &mut Room::new(alloc)),
+        Ok(plan) => plan.tell(alloc, bytes, skip, limits, form, &mut Scratch::new(alloc)),
         Err(_) => Err(ReadResolveError::Read(ReadError::OutOfMemory)),
     }
 }

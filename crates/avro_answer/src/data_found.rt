@@ -17,7 +17,7 @@ use avro_binary::{Nothing, walk};
 use avro_display::DisplayTable;
 use avro_resolve::{Plan, ReadResolveError};
 use avro_schema::{Limits, Schema};
-use avro_show::{Room, display_read, display_resolved};
+use avro_show::{Scratch, display_read, display_resolved};
 use std::alloc::Global;
 
 /// What stands at the front of data of a schema is all that is found there.
@@ -40,15 +40,15 @@ pub(crate) fn display_for(
     table: &DisplayTable<'_>,
     bytes: &[u8],
     limits: &Limits,
-    room: &mut Room,
+    scratch: &mut Scratch,
 ) -> Result<usize, ReadResolveError>
     ensures shown { schema_nodes table.now ≡ schema_nodes plan.now.1 → IfOk result (λ len. (display : List ℕ)
-        × IsDisplayed (schema_nodes plan.now.0) (Some (schema_nodes plan.now.1)) limits.now bytes.now len display × StandsIn room.new.text room.new.shown display) }
+        × IsDisplayed (schema_nodes plan.now.0) (Some (schema_nodes plan.now.1)) limits.now bytes.now len display × StandsIn scratch.new.text scratch.new.shown display) }
     ensures refused { IfErr result (λ e. IfSome (fault_found e) (IsAllFound (schema_nodes plan.now.0) (Some (schema_nodes plan.now.1)) limits.now 0 bytes.now)) }
 {
     let plan = plan.by_ref();
     one_found(plan.writer());
-    display_resolved(alloc, &plan, table, bytes, limits, room)
+    display_resolved(alloc, &plan, table, bytes, limits, scratch)
 }
 
 /// The same of the datum as it is.
@@ -57,14 +57,14 @@ pub(crate) fn display_plain(
     table: &DisplayTable<'_>,
     bytes: &[u8],
     limits: &Limits,
-    room: &mut Room,
+    scratch: &mut Scratch,
 ) -> Result<usize, ReadResolveError>
     ensures shown { IfOk result (λ len. (display : List ℕ)
-        × IsDisplayed (schema_nodes table.now) None limits.now bytes.now len display × StandsIn room.new.text room.new.shown display) }
+        × IsDisplayed (schema_nodes table.now) None limits.now bytes.now len display × StandsIn scratch.new.text scratch.new.shown display) }
     ensures refused { IfErr result (λ e. IfSome (fault_found e) (IsAllFound (schema_nodes table.now) None limits.now 0 bytes.now)) }
 {
     one_found(table.schema());
-    match display_read(alloc, table, bytes, limits, room) {
+    match display_read(alloc, table, bytes, limits, scratch) {
         Ok(len) => Ok(len),
         Err(error) => Err(ReadResolveError::Read(error)),
     }

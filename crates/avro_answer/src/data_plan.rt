@@ -14,7 +14,7 @@ use avro_device::{Output, WriteOutput};
 use avro_display::{DisplayTable, PutError, Text};
 use avro_resolve::{Plan, ReadResolveError};
 use avro_schema::{Datum, Limits, Memory, Schema};
-use avro_show::Room;
+use avro_show::Scratch;
 use std::alloc::Global;
 use std::marker::Model;
 
@@ -102,13 +102,13 @@ impl<'a> DataPlan<'a> {
         skip: usize,
         limits: &Limits,
         form: Form,
-        room: &mut Room,
+        scratch: &mut Scratch,
     ) -> Result<Vec<u8>, ReadResolveError>
         ensures read { IfOk result (λ text. IsDatumTold (schema_nodes self.now.0) (option_map schema_nodes self.now.1) limits.now form skip bytes.now text.items) }
         ensures refused { IfErr result (λ e. IfSome (fault_found e) (IsAllFound (schema_nodes self.now.0) (option_map schema_nodes self.now.1) limits.now skip bytes.now)) }
     {
         match behind(bytes, skip) {
-            Ok(data) => self.text_of(alloc, data, limits, form, room),
+            Ok(data) => self.text_of(alloc, data, limits, form, scratch),
             Err(error) => Err(error),
         }
     }
@@ -120,20 +120,20 @@ impl<'a> DataPlan<'a> {
         bytes: &[u8],
         limits: &Limits,
         form: Form,
-        room: &mut Room,
+        scratch: &mut Scratch,
     ) -> Result<Vec<u8>, ReadResolveError>
         ensures read { IfOk result (λ text. IsDatumTold (schema_nodes self.now.0) (option_map schema_nodes self.now.1) limits.now form 0 bytes.now text.items) }
         ensures refused { IfErr result (λ e. IfSome (fault_found e) (IsAllFound (schema_nodes self.now.0) (option_map schema_nodes self.now.1) limits.now 0 bytes.now)) }
     {
         let mut out = WriteOutput::new(Vec::new(alloc));
-        match self.put(&mut out, alloc, bytes, limits, form, room) {
+        match self.put(&mut out, alloc, bytes, limits, form, scratch) {
             Ok(()) => Ok(out.into_inner()),
             Err(DataError::Refused(error)) => Err(error),
             Err(DataError::Put(_)) => Err(ReadResolveError::Read(ReadError::OutOfMemory)),
         }
     }
 
-    /// Puts the text of the datum at the front of bytes: at once, or in pieces if it is long, where nothing of it is kept. The room is
+    /// Puts the text of the datum at the front of bytes: at once, or in pieces if it is long, where nothing of it is kept. The scratch is
     /// kept from datum to datum.
     ///
     /// # Errors
@@ -147,7 +147,7 @@ impl<'a> DataPlan<'a> {
         bytes: &[u8],
         limits: &Limits,
         form: Form,
-        room: &mut Room,
+        scratch: &mut Scratch,
     ) -> Result<(), DataError>
         ensures put { OnOk result ((text : List ℕ) × IsDatumTold (schema_nodes self.now.0) (option_map schema_nodes self.now.1) limits.now form 0 bytes.now text
             × O.keeps out.old text out.new) }
@@ -160,8 +160,8 @@ impl<'a> DataPlan<'a> {
         ensures memory { IsErrOf result (DataError.Put PutError.OutOfMemory) → O.failures out.new ≡ O.failures out.old }
         ensures unused { IfRefused result (λ e. O.failures out.new ≡ O.failures out.old) }
     {
-        match self.display(alloc, bytes, limits, &mut *room) {
-            Ok(len) => as_data(put_shown(out, alloc, room, len, form)),
+        match self.display(alloc, bytes, limits, &mut *scratch) {
+            Ok(len) => as_data(put_shown(out, alloc, scratch, len, form)),
             Err(error) => {
                 if is_memory(&error) {
                     return self.put_long(out, alloc, bytes, limits, form);
@@ -177,15 +177,15 @@ impl<'a> DataPlan<'a> {
         alloc: Global,
         bytes: &[u8],
         limits: &Limits,
-        room: &mut Room,
+        scratch: &mut Scratch,
     ) -> Result<usize, ReadResolveError>
         ensures shown { IfOk result (λ len. (display : List ℕ) × IsDisplayed (schema_nodes self.now.0) (option_map schema_nodes self.now.1) limits.now bytes.now len display
-            × StandsIn room.new.text room.new.shown display) }
+            × StandsIn scratch.new.text scratch.new.shown display) }
         ensures refused { IfErr result (λ e. IfSome (fault_found e) (IsAllFound (schema_nodes self.now.0) (option_map schema_nodes self.now.1) limits.now 0 bytes.now)) }
     {
         match &self.plan {
-            Some(plan) => display_for(alloc, plan, &self.table, bytes, limits, room),
-            None => display_plain(alloc, &self.table, bytes, limits, room),
+            Some(plan) => display_for(alloc, plan, &self.table, bytes, limits, scratch),
+            None => display_plain(alloc, &self.table, bytes, limits, scratch),
         }
     }
 

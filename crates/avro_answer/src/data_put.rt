@@ -22,24 +22,24 @@ use avro_device::Output;
 use avro_display::{DisplayTable, Plain, PutError, Text, put_displayed};
 use avro_resolve::Plan;
 use avro_schema::Datum;
-use avro_show::{Resolved, Room, put_resolved};
+use avro_show::{Resolved, Scratch, put_resolved};
 use std::alloc::Global;
 
-/// Puts the text of a datum whose display a room shows.
+/// Puts the text of a datum whose display a scratch shows.
 pub(crate) fn put_shown<O: Output>(
     out: &mut O,
     alloc: Global,
-    room: &Room,
+    scratch: &Scratch,
     len: usize,
     form: Form,
 ) -> Result<(), PutError>
-    ensures put { (display : List ℕ) → StandsIn room.now.text room.now.shown display → OnOk result (O.keeps out.old (text_around form display len) out.new) }
-    ensures front { (display : List ℕ) → StandsIn room.now.text room.now.shown display → OnErr result (PutsFrontOf O.keeps out.old out.new (text_around form display len)) }
+    ensures put { (display : List ℕ) → StandsIn scratch.now.text scratch.now.shown display → OnOk result (O.keeps out.old (text_around form display len) out.new) }
+    ensures front { (display : List ℕ) → StandsIn scratch.now.text scratch.now.shown display → OnErr result (PutsFrontOf O.keeps out.old out.new (text_around form display len)) }
     ensures works { OnOk result (O.failures out.new ≡ O.failures out.old) }
     ensures fails { IsErrOf result PutError.CannotWrite → (O.failures out.new ≢ O.failures out.old) ⊎ O.stuck out.new }
     ensures memory { IsErrOf result PutError.OutOfMemory → O.failures out.new ≡ O.failures out.old }
 {
-    let text = text_with(alloc, room.shown(), len, form)?;
+    let text = text_with(alloc, scratch.shown(), len, form)?;
     put_text(out, &text)
 }
 

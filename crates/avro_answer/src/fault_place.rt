@@ -2,7 +2,7 @@
 
 use crate::named_place::{field_name, push_all, push_branch};
 use crate::type_names::node_at;
-use avro_compare::{Target, At, FaultKind, Names, compare};
+use avro_compare::{At, FaultKind, Names, Target, compare};
 use avro_judge::{Refutation, Verdict};
 use avro_schema::{Datum, Memory, Node, NodeId, Schema};
 use std::alloc::{AllocError, Global};

@@ -12,7 +12,7 @@ use std::alloc::{AllocError, Global};
 pub(crate) struct Front {
     text: Vec<u8>,
     // how many bytes are kept at most
-    room: usize,
+    capacity: usize,
     // how many were put
     length: usize,
     failures: u64,
@@ -22,13 +22,13 @@ pub(crate) struct Front {
 
 impl Front {
     /// Nothing is put yet.
-    pub(crate) fn new(alloc: Global, room: usize) -> Front
+    pub(crate) fn new(alloc: Global, capacity: usize) -> Front
         ensures empty { HasPut result [] }
-        ensures room { result.room ≡ room }
+        ensures capacity { result.capacity ≡ capacity }
     {
         Front {
             text: Vec::new(alloc),
-            room,
+            capacity,
             length: 0,
             failures: 0,
             flushed: false,
@@ -46,7 +46,7 @@ impl Front {
         let Some(length) = self.length.checked_add(bytes.len()) else {
             return Err(AllocError);
         };
-        let left = self.room.saturating_sub(self.text.len());
+        let left = self.capacity.saturating_sub(self.text.len());
         let (front, _) = bytes.split_at(left.min(bytes.len()));
         self.text.extend_from_slice(front)?;
         self.length = length;

@@ -75,12 +75,12 @@ pub fn judge_text(
     reader: &[u8],
     limits: &JudgeLimits,
     form: Form,
-    room: usize,
+    capacity: usize,
 ) -> Result<CutAnswer, Refusal>
     ensures answered { IfOk result (λ a. form ≡ Form.Text → (text : List ℕ)
-        × JudgeAnswer writer.now reader.now limits.now text a.answer.status × IsCut room text a) }
+        × JudgeAnswer writer.now reader.now limits.now text a.answer.status × IsCut capacity text a) }
     ensures json { IfOk result (λ a. form ≡ Form.Json → (line : List ℕ)
-        × JudgeJson writer.now reader.now limits.now line a.answer.status × IsCut room line a) }
+        × JudgeJson writer.now reader.now limits.now line a.answer.status × IsCut capacity line a) }
     ensures status { IfOk result (λ a. JudgeStatus writer.now reader.now limits.now a.answer.status) }
     ensures too_long { max_text < length writer.now → IsErrOf result (Writer SchemaError.LimitExceeded) }
     ensures refused { IfErr result (RefusesPair writer.now reader.now) }
@@ -88,25 +88,25 @@ pub fn judge_text(
 {
     let writer = read_writer(alloc, writer)?;
     let reader = read_reader(alloc, reader)?;
-    Ok(judge_in_room(alloc, &writer, &reader, limits, form, room)?)
+    Ok(judge_cut(alloc, &writer, &reader, limits, form, capacity)?)
 }
 
 /// The same of two schemas.
-fn judge_in_room(
+fn judge_cut(
     alloc: Global,
     writer: &Schema,
     reader: &Schema,
     limits: &JudgeLimits,
     form: Form,
-    room: usize,
+    capacity: usize,
 ) -> Result<CutAnswer, Memory>
     ensures answered { IfOk result (λ a. form ≡ Form.Text → (text : List ℕ)
-        × SchemasAnswer (schema_nodes writer.now) (schema_nodes reader.now) limits.now text a.answer.status × IsCut room text a) }
+        × SchemasAnswer (schema_nodes writer.now) (schema_nodes reader.now) limits.now text a.answer.status × IsCut capacity text a) }
     ensures json { IfOk result (λ a. form ≡ Form.Json → (line : List ℕ)
-        × SchemasJson (schema_nodes writer.now) (schema_nodes reader.now) limits.now line a.answer.status × IsCut room line a) }
+        × SchemasJson (schema_nodes writer.now) (schema_nodes reader.now) limits.now line a.answer.status × IsCut capacity line a) }
     ensures status { IfOk result (λ a. StatusAnswer (schema_nodes writer.now) (schema_nodes reader.now) limits.now a.answer.status) }
 {
-    let mut front = Front::new(alloc, room);
+    let mut front = Front::new(alloc, capacity);
     match judge_schemas(&mut front, alloc, writer, reader, limits, form) {
         Ok((_, status)) => Ok(front.answer(status)),
         Err(_) => Err(Memory),

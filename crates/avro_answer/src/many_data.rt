@@ -24,7 +24,7 @@ use crate::reading::read_writer;
 use crate::refusal::Refusal;
 use avro_resolve::ReadResolveError;
 use avro_schema::{Limits, Memory, Schema};
-use avro_show::Room;
+use avro_show::Scratch;
 use std::alloc::Global;
 
 /// Reads a datum in each of several data, after `skip` bytes, as [`read_text`](crate::read_text) does, and answers a line of
@@ -90,11 +90,11 @@ fn answer_each(
 {
     let mut text = Vec::new(alloc);
     let mut status = 0;
-    let mut room = Room::new(alloc);
+    let mut scratch = Scratch::new(alloc);
     let mut rest = bytes;
     for index in 0..lengths.len() {
         let (part, others) = cut(rest, lengths[index]);
-        let line = line_of(alloc, plan, part, skip, limits, &mut room)?;
+        let line = line_of(alloc, plan, part, skip, limits, &mut scratch)?;
         text.extend_from_slice(&line.text)?;
         status = line.status.max(status);
         rest = others;
@@ -109,11 +109,11 @@ fn line_of(
     bytes: &[u8],
     skip: usize,
     limits: &Limits,
-    room: &mut Room,
+    scratch: &mut Scratch,
 ) -> Result<Answer, Memory>
     ensures { IfOk result (λ a. IsLineTold (schema_nodes plan.now.0) (option_map schema_nodes plan.now.1) limits.now skip bytes.now a.text.items a.status) }
 {
-    match plan.tell(alloc, bytes, skip, limits, Form::Json, room) {
+    match plan.tell(alloc, bytes, skip, limits, Form::Json, scratch) {
         Ok(text) => Ok(Answer { text, status: 0 }),
         Err(error) => fault_line(alloc, &error),
     }

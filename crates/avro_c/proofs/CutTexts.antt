@@ -1,6 +1,6 @@
--- The front of a text that was cut for the room.
+-- The front of a text that was cut for the buffer.
 use Rattle.std.proofs.Common.{◌≡◌, ◌∙◌, ℕ, zero, suc, List, [], ◌∷◌, ◌++◌, length, take, drop, refl, ap}
-use Rattle.avro_c.specs.Room.{IsPut}
+use Rattle.avro_c.specs.Buffer.{IsPut}
 
 take_twice : (n : ℕ) (text : List ℕ) → take n (take n text) ≡ take n text
 take_twice zero text = refl

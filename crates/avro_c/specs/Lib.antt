@@ -1,3 +1,3 @@
 pub mod Asked
-pub mod Room
+pub mod Buffer
 pub mod Told

@@ -4,7 +4,7 @@ use Rattle.avro_schema_json.specs.Refusals.{schema_code}
 use Rattle.avro_certificate.specs.CertificateRead.{certificate_code}
 use Rattle.avro_answer.specs.RefusalText.{refusal_text}
 use Rattle.avro_answer.specs.declared.refusal.Refusal.{Refusal}
-use Rattle.avro_c.specs.Room.{IsPut}
+use Rattle.avro_c.specs.Buffer.{IsPut}
 
 -- what is written is a text that is an answer with this status
 pub record IsTold (is_answer : List ℕ → ℕ → Type 0) (before after : List ℕ) (wanted status : ℕ) : Type 0 where

@@ -18,16 +18,16 @@ ghost use Rattle.avro_answer.specs.declared.form.Form.{Form};
 ghost use Rattle.avro_answer.specs.SchemaAnswer.{SchemaAnswer};
 ghost use Rattle.avro_answer.specs.RefusalText.{RefusesOne, RefusesPair, HaveSchemas};
 ghost use Rattle.avro_c.specs.Asked.{asked_or, asked_limits, AreAskedLimits, asked_shown, asked_reader, asked_data_limits, AreLengthsOf, IsReading};
-ghost use Rattle.avro_c.specs.Room.{IsPut, IsUntouched};
+ghost use Rattle.avro_c.specs.Buffer.{IsPut, IsUntouched};
 ghost use Rattle.avro_c.specs.Told.{IsTold, IsRefused};
 
 mod asking;
-mod room;
+mod buffer;
 mod status;
 mod telling;
 
 use crate::asking::{are_lengths_of, limits_of, pairs_of, reader_of, reading_of, shown_of};
-use crate::room::{put, put_nothing};
+use crate::buffer::{put, put_nothing};
 use crate::telling::{tell, tell_cut, tell_refusal};
 pub use asking::{AvroLimits, AvroReading};
 use avro_answer::{

@@ -2,11 +2,11 @@
 
 ghost use Rattle.std.specs.Prelude.{◌≡◌, ◌⊎◌, ℕ, List, length, IfOk};
 ghost use Rattle.avro_answer.specs.CutAnswer.{IsCut};
-ghost use Rattle.avro_c.specs.Room.{IsPut, IsUntouched};
+ghost use Rattle.avro_c.specs.Buffer.{IsPut, IsUntouched};
 ghost use Rattle.avro_c.specs.Told.{refusal_line};
 ghost use Rattle.avro_answer.specs.declared.refusal.Refusal.TheVariants.{OutOfMemory};
 
-use crate::room::{put, put_nothing};
+use crate::buffer::{put, put_nothing};
 use crate::status;
 use avro_answer::{Answer, CutAnswer, Refusal, certificate_refusal, schema_refusal};
 use std::alloc::{AllocError, Global};

@@ -13,7 +13,7 @@ ghost use Rattle.avro_compare.specs.Source.{source_of};
 ghost use Rattle.avro_compare.specs.declared.comparison.Target.TheVariants.{To};
 ghost use Rattle.avro_compare.specs.inside.Led.{led_by};
 
-use crate::comparison::{Target, Comparison, Lead, Step};
+use crate::comparison::{Comparison, Lead, Step, Target};
 use crate::entries::{first_entry, rest_entries};
 use crate::names::Names;
 use crate::sourcing::node_of_field;

@@ -9,7 +9,7 @@ ghost use Rattle.avro_compare.specs.inside.NameTables.{symbols_at};
 ghost use Rattle.avro_compare.specs.inside.Noting.{AreIgnored, noted};
 ghost use Rattle.avro_compare.specs.Planned.{AreFor, AreInside, AreComparisons, AreSources, AreSymbols, IsComparison};
 
-use crate::comparison::{Target, At, Comparison};
+use crate::comparison::{At, Comparison, Target};
 use crate::entries::push_lone;
 use crate::names::Names;
 use crate::sourcing::{fields_of, missing_among, node_of_field, source_kept};

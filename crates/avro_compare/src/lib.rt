@@ -29,11 +29,11 @@ mod type_names;
 
 pub use children::{has_fault, leads};
 pub use comparing::{compare, compare_all};
-pub use comparison::{Target, At, Comparison, Lead, Step};
+pub use comparison::{At, Comparison, Lead, Step, Target};
 pub use entries::{first_entry, rest_entries};
 pub use error::{Fault, FaultKind};
 pub use matching::matches;
 pub use names::Names;
-pub use pairs::{target, first_match};
+pub use pairs::{first_match, target};
 pub use sourcing::{fields_of, missing, part_for, source, source_among};
 pub use symbols::{symbol_for, symbol_kept};

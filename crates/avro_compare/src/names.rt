@@ -1,5 +1,5 @@
 use crate::comparison::Target;
-use crate::pairs::{target_by, first_index};
+use crate::pairs::{first_index, target_by};
 use crate::part_finding::{
     field_numbers_at, source_by_numbers, symbol_by_numbers, symbol_numbers_at, symbol_numbers_of,
 };

@@ -19,7 +19,7 @@ use std::alloc::{AllocError, Global};
 #[derive(Drop)]
 pub struct Sink {
     sync: [u8; 16],
-    room: Vec<u8>,
+    buffer: Vec<u8>,
     failed: bool,
 }
 
@@ -46,12 +46,12 @@ impl Sink {
         ensures first { result ≢ Err CopyError.FailedBefore }
         ensures named { IfErr result IsNamed }
     {
-        let mut room = Vec::new(alloc);
-        append_header(metadata, &sync, &mut room)?;
-        match put_all(output, &room) {
+        let mut buffer = Vec::new(alloc);
+        append_header(metadata, &sync, &mut buffer)?;
+        match put_all(output, &buffer) {
             Ok(()) => Ok(Sink {
                 sync,
-                room,
+                buffer,
                 failed: false,
             }),
             Err(_) => Err(CopyError::OutputFailed),
@@ -85,7 +85,7 @@ impl Sink {
         if self.failed {
             return Err(CopyError::FailedBefore);
         }
-        match put_block(output, &mut self.room, &self.sync, count, body) {
+        match put_block(output, &mut self.buffer, &self.sync, count, body) {
             Ok(()) => Ok(()),
             Err(error) => {
                 self.failed = true;
@@ -98,7 +98,7 @@ impl Sink {
 /// Puts a block as a whole, from a buffer that is reused from block to block.
 pub(crate) fn put_block<O: Output>(
     output: &mut O,
-    room: &mut Vec<u8>,
+    buffer: &mut Vec<u8>,
     sync: &[u8; 16],
     count: u32,
     body: &[u8],
@@ -112,9 +112,9 @@ pub(crate) fn put_block<O: Output>(
     ensures first { result ≢ Err CopyError.FailedBefore }
     ensures named { IfErr result IsNamed }
 {
-    room.clear();
-    append_block(sync, count, body, room)?;
-    match put_all(output, room) {
+    buffer.clear();
+    append_block(sync, count, body, buffer)?;
+    match put_all(output, buffer) {
         Ok(()) => Ok(()),
         Err(_) => Err(CopyError::OutputFailed),
     }

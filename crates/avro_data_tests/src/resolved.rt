@@ -196,11 +196,11 @@ fn is_answered(
     plan: &PlanRef<'_>,
     row: &Wanted<'_>,
     most: usize,
-    room: &mut Appending,
+    scratch: &mut Appending,
     out: &mut Vec<u8>,
 ) -> Result<bool, AllocError> {
     let end = out.len();
-    let answer = append_resolved(alloc, plan, row.bytes, row.limits, most, room, out);
+    let answer = append_resolved(alloc, plan, row.bytes, row.limits, most, scratch, out);
     let fits = end + row.plain.len() <= most;
     let wanted = if fits { row.answer } else { "over" };
     let appended = if fits { row.plain } else { &[] };
@@ -208,22 +208,22 @@ fn is_answered(
     Ok(answer_text(alloc, answer)?.as_str() == wanted && behind == appended)
 }
 
-/// Whether this is answered of bytes twice with one room, where the output has just the room for that, or so many bytes less.
+/// Whether this is answered of bytes twice with one scratch, where the output has just the room for that, or so many bytes less.
 fn is_appended_in(
     alloc: Global,
     plan: &PlanRef<'_>,
     row: &Wanted<'_>,
     less: usize,
-    room: &mut Appending,
+    scratch: &mut Appending,
 ) -> Result<bool, AllocError> {
     let mut out = Vec::new(alloc);
     let most = (2 * row.plain.len()).saturating_sub(less);
-    let is_first = is_answered(alloc, plan, row, most, room, &mut out)?;
-    let is_second = is_answered(alloc, plan, row, most, room, &mut out)?;
+    let is_first = is_answered(alloc, plan, row, most, scratch, &mut out)?;
+    let is_second = is_answered(alloc, plan, row, most, scratch, &mut out)?;
     Ok(is_first && is_second)
 }
 
-/// The same with a new room, for the plan of two schemas, and each number of bytes less.
+/// The same with a new scratch, for the plan of two schemas, and each number of bytes less.
 fn is_appended(
     alloc: Global,
     writer: &Schema,
@@ -231,9 +231,9 @@ fn is_appended(
     row: &Wanted<'_>,
 ) -> Result<bool, Fail> {
     let plan = Plan::reached(alloc, writer, reader)?;
-    let mut room = Appending::new(alloc);
+    let mut scratch = Appending::new(alloc);
     for less in 0..2 * row.plain.len() + 1 {
-        if !is_appended_in(alloc, &plan.by_ref(), row, less, &mut room)? {
+        if !is_appended_in(alloc, &plan.by_ref(), row, less, &mut scratch)? {
             return Ok(false);
         }
     }

@@ -112,7 +112,7 @@ pub fn put_display<O: Output>(
     put
 }
 
-/// The same for a text that keeps its rooms.
+/// The same for a text that keeps its buffers.
 fn put_datum<O: Output>(
     out: &mut O,
     text: &mut Text,

@@ -11,7 +11,7 @@ use std::alloc::{AllocError, Global};
 use std::marker::Model;
 use std::mem::replace;
 
-/// A text to which the parts of a display are appended. Its rooms are kept from part to part.
+/// A text to which the parts of a display are appended. Its buffers are kept from part to part.
 #[derive(Drop)]
 pub struct Text {
     held: Vec<u8>,
@@ -155,13 +155,13 @@ impl Text {
 }
 
 /// Writes a quoted text in the place of some bytes.
-fn write_quoted(room: &mut Vec<u8>, string: &str) -> Result<(), AllocError>
-    ensures { OnOk result (room.new.items ≡ quoted string.now) }
+fn write_quoted(buffer: &mut Vec<u8>, string: &str) -> Result<(), AllocError>
+    ensures { OnOk result (buffer.new.items ≡ quoted string.now) }
 {
-    room.clear();
-    let alloc = *room.allocator();
-    let mut writer = Writer::new(replace(room, Vec::new(alloc)));
+    buffer.clear();
+    let alloc = *buffer.allocator();
+    let mut writer = Writer::new(replace(buffer, Vec::new(alloc)));
     let written = writer.string(string);
-    *room = writer.into_inner();
+    *buffer = writer.into_inner();
     written
 }

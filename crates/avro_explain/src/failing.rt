@@ -10,7 +10,7 @@ ghost use Rattle.avro_explain.specs.Details.{details_of, details_of_kind, missin
 ghost use Rattle.avro_explain.specs.inside.Walks.{detail_for, untaken_from, untaken_one};
 
 use crate::found::Detail;
-use avro_compare::{Target, Comparison, FaultKind, Names, first_entry, rest_entries, symbol_kept};
+use avro_compare::{Comparison, FaultKind, Names, Target, first_entry, rest_entries, symbol_kept};
 use avro_schema::{Field, Memory, Node};
 use std::alloc::Global;
 

@@ -1,4 +1,4 @@
-pub mod Rooms
+pub mod Storage
 pub mod Taking
 pub mod Cut
 pub mod Stopping

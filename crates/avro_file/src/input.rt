@@ -69,8 +69,8 @@ pub(crate) fn fill<I: Input>(
     }
     let most = (want + reach.ahead).min(reach.limit);
     while buffer.len() < want {
-        let room = (most - buffer.len()).min(GROWTH);
-        match buffer.take_more(input, room) {
+        let wanted = (most - buffer.len()).min(GROWTH);
+        match buffer.take_more(input, wanted) {
             Ok(count) => {
                 if count == 0 {
                     return Err(PartError::Ended);

@@ -113,14 +113,14 @@ module _ {I O : Type 0} (gives : I → List ℕ → I → Type 0) (keeps : O →
   begins : (blocks : List Values) (front bytes rest : List ℕ) (lines : List ℕ) (i i' : I) → (head : TakesHeader gives i i' limits.header h)
       → BlocksShow limits reader h limit 0 blocks front lines → bytes ≡ front ++ rest → BeginsWith limits h blocks (head.bytes ++ bytes) rest
   begins blocks front bytes rest lines i i' head show e =
-      let room = show.few in
+      let scratch = show.few in
       record {
         header_bytes = head.bytes;
         block_bytes = front;
         is_header = head.stands;
         within = head.within;
         are_blocks = show.are_blocks;
-        few = omega (arith, room);
+        few = omega (arith, scratch);
         split = ap (λ (b : List ℕ). head.bytes ++ b) e ∙ sym (append_assoc head.bytes front rest);
       }
 

@@ -49,13 +49,13 @@ block-shows : (limits : FileLimitValues) (reader : Option (List Node)) (h : Head
     → number < max_blocks → nodes ≡ read_nodes h.nodes reader → ((lines : List (List ℕ)) → length lines ≡ count → up_to left lines ≡ take wanted lines)
     → BlockStands limits h.sync count body bytes → (whole : DataAreWhole (reading limits h.nodes h.sync reader) count body us)
     → BlocksShow limits reader h left number (whole.values ∷ []) bytes (first_of nodes wanted us)
-block-shows limits reader h left number count wanted nodes body bytes us room same first stands whole =
+block-shows limits reader h left number count wanted nodes body bytes us scratch same first stands whole =
     let r = reading limits h.nodes h.sync reader in
     let lines = lines_of (read_nodes h.nodes reader) us in
     let all : length lines ≡ count = lines-count (read_nodes h.nodes reader) us ∙ made-count r.resolve whole.values us whole.resolved ∙ whole.counted in
     record {
       are_blocks = (bytes, [], block-within limits reader h count body bytes us stands whole, refl, sym (append-nil bytes));
-      few = omega (arith, room);
+      few = omega (arith, scratch);
       shown = record {
         made = us ∷ [];
         resolved = (us, [], whole.resolved, refl, refl);
@@ -66,9 +66,9 @@ block-shows limits reader h left number count wanted nodes body bytes us room sa
 -- no block shows nothing
 none-show : (limits : FileLimitValues) (reader : Option (List Node)) (h : HeaderValue) (left : Option ℕ) (number : ℕ) → number ≤ max_blocks
     → BlocksShow limits reader h left number [] [] []
-none-show limits reader h left number room = record {
+none-show limits reader h left number scratch = record {
   are_blocks = refl;
-  few = omega (arith, room);
+  few = omega (arith, scratch);
   shown = record { made = []; resolved = refl; lines = sym (no-lines left) };
 }
   where
@@ -83,7 +83,7 @@ module _ {I O : Type 0} (gives : I → List ℕ → I → Type 0) (keeps : O →
       → ((lines : List (List ℕ)) → length lines ≡ count → up_to left lines ≡ take wanted lines)
       → TakesBlock gives i i' limits h.sync count body → ShowsFirst keeps (reading limits h.nodes h.sync reader) nodes count wanted body o text o' now
       → Moved gives keeps i i' o o' (ShowsNext limits reader h left number count text now)
-  next-shown i i' o o' number count wanted nodes body text now room same first took shown =
+  next-shown i i' o o' number count wanted nodes body text now scratch same first took shown =
       let puts = shown.puts in
       record {
         taken = took.bytes;
@@ -94,7 +94,7 @@ module _ {I O : Type 0} (gives : I → List ℕ → I → Type 0) (keeps : O →
           values = shown.whole.values;
           counted = shown.whole.counted;
           lines = first_of nodes wanted shown.made;
-          show = block-shows limits reader h left number count wanted nodes body took.bytes shown.made room same first took.stands shown.whole;
+          show = block-shows limits reader h left number count wanted nodes body took.bytes shown.made scratch same first took.stands shown.whole;
           puts = puts.2;
         };
       }
@@ -104,7 +104,7 @@ module _ {I O : Type 0} (gives : I → List ℕ → I → Type 0) (keeps : O →
       → ((lines : List (List ℕ)) → length lines ≡ count → up_to left lines ≡ take wanted lines)
       → TakesBlock gives i i' limits h.sync count body → ShowsPart keeps (reading limits h.nodes h.sync reader) nodes count wanted body o text o' now
       → Moved gives keeps i i' o o' (ShowsSome limits reader h left number text now)
-  next-part i i' o o' number count wanted nodes body text now room same first took part =
+  next-part i i' o o' number count wanted nodes body text now scratch same first took part =
       let puts = part.puts in
       record {
         taken = took.bytes;
@@ -118,7 +118,7 @@ module _ {I O : Type 0} (gives : I → List ℕ → I → Type 0) (keeps : O →
               rest = took.bytes;
               lines = [];
               later = puts.1;
-              show = none-show limits reader h left number (omega (arith, room));
+              show = none-show limits reader h left number (omega (arith, scratch));
               split = refl;
               puts = ap (λ (b : List ℕ). text ++ b) (sym none) ∙ puts.3;
             })
@@ -128,7 +128,7 @@ module _ {I O : Type 0} (gives : I → List ℕ → I → Type 0) (keeps : O →
               rest = [];
               lines = first_of nodes wanted some.0;
               later = puts.1;
-              show = block-shows limits reader h left number count wanted nodes body took.bytes some.0 room same first took.stands some.1;
+              show = block-shows limits reader h left number count wanted nodes body took.bytes some.0 scratch same first took.stands some.1;
               split = sym (append-nil took.bytes);
               puts = ap (λ (b : List ℕ). text ++ b) (sym some.2) ∙ puts.3;
             })
@@ -138,7 +138,7 @@ module _ {I O : Type 0} (gives : I → List ℕ → I → Type 0) (keeps : O →
   -- none was taken, and nothing was put
   pub next-lost : ((s : O) → keeps s [] s) → (i i' : I) (o : O) (number : ℕ) (text now bytes : List ℕ) → number ≤ max_blocks → gives i bytes i' → now ≡ text
       → Moved gives keeps i i' o o (ShowsSome limits reader h left number text now)
-  next-lost none i i' o number text now bytes room took same = record {
+  next-lost none i i' o number text now bytes scratch took same = record {
     taken = bytes;
     put = [];
     is_taken = took;
@@ -149,7 +149,7 @@ module _ {I O : Type 0} (gives : I → List ℕ → I → Type 0) (keeps : O →
       rest = bytes;
       lines = [];
       later = [];
-      show = none-show limits reader h left number room;
+      show = none-show limits reader h left number scratch;
       split = refl;
       puts = append-nil text ∙ sym same ∙ sym (append-nil now);
     };
@@ -171,7 +171,7 @@ module _ {I O : Type 0} (gives : I → List ℕ → I → Type 0) (keeps : O →
   pub next-fault : (ended : Type 0) (i i' : I) (o o' : O) (number count : ℕ) (body : List ℕ) (f : FileFault) (text now : List ℕ) → length h.sync ≡ 16 → number < max_blocks
       → TakesBlock gives i i' limits h.sync count body → IsDataFault (reading limits h.nodes h.sync reader) number count body f → PutsText keeps o text [] o' now
       → Moved gives keeps i i' o o' (ShowsNone limits reader h number ended f text now)
-  next-fault ended i i' o o' number count body f text now marker room took fault puts =
+  next-fault ended i i' o o' number count body f text now marker scratch took fault puts =
       let r = reading limits h.nodes h.sync reader in
       let rest = body ++ h.sync in
       let front : take (length body) rest ≡ body = take_at body h.sync (length body) refl in
@@ -189,7 +189,7 @@ module _ {I O : Type 0} (gives : I → List ℕ → I → Type 0) (keeps : O →
           (
             fault.0,
             fault.1,
-            BlockFails.data_fail count (length body) rest room took.stands.begins took.stands.few took.stands.short
+            BlockFails.data_fail count (length body) rest scratch took.stands.begins took.stands.few took.stands.short
                 (omega (arith, long, marker)) marked (subst (λ (b : List ℕ). DataFail r count b fault.0) (sym front) fault.2),
           ),
         );

@@ -92,10 +92,10 @@ show-both : (limits : FileLimitValues) (reader : Option (List Node)) (h : Header
     → BlocksShow limits reader h left number more bytes others → BlocksShow limits reader h limit 0 (blocks ++ more) (taken ++ bytes) (lines ++ others)
 show-both limits reader h limit left number blocks more taken bytes lines others had same over next =
     let long = length-append blocks more in
-    let room = next.few in
+    let scratch = next.few in
     record {
       are_blocks = within-both limits h blocks more taken bytes had.are_blocks next.are_blocks;
-      few = omega (arith, long, same, room);
+      few = omega (arith, long, same, scratch);
       shown = shown-both reader h limit left blocks more lines others had.shown over next.shown;
     }
 

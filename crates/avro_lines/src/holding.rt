@@ -9,17 +9,17 @@ ghost use Rattle.avro_lines.specs.inside.DataShown.{PutsPart};
 use avro_device::{Output, put_all};
 use avro_display::Text;
 use avro_file::CopyError;
-use avro_show::Room;
+use avro_show::Scratch;
 use std::alloc::Global;
 
 /// So much text goes out at once.
-const ROOM: usize = 65_536;
+const CAPACITY: usize = 65_536;
 
 /// The lines that are held, and what the display of a datum is made in.
 #[derive(Drop)]
 pub(crate) struct Lines {
     pub(crate) text: Text,
-    pub(crate) room: Room,
+    pub(crate) scratch: Scratch,
 }
 
 impl Lines {
@@ -31,7 +31,7 @@ impl Lines {
     {
         Lines {
             text: Text::new(alloc),
-            room: Room::new(alloc),
+            scratch: Scratch::new(alloc),
         }
     }
 }
@@ -90,7 +90,7 @@ pub(crate) fn put_long<O: Output>(output: &mut O, lines: &mut Lines) -> Result<(
     ensures fails { OnErr result ((O.failures output.new ≢ O.failures output.old) ⊎ O.stuck output.new) }
     ensures error { IfErr result (λ e. e ≡ CopyError.OutputFailed) }
 {
-    if lines.text.len() < ROOM {
+    if lines.text.len() < CAPACITY {
         return Ok(());
     }
     put_held(output, lines)?;

@@ -22,7 +22,9 @@ use avro_display::{DisplayTable, PutError, Text, put_line};
 use avro_file::CopyError;
 use avro_resolve::Plan;
 use avro_schema::{Datum, Limits};
-use avro_show::{Resolved, Room, append_line, display_read, display_resolved, put_resolved_line};
+use avro_show::{
+    Resolved, Scratch, append_line, display_read, display_resolved, put_resolved_line,
+};
 use std::alloc::Global;
 
 /// Makes the display of the datum at the front of bytes, and returns the length of its encoding. None if the display is long, or the bytes
@@ -32,12 +34,12 @@ fn display_own(
     table: &DisplayTable<'_>,
     bytes: &[u8],
     limits: &Limits,
-    room: &mut Room,
+    scratch: &mut Scratch,
 ) -> Option<usize>
     ensures { IfSome result (λ len. Displays (schema_nodes table.now) limits.now (unchanged (schema_nodes table.now)) (schema_nodes table.now)
-        bytes.now len (StandsIn room.new.text room.new.shown)) }
+        bytes.now len (StandsIn scratch.new.text scratch.new.shown)) }
 {
-    match display_read(alloc, table, bytes, limits, room) {
+    match display_read(alloc, table, bytes, limits, scratch) {
         Ok(len) => Some(len),
         Err(_) => None,
     }
@@ -50,12 +52,12 @@ fn display_planned(
     table: &DisplayTable<'_>,
     bytes: &[u8],
     limits: &Limits,
-    room: &mut Room,
+    scratch: &mut Scratch,
 ) -> Option<usize>
     ensures { schema_nodes table.now ≡ schema_nodes plan.now.1 → IfSome result (λ len. Displays (schema_nodes plan.now.0) limits.now
-        (into (schema_nodes plan.now.1) (schema_nodes plan.now.0)) (schema_nodes table.now) bytes.now len (StandsIn room.new.text room.new.shown)) }
+        (into (schema_nodes plan.now.1) (schema_nodes plan.now.0)) (schema_nodes table.now) bytes.now len (StandsIn scratch.new.text scratch.new.shown)) }
 {
-    match display_resolved(alloc, &plan.by_ref(), table, bytes, limits, room) {
+    match display_resolved(alloc, &plan.by_ref(), table, bytes, limits, scratch) {
         Ok(len) => Some(len),
         Err(error) => {
             drop(error);
@@ -65,15 +67,15 @@ fn display_planned(
 }
 
 /// The same by the plan, if there is one.
-fn display(room: &mut Room, opened: &Opened<'_>, bytes: &[u8]) -> Option<usize>
+fn display(scratch: &mut Scratch, opened: &Opened<'_>, bytes: &[u8]) -> Option<usize>
     ensures { IfSome result (λ len. Displays (reading_for opened.now).nodes (limits_for opened.now).datum (reading_for opened.now).resolve (shown_for opened.now)
-        bytes.now len (StandsIn room.new.text room.new.shown)) }
+        bytes.now len (StandsIn scratch.new.text scratch.new.shown)) }
 {
     let limits = opened.task.limits.datum();
     let alloc = opened.task.alloc;
     match opened.plan {
-        Some(plan) => display_planned(alloc, plan, opened.table, bytes, &limits, room),
-        None => display_own(alloc, opened.table, bytes, &limits, room),
+        Some(plan) => display_planned(alloc, plan, opened.table, bytes, &limits, scratch),
+        None => display_own(alloc, opened.table, bytes, &limits, scratch),
     }
 }
 
@@ -84,8 +86,8 @@ pub(crate) fn hold_line(lines: &mut Lines, opened: &Opened<'_>, bytes: &[u8]) ->
     ensures holds { IfSome result (λ len. HoldsNext (reading_for opened.now) (shown_for opened.now) bytes.now len lines.old.text lines.new.text) }
     ensures kept { IfNone result (lines.new.text ≡ lines.old.text) }
 {
-    match display(&mut lines.room, opened, bytes) {
-        Some(len) => match append_line(&lines.room, &mut lines.text) {
+    match display(&mut lines.scratch, opened, bytes) {
+        Some(len) => match append_line(&lines.scratch, &mut lines.text) {
             Ok(()) => Some(len),
             Err(_) => None,
         },

@@ -18,8 +18,8 @@ use std::marker::Model;
 /// Appends the plain encoding of what is read to an output of its own, as it is read. What is for a branch of a union has
 /// the index of the branch in front.
 ///
-/// Items of arrays and entries of maps are moved into a room of their own, since their number comes
-/// before them. Rooms are kept for later. What would make the output longer than a limit is taken back, and only counted.
+/// Items of arrays and entries of maps are moved into a buffer of their own, since their number comes
+/// before them. Buffers are kept for later. What would make the output longer than a limit is taken back, and only counted.
 #[derive(Drop)]
 pub struct Appending {
     pub(crate) out: Vec<u8>,
@@ -102,8 +102,8 @@ impl Appending {
         }
     }
 
-    /// Keeps the room of what was written for later.
-    pub(crate) fn keep_room(&mut self, written: Written)
+    /// Keeps the buffer of what was written for later.
+    pub(crate) fn keep_buffer(&mut self, written: Written)
         ensures { self.new ≡ self.old }
     {
         give_back(&mut self.spares, written);

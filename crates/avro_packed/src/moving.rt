@@ -8,7 +8,7 @@ ghost use Rattle.avro_packed.specs.Appended.{AppendsWithin, Holds};
 
 use crate::limit::Limit;
 use crate::numbers::{append_byte, append_number};
-use crate::spares::{give, room};
+use crate::spares::{buffer, give};
 use crate::written::{Apart, Written};
 use std::alloc::{AllocError, Global};
 use std::mem::replace;
@@ -44,7 +44,7 @@ pub(crate) fn append_written(
     }
 }
 
-/// Appends to other bytes those of an output and of a room; if memory runs out, a part of them.
+/// Appends to other bytes those of an output and of a buffer; if memory runs out, a part of them.
 #[inline(always)]
 fn append_apart(out: &[u8], apart: &Apart, to: &mut Vec<u8>) -> Result<(), AllocError>
     ensures appended { (front : List ℕ) → StandsAt out.now apart.now.start apart.now.end front → OnOk result (to.new.items ≡ to.old.items ++ front ++ apart.now.more.items) }
@@ -67,11 +67,11 @@ fn sum(first: Option<usize>, second: Option<usize>) -> Result<usize, AllocError>
     }
 }
 
-/// Keeps the room of what was written for later.
+/// Keeps the buffer of what was written for later.
 pub(crate) fn give_back(spares: &mut Vec<Box<Apart>>, written: Written) {
     match written {
         Written::Range(_, _) => {}
-        Written::Apart(room) => give(spares, room),
+        Written::Apart(buffer) => give(spares, buffer),
         Written::Counted(_) => {}
     }
 }
@@ -235,9 +235,9 @@ fn behind_range(
 {
     match second {
         Written::Range(from, to) => {
-            let mut all = room(alloc, spares)?;
+            let mut all = buffer(alloc, spares)?;
             append_range(out, from, to, &mut all.more)?;
-            Ok(with_room(start, end, all))
+            Ok(with_buffer(start, end, all))
         }
         Written::Apart(apart) => apart_behind_range(alloc, out, spares, start, end, apart),
         Written::Counted(count) => {
@@ -247,7 +247,7 @@ fn behind_range(
     }
 }
 
-/// The same for what has a room, which is left there where its bytes of the output are none, or start where the range ends.
+/// The same for what has a buffer, which is left there where its bytes of the output are none, or start where the range ends.
 #[inline(always)]
 fn apart_behind_range(
     alloc: Global,
@@ -262,33 +262,33 @@ fn apart_behind_range(
 {
     if second.start == end {
         let stop = second.end;
-        return Ok(with_room(start, stop, second));
+        return Ok(with_buffer(start, stop, second));
     }
     if second.start == second.end {
-        return Ok(with_room(start, end, second));
+        return Ok(with_buffer(start, end, second));
     }
-    let mut all = room(alloc, spares)?;
+    let mut all = buffer(alloc, spares)?;
     append_apart(out, &second, &mut all.more)?;
     give(spares, second);
-    Ok(with_room(start, end, all))
+    Ok(with_buffer(start, end, all))
 }
 
-/// A range of an output, and what is in a room after it.
+/// A range of an output, and what is in a buffer after it.
 #[inline(always)]
-fn with_room(start: usize, end: usize, room: Box<Apart>) -> Written
-    ensures { (out bytes : List ℕ) → StandsAt out start end bytes → Holds out result (bytes ++ room.value.more.items) }
+fn with_buffer(start: usize, end: usize, buffer: Box<Apart>) -> Written
+    ensures { (out bytes : List ℕ) → StandsAt out start end bytes → Holds out result (bytes ++ buffer.value.more.items) }
 {
-    let mut room = room;
-    room.start = start;
-    room.end = end;
-    Written::Apart(room)
+    let mut buffer = buffer;
+    buffer.start = start;
+    buffer.end = end;
+    Written::Apart(buffer)
 }
 
 /// How many bytes of a part are copied to the end of the output at most.
 const FEW: usize = 8;
 
 /// What was written, at the end of the output where this ends with what was written before: a few bytes are copied there, so that the
-/// two need no room of their own, unless the output would get longer than its limit.
+/// two need no buffer of their own, unless the output would get longer than its limit.
 #[inline(always)]
 fn brought(
     out: &mut Vec<u8>,
@@ -312,7 +312,7 @@ fn brought(
             }
             Ok(Written::Range(start, end))
         }
-        Written::Apart(room) => Ok(Written::Apart(room)),
+        Written::Apart(buffer) => Ok(Written::Apart(buffer)),
         Written::Counted(count) => Ok(Written::Counted(count)),
     }
 }
@@ -345,7 +345,7 @@ fn copied(out: &mut Vec<u8>, most: usize, start: usize, end: usize) -> Result<Wr
     Ok(Written::Range(len, out.len()))
 }
 
-/// Puts what was written after what was written before, and a few bytes of it at the end of the output, where they need no room,
+/// Puts what was written after what was written before, and a few bytes of it at the end of the output, where they need no buffer,
 /// unless the output would get longer than its limit.
 #[inline(always)]
 pub(crate) fn join_near(
@@ -380,14 +380,14 @@ pub(crate) fn join_key(
 {
     match first {
         Written::Range(start, end) => {
-            let mut all = room(alloc, spares)?;
+            let mut all = buffer(alloc, spares)?;
             append_measured(key, &mut all.more)?;
-            *first = with_room(*start, *end, all);
+            *first = with_buffer(*start, *end, all);
             Ok(())
         }
         Written::Apart(apart) => append_measured(key, &mut apart.more),
         Written::Counted(count) => {
-            let mut all = room(alloc, spares)?;
+            let mut all = buffer(alloc, spares)?;
             append_measured(key, &mut all.more)?;
             *count = sum(Some(*count), Some(all.more.len()))?;
             give(spares, all);
@@ -420,9 +420,9 @@ fn close(alloc: Global, spares: &mut Vec<Box<Apart>>, block: &mut Written) -> Re
 {
     match block {
         Written::Range(start, end) => {
-            let mut all = room(alloc, spares)?;
+            let mut all = buffer(alloc, spares)?;
             append_byte(0, &mut all.more)?;
-            *block = with_room(*start, *end, all);
+            *block = with_buffer(*start, *end, all);
             Ok(())
         }
         Written::Apart(apart) => append_byte(0, &mut apart.more),

@@ -20,7 +20,7 @@ use std::alloc::Global;
 
 /// Reads a datum of the root of the schema from the front of bytes, and appends its plain encoding to an output, unless this would then be
 /// longer than `most` bytes. Returns whether it was appended, and the length of what was read. Past that limit, bytes are only counted.
-/// The room is kept from datum to datum; its content between calls is unspecified.
+/// The scratch is kept from datum to datum; its content between calls is unspecified.
 ///
 /// # Errors
 ///
@@ -31,7 +31,7 @@ pub fn append_read(
     bytes: &[u8],
     limits: &Limits,
     most: usize,
-    room: &mut Appending,
+    scratch: &mut Appending,
     out: &mut Vec<u8>,
 ) -> Result<(bool, usize), ReadError>
     ensures found { IfOk result (λ read. (v : Value) × AppendsWithin most out.old.items out.new.items (plain v) read.0 × (read.1 ≤ length bytes.now)
@@ -40,15 +40,15 @@ pub fn append_read(
     ensures refused { IfErr result (λ e. IfSome (read_fault e) (Breaks (schema_nodes schema.now) limits.now (node_at (schema_nodes schema.now) 0) bytes.now)) }
 {
     let end = out.len();
-    room.keep_at_most(most);
-    room.exchange(out);
+    scratch.keep_at_most(most);
+    scratch.exchange(out);
     let root = schema.root();
-    let read = read_made(alloc, schema, root, bytes, limits, room, Place::of(root));
-    room.exchange(out);
+    let read = read_made(alloc, schema, root, bytes, limits, scratch, Place::of(root));
+    scratch.exchange(out);
     match read {
         Ok((written, len)) => {
             let fits = settle(out, end, &written, most)?;
-            room.keep_room(written);
+            scratch.keep_buffer(written);
             Ok((fits, len))
         }
         Err(error) => {

@@ -22,7 +22,7 @@ use std::alloc::Global;
 
 /// Reads a writer's datum from the front of bytes by a plan, and appends the plain encoding of what it is for the reader to an output, unless
 /// this would then be longer than `most` bytes. Returns whether it was appended, and the length of what was read. Past that limit, bytes
-/// are only counted. The room is kept from datum to datum; its content between calls is unspecified.
+/// are only counted. The scratch is kept from datum to datum; its content between calls is unspecified.
 ///
 /// # Errors
 ///
@@ -34,7 +34,7 @@ pub fn append_resolved(
     bytes: &[u8],
     limits: &Limits,
     most: usize,
-    room: &mut Appending,
+    scratch: &mut Appending,
     out: &mut Vec<u8>,
 ) -> Result<(bool, usize), ReadResolveError>
     ensures found { IfOk result (λ read. (u : Value) × AppendsWithin most out.old.items out.new.items (plain u) read.0
@@ -42,12 +42,12 @@ pub fn append_resolved(
     ensures unchanged { OnErr result (out.new.items ≡ out.old.items) }
     ensures faulty { IfUnresolved result (λ f. (len : ℕ) × ReadsAs (schema_nodes plan.now.0) (schema_nodes plan.now.1) limits.now bytes.now len (Err (fault_of f))) }
     ensures refused { IfUnread result (λ e. IfSome (read_fault e) (Breaks (schema_nodes plan.now.0) limits.now (root_of (schema_nodes plan.now.0)) bytes.now)) }
-    ensures kept { OnOk result (length room.new.bytes ≤ most) }
+    ensures kept { OnOk result (length scratch.new.bytes ≤ most) }
 {
     // Bytes that are in no datum may pass the limit: then the datum is put again, without any that may be in none.
     for sparing in [false, true] {
-        room.restart(most.saturating_sub(out.len()), sparing);
-        match append_put(alloc, plan, bytes, limits, most, room, out) {
+        scratch.restart(most.saturating_sub(out.len()), sparing);
+        match append_put(alloc, plan, bytes, limits, most, scratch, out) {
             Ok((Some(fits), len)) => return Ok((fits, len)),
             Ok((None, _)) => {}
             Err(error) => return Err(error),
@@ -56,14 +56,14 @@ pub fn append_resolved(
     Err(ReadResolveError::Read(ReadError::OutOfMemory))
 }
 
-/// The same, where the room is empty and says how many bytes are kept; `None` where what was only counted would fit.
+/// The same, where the scratch is empty and says how many bytes are kept; `None` where what was only counted would fit.
 fn append_put(
     alloc: Global,
     plan: &PlanRef<'_>,
     bytes: &[u8],
     limits: &Limits,
     most: usize,
-    room: &mut Appending,
+    scratch: &mut Appending,
     out: &mut Vec<u8>,
 ) -> Result<(Option<bool>, usize), ReadResolveError>
     ensures found { IfOk result (λ read. (u : Value) × IfSome read.0 (λ fits. AppendsWithin most out.old.items out.new.items (plain u) fits)
@@ -72,12 +72,12 @@ fn append_put(
     ensures unchanged { OnErr result (out.new.items ≡ out.old.items) }
     ensures faulty { IfUnresolved result (λ f. (len : ℕ) × ReadsAs (schema_nodes plan.now.0) (schema_nodes plan.now.1) limits.now bytes.now len (Err (fault_of f))) }
     ensures refused { IfUnread result (λ e. IfSome (read_fault e) (Breaks (schema_nodes plan.now.0) limits.now (root_of (schema_nodes plan.now.0)) bytes.now)) }
-    ensures kept { OnOk result (Keeps room.old room.new) }
+    ensures kept { OnOk result (Keeps scratch.old scratch.new) }
 {
-    match put_into(alloc, plan, bytes, limits, room) {
-        Ok((written, len)) => match room.append(&written, most, out) {
+    match put_into(alloc, plan, bytes, limits, scratch) {
+        Ok((written, len)) => match scratch.append(&written, most, out) {
             Ok(told) => {
-                room.keep_room(written);
+                scratch.keep_buffer(written);
                 Ok((told, len))
             }
             Err(_) => Err(ReadResolveError::Read(ReadError::OutOfMemory)),
@@ -86,19 +86,19 @@ fn append_put(
     }
 }
 
-/// Puts a datum into the room, which then has its plain encoding where the answer says.
+/// Puts a datum into the scratch, which then has its plain encoding where the answer says.
 fn put_into(
     alloc: Global,
     plan: &PlanRef<'_>,
     bytes: &[u8],
     limits: &Limits,
-    room: &mut Appending,
+    scratch: &mut Appending,
 ) -> Result<(Written, usize), ReadResolveError>
-    ensures found { IfOk result (λ read. (u : Value) × Holds room.new.bytes read.0 (plain u)
+    ensures found { IfOk result (λ read. (u : Value) × Holds scratch.new.bytes read.0 (plain u)
         × ReadsAs (schema_nodes plan.now.0) (schema_nodes plan.now.1) limits.now bytes.now read.1 (Ok u)) }
     ensures faulty { IfUnresolved result (λ f. (len : ℕ) × ReadsAs (schema_nodes plan.now.0) (schema_nodes plan.now.1) limits.now bytes.now len (Err (fault_of f))) }
     ensures refused { IfUnread result (λ e. IfSome (read_fault e) (Breaks (schema_nodes plan.now.0) limits.now (root_of (schema_nodes plan.now.0)) bytes.now)) }
-    ensures kept { OnOk result (Keeps room.old room.new) }
+    ensures kept { OnOk result (Keeps scratch.old scratch.new) }
 {
-    plan.put(alloc, bytes, limits, room)
+    plan.put(alloc, bytes, limits, scratch)
 }

@@ -125,7 +125,7 @@ fn leave(out: &mut Vec<u8>, end: usize, written: &Written) -> Result<(), AllocEr
     }
 }
 
-/// Leaves bytes of the output and those of a room right behind the end that the output had; if memory runs out, anything behind that
+/// Leaves bytes of the output and those of a buffer right behind the end that the output had; if memory runs out, anything behind that
 /// end.
 #[inline(always)]
 fn leave_apart(out: &mut Vec<u8>, end: usize, apart: &Apart) -> Result<(), AllocError>

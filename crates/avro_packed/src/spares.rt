@@ -5,20 +5,20 @@ ghost use Rattle.std.specs.Prelude.{◌≡◌, [], IfOk};
 use crate::written::Apart;
 use std::alloc::{AllocError, Global};
 
-/// How many rooms are kept at most, and how many bytes each has room for at most.
-const ROOMS: usize = 16;
+/// How many buffers are kept at most, and how many bytes each has room for at most.
+const BUFFERS: usize = 16;
 
 const BYTES: usize = 8192;
 
-/// An empty room.
-pub(crate) fn room(alloc: Global, spares: &mut Vec<Box<Apart>>) -> Result<Box<Apart>, AllocError>
-    ensures { IfOk result (λ room. room.value.more.items ≡ []) }
+/// An empty buffer.
+pub(crate) fn buffer(alloc: Global, spares: &mut Vec<Box<Apart>>) -> Result<Box<Apart>, AllocError>
+    ensures { IfOk result (λ buffer. buffer.value.more.items ≡ []) }
 {
     match spares.pop() {
-        Some(room) => {
-            let mut room = room;
-            room.more.clear();
-            Ok(room)
+        Some(buffer) => {
+            let mut buffer = buffer;
+            buffer.more.clear();
+            Ok(buffer)
         }
         None => Ok(Box::new(
             alloc,
@@ -31,10 +31,10 @@ pub(crate) fn room(alloc: Global, spares: &mut Vec<Box<Apart>>) -> Result<Box<Ap
     }
 }
 
-/// Keeps a room for later, if few are kept and it is small. If memory runs out it is dropped.
-pub(crate) fn give(spares: &mut Vec<Box<Apart>>, room: Box<Apart>) {
-    if room.more.capacity() <= BYTES && spares.len() < ROOMS {
-        match spares.push(room) {
+/// Keeps a buffer for later, if few are kept and it is small. If memory runs out it is dropped.
+pub(crate) fn give(spares: &mut Vec<Box<Apart>>, buffer: Box<Apart>) {
+    if buffer.more.capacity() <= BYTES && spares.len() < BUFFERS {
+        match spares.push(buffer) {
             Ok(()) => {}
             Err(_) => {}
         }

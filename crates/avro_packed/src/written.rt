@@ -3,13 +3,13 @@
 pub enum Written {
     /// In the output, from one offset to another.
     Range(usize, usize),
-    /// In the output, and after these in a room of their own.
+    /// In the output, and after these in a buffer of their own.
     Apart(Box<Apart>),
     /// Nowhere: so many bytes, which were only counted.
     Counted(usize),
 }
 
-/// Bytes of an output, from one offset to another, and those of a room after them.
+/// Bytes of an output, from one offset to another, and those of a buffer after them.
 #[derive(Debug, Drop)]
 pub struct Apart {
     pub(crate) start: usize,

@@ -42,7 +42,7 @@ mod resolving;
 
 pub use avro_binary::{Build, Make, Nothing, Place, Tree, read_own};
 pub use avro_compare::{
-    Target, At, Comparison, Fault, FaultKind, Names, compare, first_match, matches, source,
+    At, Comparison, Fault, FaultKind, Names, Target, compare, first_match, matches, source,
 };
 pub use error::{ReadResolveError, ResolveError};
 pub use giving::give;

@@ -1,12 +1,12 @@
-pub(crate) mod verbatim;
-pub(crate) mod lookup;
 pub(crate) mod known;
+pub(crate) mod lookup;
 pub(crate) mod ordering;
 pub(crate) mod parts;
 pub(crate) mod plan_pair;
 pub(crate) mod plan_ref;
 pub(crate) mod plan_table;
 pub(crate) mod reachable;
+pub(crate) mod verbatim;
 
 use crate::error::ReadResolveError;
 use crate::plan::plan_ref::PlanRef;

@@ -1,21 +1,21 @@
 pub(crate) mod copying;
 pub(crate) mod failing;
-pub(crate) mod slots;
 pub(crate) mod guided;
 pub(crate) mod leaves;
-pub(crate) mod record_maker;
 pub(crate) mod list_maker;
+pub(crate) mod record_maker;
+pub(crate) mod slots;
 
 use crate::plan::plan_ref::PlanRef;
 use crate::resolving::copying::copy_record;
 use crate::resolving::failing::step_apart;
 use crate::resolving::guided::{Filling, Made, Part, Run};
 use crate::resolving::leaves::{is_long_leaf, make_apart, make_leaf};
-use crate::resolving::record_maker::{
-    fill_next, make_record, next_field_part, skip_fields, start_filling,
-};
 use crate::resolving::list_maker::{
     make_array, make_map, next_part, put_entry, put_item, repeat_item, start_entries, start_items,
+};
+use crate::resolving::record_maker::{
+    fill_next, make_record, next_field_part, skip_fields, start_filling,
 };
 use avro_binary::{Leaf, Make, Place};
 use avro_compare::At;

@@ -4,7 +4,7 @@ use crate::composing::{
     append_encoded, append_entries, append_items, append_members, append_pieces,
 };
 use crate::leaf::append_leaf;
-use crate::room::Room;
+use crate::scratch::Scratch;
 use crate::spans::{KeyedSpans, Span, Spans};
 use avro_binary::{Leaf, Make, Pieces, Place};
 use avro_display::DisplayTable;
@@ -19,7 +19,7 @@ use std::collections::BTreeMap;
 #[derive(Drop)]
 pub(crate) struct Displaying<'a> {
     pub(crate) table: &'a DisplayTable<'a>,
-    pub(crate) room: &'a mut Room,
+    pub(crate) scratch: &'a mut Scratch,
 }
 
 impl<'a> Displaying<'a> {
@@ -58,17 +58,17 @@ impl<'a> Make for Displaying<'a> {
 
     type Fields = Spans;
 
-    ghost keeps = { λ s t. Keeps s.table.now s.room.now.text t.table.now t.room.now.text × (t.room.ghost_name ≡ s.room.ghost_name) };
+    ghost keeps = { λ s t. Keeps s.table.now s.scratch.now.text t.table.now t.scratch.now.text × (t.scratch.ghost_name ≡ s.scratch.ghost_name) };
 
     ghost begins = { λ _ _. Unit {0} };
 
-    ghost stands_for = { λ s nodes n at out v. StandsFor s.table.now s.room.now.text nodes n at out v };
+    ghost stands_for = { λ s nodes n at out v. StandsFor s.table.now s.scratch.now.text nodes n at out v };
 
-    ghost items_stand_for = { λ s nodes id at items vs. ItemsStandFor s.table.now s.room.now.text nodes id at items vs };
+    ghost items_stand_for = { λ s nodes id at items vs. ItemsStandFor s.table.now s.scratch.now.text nodes id at items vs };
 
-    ghost entries_stand_for = { λ s nodes id at entries es. EntriesStandFor s.table.now s.room.now.text nodes id at entries es };
+    ghost entries_stand_for = { λ s nodes id at entries es. EntriesStandFor s.table.now s.scratch.now.text nodes id at entries es };
 
-    ghost fields_stand_for = { λ s nodes fs at fields vs. FieldsStandFor s.table.now s.room.now.text nodes fs at fields vs };
+    ghost fields_stand_for = { λ s nodes fs at fields vs. FieldsStandFor s.table.now s.scratch.now.text nodes fs at fields vs };
 
     ghost branch_at = { λ _ at branch id. branch_place branch id };
 
@@ -78,17 +78,17 @@ impl<'a> Make for Displaying<'a> {
 
     ghost field_at = { λ _ fields id. alone id };
 
-    ghost keeps_itself = { λ s. ((refl, grows_none s.room.now.text), refl) };
+    ghost keeps_itself = { λ s. ((refl, grows_none s.scratch.now.text), refl) };
 
-    ghost keeps_on = { λ s t u before after. ((after.0.0 ∙ before.0.0, grows_on s.room.now.text t.room.now.text u.room.now.text before.0.1 after.0.1), after.1 ∙ before.1) };
+    ghost keeps_on = { λ s t u before after. ((after.0.0 ∙ before.0.0, grows_on s.scratch.now.text t.scratch.now.text u.scratch.now.text before.0.1 after.0.1), after.1 ∙ before.1) };
 
-    ghost items_kept = { λ s t nodes id at items vs kept stand. items_later s.table.now t.table.now s.room.now.text t.room.now.text nodes id at items vs kept.0.0 kept.0.1 stand };
+    ghost items_kept = { λ s t nodes id at items vs kept stand. items_later s.table.now t.table.now s.scratch.now.text t.scratch.now.text nodes id at items vs kept.0.0 kept.0.1 stand };
 
-    ghost entries_kept = { λ s t nodes id at entries es kept stand. entries_later s.table.now t.table.now s.room.now.text t.room.now.text nodes id at entries es kept.0.0 kept.0.1 stand };
+    ghost entries_kept = { λ s t nodes id at entries es kept stand. entries_later s.table.now t.table.now s.scratch.now.text t.scratch.now.text nodes id at entries es kept.0.0 kept.0.1 stand };
 
-    ghost fields_kept = { λ s t nodes fs at fields vs kept stand. fields_later s.table.now t.table.now s.room.now.text t.room.now.text nodes fs at fields vs kept.0.0 kept.0.1 stand };
+    ghost fields_kept = { λ s t nodes fs at fields vs kept stand. fields_later s.table.now t.table.now s.scratch.now.text t.scratch.now.text nodes fs at fields vs kept.0.0 kept.0.1 stand };
 
-    ghost still_stands = { λ s t nodes n at out v kept stand. stands_later s.table.now t.table.now s.room.now.text t.room.now.text nodes n at out v kept.0.0 kept.0.1 stand };
+    ghost still_stands = { λ s t nodes n at out v kept stand. stands_later s.table.now t.table.now s.scratch.now.text t.scratch.now.text nodes n at out v kept.0.0 kept.0.1 stand };
 
     ghost branch_at_kept = { λ s t at branch id kept. refl };
 
@@ -99,15 +99,15 @@ impl<'a> Make for Displaying<'a> {
     ghost field_at_kept = { λ s t fields id kept. refl };
 
     fn ends(&mut self, alloc: Global, _at: Place) -> Option<Vec<usize>> {
-        Some(self.room.take_ends(alloc))
+        Some(self.scratch.take_ends(alloc))
     }
 
     fn spare_ends(&mut self, alloc: Global) -> Option<Vec<usize>> {
-        Some(self.room.take_ends(alloc))
+        Some(self.scratch.take_ends(alloc))
     }
 
     fn keep_ends(&mut self, ends: Vec<usize>) {
-        self.room.keep_ends(ends);
+        self.scratch.keep_ends(ends);
     }
 
     fn pieces(
@@ -120,10 +120,10 @@ impl<'a> Make for Displaying<'a> {
         let opening = self.opening(at);
         let members = self.table.members(at.node);
         let pieces = Pieces { bytes, ends: &ends };
-        let start = self.room.begin(opening)?;
-        append_pieces(&mut self.room.text, self.table, members, pieces)?;
-        self.room.keep_ends(ends);
-        Ok(Some(self.room.end(opening, start)?))
+        let start = self.scratch.begin(opening)?;
+        append_pieces(&mut self.scratch.text, self.table, members, pieces)?;
+        self.scratch.keep_ends(ends);
+        Ok(Some(self.scratch.end(opening, start)?))
     }
 
     fn copied(
@@ -134,18 +134,18 @@ impl<'a> Make for Displaying<'a> {
     ) -> Result<Option<Span>, AllocError> {
         let opening = self.opening(at);
         let node = self.table.schema().get(at.node);
-        let start = self.room.begin(opening)?;
-        append_encoded(&mut self.room.text, node, content)?;
-        Ok(Some(self.room.end(opening, start)?))
+        let start = self.scratch.begin(opening)?;
+        append_encoded(&mut self.scratch.text, node, content)?;
+        Ok(Some(self.scratch.end(opening, start)?))
     }
 
     #[inline(always)]
     fn leaf(&mut self, _alloc: Global, at: Place, leaf: Leaf<'_>) -> Result<Span, AllocError> {
         let opening = self.opening(at);
         let node = self.table.schema().get(at.node);
-        let start = self.room.begin(opening)?;
-        append_leaf(&mut self.room.text, node, leaf)?;
-        self.room.end(opening, start)
+        let start = self.scratch.begin(opening)?;
+        append_leaf(&mut self.scratch.text, node, leaf)?;
+        self.scratch.end(opening, start)
     }
 
     fn branch_at(&self, _at: Place, branch: u32, node: NodeId) -> Place {
@@ -157,7 +157,7 @@ impl<'a> Make for Displaying<'a> {
     }
 
     fn items(&mut self, alloc: Global, at: Place) -> Result<Spans, AllocError> {
-        Ok(self.room.spans(alloc, at))
+        Ok(self.scratch.spans(alloc, at))
     }
 
     fn item_at(&self, _items: &Spans, node: NodeId) -> Place {
@@ -171,11 +171,11 @@ impl<'a> Make for Displaying<'a> {
 
     fn array(&mut self, _alloc: Global, items: Spans) -> Result<Span, AllocError> {
         let opening = self.opening(items.owner);
-        let room = &mut *self.room;
-        room.whole.clear();
-        append_items(&mut room.whole, room.text.as_slice(), &items.parts)?;
-        room.keep_spans(items);
-        room.composed(opening)
+        let scratch = &mut *self.scratch;
+        scratch.whole.clear();
+        append_items(&mut scratch.whole, scratch.text.as_slice(), &items.parts)?;
+        scratch.keep_spans(items);
+        scratch.composed(opening)
     }
 
     fn entries(&mut self, alloc: Global, at: Place) -> Result<KeyedSpans, AllocError> {
@@ -198,7 +198,7 @@ impl<'a> Make for Displaying<'a> {
         value: Span,
     ) -> Result<(), AllocError> {
         entries.bytes = entries.bytes.saturating_add(key.len());
-        if self.room.is_full(entries.bytes) {
+        if self.scratch.is_full(entries.bytes) {
             return Err(AllocError);
         }
         let key = String::from_str(alloc, key)?;
@@ -208,14 +208,14 @@ impl<'a> Make for Displaying<'a> {
 
     fn map(&mut self, _alloc: Global, entries: KeyedSpans) -> Result<Span, AllocError> {
         let opening = self.opening(entries.owner);
-        let room = &mut *self.room;
-        room.whole.clear();
-        append_entries(&mut room.whole, room.text.as_slice(), &entries.parts)?;
-        room.composed(opening)
+        let scratch = &mut *self.scratch;
+        scratch.whole.clear();
+        append_entries(&mut scratch.whole, scratch.text.as_slice(), &entries.parts)?;
+        scratch.composed(opening)
     }
 
     fn fields(&mut self, alloc: Global, at: Place) -> Result<Spans, AllocError> {
-        Ok(self.room.spans(alloc, at))
+        Ok(self.scratch.spans(alloc, at))
     }
 
     fn field_at(&self, _fields: &Spans, node: NodeId) -> Place {
@@ -230,19 +230,19 @@ impl<'a> Make for Displaying<'a> {
     fn record(&mut self, _alloc: Global, fields: Spans) -> Result<Span, AllocError> {
         let opening = self.opening(fields.owner);
         let members = self.table.members(fields.owner.node);
-        let room = &mut *self.room;
-        room.whole.clear();
+        let scratch = &mut *self.scratch;
+        scratch.whole.clear();
         append_members(
-            &mut room.whole,
-            room.text.as_slice(),
+            &mut scratch.whole,
+            scratch.text.as_slice(),
             members,
             &fields.parts,
         )?;
-        room.keep_spans(fields);
-        room.composed(opening)
+        scratch.keep_spans(fields);
+        scratch.composed(opening)
     }
 
     fn keep_slots(&mut self, _slots: Vec<Option<Span>>)
-        ensures kept { Keeps self.old.table.now self.old.room.now.text self.new.table.now self.new.room.now.text × (self.new.room.ghost_name ≡ self.old.room.ghost_name) }
+        ensures kept { Keeps self.old.table.now self.old.scratch.now.text self.new.table.now self.new.scratch.now.text × (self.new.scratch.ghost_name ≡ self.old.scratch.ghost_name) }
     {}
 }

@@ -17,11 +17,11 @@ mod opening;
 mod part;
 mod parts;
 mod resolved;
-mod room;
+mod scratch;
 mod show;
 mod spans;
 
 pub use line::{append_line, display_read, display_resolved};
 pub use resolved::Resolved;
-pub use room::Room;
+pub use scratch::Scratch;
 pub use show::{put_resolved, put_resolved_line};

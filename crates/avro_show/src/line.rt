@@ -18,15 +18,15 @@ ghost use Rattle.avro_display.specs.DisplayTree.{display_text};
 ghost use Rattle.avro_show.specs.Spans.{StandsIn};
 
 use crate::displaying::Displaying;
-use crate::room::Room;
+use crate::scratch::Scratch;
 use avro_binary::{Place, ReadError, read_made};
 use avro_display::{DisplayTable, Text};
 use avro_resolve::{PlanRef, ReadResolveError};
 use avro_schema::Limits;
 use std::alloc::{AllocError, Global};
 
-/// Reads a datum of the root of the table's schema from the front of bytes, makes its display, which the room shows, and returns the
-/// length of its encoding. The room is kept from datum to datum.
+/// Reads a datum of the root of the table's schema from the front of bytes, makes its display, which the scratch shows, and returns the
+/// length of its encoding. The scratch is kept from datum to datum.
 ///
 /// # Errors
 ///
@@ -37,25 +37,25 @@ pub fn display_read(
     table: &DisplayTable<'_>,
     bytes: &[u8],
     limits: &Limits,
-    room: &mut Room,
+    scratch: &mut Scratch,
 ) -> Result<usize, ReadError>
     ensures found { IfOk result (λ len. (v : Value) × (len ≤ length bytes.now) × Encodes (schema_nodes table.now) (root_of (schema_nodes table.now)) v (take len bytes.now)
-        × (is_within limits.now v ≡ true) × StandsIn room.new.text room.new.shown (display_text (schema_nodes table.now) (root_of (schema_nodes table.now)) v)) }
+        × (is_within limits.now v ≡ true) × StandsIn scratch.new.text scratch.new.shown (display_text (schema_nodes table.now) (root_of (schema_nodes table.now)) v)) }
     ensures begins { (v : Value) (front rest : List ℕ) → Encodes (schema_nodes table.now) (root_of (schema_nodes table.now)) v front → is_within limits.now v ≡ true
         → bytes.now ≡ front ++ rest → UnlessOutOfMemory result (result ≡ Ok (length front)) }
     ensures breaks { (fault : ReadFault) → Breaks (schema_nodes table.now) limits.now (root_of (schema_nodes table.now)) bytes.now fault → UnlessOutOfMemory result (Reports result fault) }
     ensures refused { IfErr result (λ e. IfSome (read_fault e) (Breaks (schema_nodes table.now) limits.now (root_of (schema_nodes table.now)) bytes.now)) }
 {
-    room.text.clear();
+    scratch.text.clear();
     let schema = table.schema();
     let root = schema.root();
     let mut displaying = Displaying {
         table,
-        room: &mut *room,
+        scratch: &mut *scratch,
     };
     let place = Place::of(root);
     let (shown, len) = read_made(alloc, schema, root, bytes, limits, &mut displaying, place)?;
-    room.shown = shown;
+    scratch.shown = shown;
     Ok(len)
 }
 
@@ -70,34 +70,34 @@ pub fn display_resolved(
     table: &DisplayTable<'_>,
     bytes: &[u8],
     limits: &Limits,
-    room: &mut Room,
+    scratch: &mut Scratch,
 ) -> Result<usize, ReadResolveError>
     ensures found { schema_nodes table.now ≡ schema_nodes plan.now.1 → IfOk result (λ len. (u : Value) × ReadsAs (schema_nodes plan.now.0) (schema_nodes plan.now.1) limits.now bytes.now len (Ok u)
-        × StandsIn room.new.text room.new.shown (display_text (schema_nodes table.now) (root_of (schema_nodes table.now)) u)) }
+        × StandsIn scratch.new.text scratch.new.shown (display_text (schema_nodes table.now) (root_of (schema_nodes table.now)) u)) }
     ensures faulty { IfUnresolved result (λ f. (len : ℕ) × ReadsAs (schema_nodes plan.now.0) (schema_nodes plan.now.1) limits.now bytes.now len (Err (fault_of f))) }
     ensures refused { IfUnread result (λ e. IfSome (read_fault e) (Breaks (schema_nodes plan.now.0) limits.now (root_of (schema_nodes plan.now.0)) bytes.now)) }
 {
-    room.text.clear();
+    scratch.text.clear();
     let mut displaying = Displaying {
         table,
-        room: &mut *room,
+        scratch: &mut *scratch,
     };
     let (shown, len) = plan.put(alloc, bytes, limits, &mut displaying)?;
-    room.shown = shown;
+    scratch.shown = shown;
     Ok(len)
 }
 
-/// Appends the line of the display that a room shows, which is the display and a line feed, to lines.
+/// Appends the line of the display that a scratch shows, which is the display and a line feed, to lines.
 ///
 /// # Errors
 ///
 /// Memory ran out; the lines are as they were.
-pub fn append_line(room: &Room, lines: &mut Text) -> Result<(), AllocError>
-    ensures appended { (bytes : List ℕ) → StandsIn room.now.text room.now.shown bytes → OnOk result (lines.new ≡ lines.old ++ (bytes ++ 10 ∷ [])) }
+pub fn append_line(scratch: &Scratch, lines: &mut Text) -> Result<(), AllocError>
+    ensures appended { (bytes : List ℕ) → StandsIn scratch.now.text scratch.now.shown bytes → OnOk result (lines.new ≡ lines.old ++ (bytes ++ 10 ∷ [])) }
     ensures unchanged { OnErr result (lines.new ≡ lines.old) }
 {
     let held = lines.len();
-    lines.append(room.shown())?;
+    lines.append(scratch.shown())?;
     let ended = lines.append_byte(b'\n');
     if ended.is_err() {
         lines.truncate(held);

@@ -35,7 +35,13 @@ pub(crate) fn opened_written<'a>(
     let (pair, datum) = out_of_unions(plan, pair, datum);
     match pair.target(plan) {
         Target::Fault(_) => Opened::Null,
-        Target::To(None, q) => opened_targeted(plan, table, pair.targeted(plan, None, q), id, datum),
+        Target::To(None, q) => opened_targeted(
+            plan,
+            table,
+            pair.targeted(plan, None, q),
+            id,
+            datum,
+        ),
         Target::To(Some(branch), q) => opened_branch(
             table,
             pair.targeted(plan, Some(branch), q),

@@ -1,6 +1,6 @@
 ghost use Rattle.std.specs.Prelude.{◌≡◌};
 
-use crate::opening::{as_default, opened_targeted, opened_default, opened_written};
+use crate::opening::{as_default, opened_default, opened_targeted, opened_written};
 use crate::part::Part;
 use crate::parts::{entry_part, field_name, field_part, node_of_field, value_part};
 use avro_display::{DisplayTable, Displayed, Member, Opened, Plain, entry_key, node_fields};
@@ -51,7 +51,9 @@ impl<'a> Displayed for Resolved<'a> {
             Part::Written(pair, id, datum) => {
                 opened_written(self.plan, self.table, pair, id, datum)
             }
-            Part::Targeted(pair, id, datum) => opened_targeted(self.plan, self.table, pair, id, datum),
+            Part::Targeted(pair, id, datum) => opened_targeted(
+                self.plan, self.table, pair, id, datum,
+            ),
             Part::Default(plain) => opened_default(self.plain.open(plain)),
             Part::Null => Opened::Null,
             Part::Items(_, _, _) => Opened::Null,

@@ -9,7 +9,7 @@ use std::time::{Clock, Instant};
 const PAUSE: u128 = 250;
 
 /// How many bytes a line has at the most.
-const ROOM: usize = 96;
+const CAPACITY: usize = 96;
 
 /// An input whose progress is reported: a line that is rewritten at most four times a second, and once at
 /// the end. A standard error that fails changes nothing.
@@ -105,7 +105,7 @@ impl Meter {
 
     /// Writes the line in place of the one before it, by one write.
     fn tell<E: Write>(&mut self, millis: u128, err: &mut E, end: &str) {
-        let mut line = Cursor::new([0; ROOM]);
+        let mut line = Cursor::new([0; CAPACITY]);
         let speed = per_second(self.read, millis);
         let _ = match self.length {
             Some(length) => write!(
@@ -125,7 +125,7 @@ impl Meter {
         }
         let _ = write!(line, "{end}");
         self.width = width;
-        let len = (line.position() as usize).min(ROOM);
+        let len = (line.position() as usize).min(CAPACITY);
         let _ = err.write_all(&line.get_ref()[..len]);
         let _ = err.flush();
     }

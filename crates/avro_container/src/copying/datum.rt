@@ -27,7 +27,7 @@ fn pack_datum(
     block: &BlockTask<'_>,
     limits: &Limits,
     bytes: &[u8],
-    room: &mut Appending,
+    scratch: &mut Appending,
     packed: &mut Vec<u8>,
 ) -> Result<(bool, usize), ReadResolveError>
     ensures { limits.now ≡ (reading_for block.now).limits.datum → PacksNext (reading_for block.now) packed.old.items packed.new.items bytes.now result }
@@ -35,8 +35,8 @@ fn pack_datum(
     let schema = block.header.schema();
     let most = block.task.limits.block() as usize;
     match &block.plan {
-        Some(plan) => pack_resolved(alloc, plan, bytes, limits, most, room, packed),
-        None => pack_read(alloc, schema, bytes, limits, most, room, packed),
+        Some(plan) => pack_resolved(alloc, plan, bytes, limits, most, scratch, packed),
+        None => pack_read(alloc, schema, bytes, limits, most, scratch, packed),
     }
 }
 
@@ -48,12 +48,12 @@ fn pack_read(
     bytes: &[u8],
     limits: &Limits,
     most: usize,
-    room: &mut Appending,
+    scratch: &mut Appending,
     packed: &mut Vec<u8>,
 ) -> Result<(bool, usize), ReadResolveError>
     ensures { ReadsDatum (λ fits u. AppendsWithin most packed.old.items packed.new.items (plain u) fits) (schema_nodes schema.now) limits.now (resolution None (schema_nodes schema.now)) bytes.now result }
 {
-    match append_read(alloc, schema, bytes, limits, most, room, packed) {
+    match append_read(alloc, schema, bytes, limits, most, scratch, packed) {
         Ok((fits, len)) => Ok((fits, len)),
         Err(error) => Err(ReadResolveError::Read(error)),
     }
@@ -67,12 +67,12 @@ fn pack_resolved(
     bytes: &[u8],
     limits: &Limits,
     most: usize,
-    room: &mut Appending,
+    scratch: &mut Appending,
     packed: &mut Vec<u8>,
 ) -> Result<(bool, usize), ReadResolveError>
     ensures { ReadsDatum (λ fits u. AppendsWithin most packed.old.items packed.new.items (plain u) fits) (schema_nodes plan.now.0) limits.now (resolution (Some (schema_nodes plan.now.1)) (schema_nodes plan.now.0)) bytes.now result }
 {
-    match append_resolved(alloc, plan, bytes, limits, most, room, packed) {
+    match append_resolved(alloc, plan, bytes, limits, most, scratch, packed) {
         Ok((fits, len)) => Ok((fits, len)),
         Err(error) => Err(error),
     }
@@ -104,13 +104,13 @@ pub(crate) fn pack_each(
 {
     let alloc = *packed.allocator();
     let limits = block.task.limits.datum();
-    let mut room = Appending::new(alloc);
+    let mut scratch = Appending::new(alloc);
     let mut start = 0;
     let mut datum = 0;
     while datum < count && empty.is_none() {
         let (_, rest) = body.split_at(start);
         let before = packed.len();
-        match pack_datum(alloc, block, &limits, rest, &mut room, packed) {
+        match pack_datum(alloc, block, &limits, rest, &mut scratch, packed) {
             Ok((fits, len)) => {
                 if !fits {
                     return Err(CopyError::LimitExceeded(LimitPlace::Block(block.number)));

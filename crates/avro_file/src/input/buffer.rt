@@ -28,16 +28,16 @@ impl From<AllocError> for TakeError {
     }
 }
 
-/// The bytes taken so far: those of `room` from `start` to `end`.
+/// The bytes taken so far: those of `storage` from `start` to `end`.
 ///
-/// Passing bytes does not shrink `room`: it is reused, and only newly allocated space is filled with zeros.
+/// Passing bytes does not shrink `storage`: it is reused, and only newly allocated space is filled with zeros.
 #[derive(Drop)]
 pub struct Buffer {
-    room: Vec<u8>,
+    storage: Vec<u8>,
     start: usize,
     end: usize,
     ghost ordered: { start ≤ end },
-    ghost within: { end ≤ length room.items },
+    ghost within: { end ≤ length storage.items },
 }
 
 impl Buffer {
@@ -48,7 +48,7 @@ impl Buffer {
         ensures { held result ≡ [] }
     {
         Buffer {
-            room: Vec::new(alloc),
+            storage: Vec::new(alloc),
             start: 0,
             end: 0,
         }
@@ -58,7 +58,7 @@ impl Buffer {
     pub fn bytes(&self) -> &[u8]
         ensures { result.now ≡ held self.now }
     {
-        &self.room[self.start..self.end]
+        &self.storage[self.start..self.end]
     }
 
     /// The number of bytes held.
@@ -76,35 +76,35 @@ impl Buffer {
         self.start += count;
     }
 
-    /// Moves the bytes held to the front of `room`.
+    /// Moves the bytes held to the front of `storage`.
     fn move_to_front(&mut self)
         ensures same { held self.new ≡ held self.old }
-        ensures front { free self.new + length (held self.new) ≡ length self.new.room.items }
+        ensures front { free self.new + length (held self.new) ≡ length self.new.storage.items }
     {
         if self.start == 0 {
             return;
         }
         let (start, end) = (self.start, self.end);
-        self.room.as_mut_slice().copy_within(start..end, 0);
+        self.storage.as_mut_slice().copy_within(start..end, 0);
         self.start = 0;
         self.end = end - start;
     }
 
     /// Makes room for `count` more bytes. If there is too little, it makes room for at least [`GROWTH`], so that the bytes held
     /// are not moved for every few bytes.
-    fn make_room(&mut self, count: usize) -> Result<(), AllocError>
+    fn reserve(&mut self, count: usize) -> Result<(), AllocError>
         requires { length (held self.old) + count < 2 ^ 64 }
         ensures same { held self.new ≡ held self.old }
-        ensures room { OnOk result (count ≤ free self.new) }
+        ensures storage { OnOk result (count ≤ free self.new) }
     {
-        if self.room.len() - self.end >= count {
+        if self.storage.len() - self.end >= count {
             return Ok(());
         }
         self.move_to_front();
         let end = self.end.saturating_add(count.max(GROWTH));
-        if self.room.len() < end {
-            self.room.reserve_exact(end - self.room.len())?;
-            self.room.resize(end, 0)?;
+        if self.storage.len() < end {
+            self.storage.reserve_exact(end - self.storage.len())?;
+            self.storage.resize(end, 0)?;
         }
         Ok(())
     }
@@ -131,9 +131,9 @@ impl Buffer {
         ensures not_taken { result ≡ Err TakeError.OutOfMemory → input.new ≡ input.old }
         ensures same { OnErr result (held self.new ≡ held self.old) }
     {
-        self.make_room(most)?;
+        self.reserve(most)?;
         let (start, end) = (self.end, self.end + most);
-        match input.take(&mut self.room[start..end]) {
+        match input.take(&mut self.storage[start..end]) {
             Ok(count) => {
                 self.end += count;
                 Ok(count)

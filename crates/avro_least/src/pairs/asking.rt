@@ -12,7 +12,7 @@ ghost use Rattle.avro_least.specs.Asks.{AreTaken, IsKept, view_of};
 ghost use Rattle.avro_least.specs.SeenAsk.{rows_by, rows_of, theirs_in};
 ghost use Rattle.avro_least.specs.inside.Parts.{nodes_of};
 
-use avro_compare::{Target, At, Comparison, first_entry, rest_entries};
+use avro_compare::{At, Comparison, Target, first_entry, rest_entries};
 use avro_schema::{Field, Memory, Node, NodeId, Schema};
 use std::alloc::Global;
 

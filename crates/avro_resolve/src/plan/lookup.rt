@@ -6,7 +6,7 @@ ghost use Rattle.avro_compare.specs.Entries.{first_entry};
 ghost use Rattle.avro_compare.specs.Planned.{AreInside, AreComparisons, IsComparison, part_or_none};
 ghost use Rattle.avro_resolve.specs.inside.Guided.{IsWhole};
 
-use avro_compare::{Target, At, Comparison, first_entry};
+use avro_compare::{At, Comparison, Target, first_entry};
 use avro_schema::NodeId;
 
 /// What is kept at an index, if it is of these two nodes.

@@ -2,15 +2,15 @@ ghost use Rattle.std.specs.Prelude.{◌≡◌, slice_get};
 ghost use Rattle.avro_resolve.specs.inside.Guided.{kept_or};
 
 use crate::error::{ReadResolveError, ResolveError};
-use crate::plan::verbatim::{is_set, verbatim_kept};
-use crate::plan::lookup::{inside_of, pair_of, part_known, whole_kept};
 use crate::plan::known::{count, index_in};
+use crate::plan::lookup::{inside_of, pair_of, part_known, whole_kept};
 use crate::plan::parts::{branch_of, items_of, values_of};
+use crate::plan::verbatim::{is_set, verbatim_kept};
 use crate::read::{put_planned, read_planned};
 use crate::resolution::put_datum;
 use crate::resolving::guided::Part;
 use avro_binary::{Build, Make, Place};
-use avro_compare::{Target, At, Comparison, target, fields_of, missing, part_for, symbol_for};
+use avro_compare::{At, Comparison, Target, fields_of, missing, part_for, symbol_for, target};
 use avro_schema::{Datum, Limits, NodeId, Schema};
 use avro_texts::Seeded;
 use indexmap::IndexSet;

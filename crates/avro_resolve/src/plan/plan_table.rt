@@ -1,8 +1,8 @@
-use crate::plan::verbatim::flags_of;
 use crate::plan::known::{count, index_in, numbers_of};
 use crate::plan::ordering::indices_of;
 use crate::plan::plan_ref::PlanRef;
 use crate::plan::reachable::compare_reached;
+use crate::plan::verbatim::flags_of;
 use avro_compare::Comparison;
 use avro_schema::{Memory, Schema};
 use avro_texts::Seeded;

@@ -10,7 +10,7 @@ ghost use Rattle.avro_resolve.specs.Copied.{AreCopied, AreFlags, CopiedFrom, IsC
 
 use crate::plan::known::narrow;
 use crate::plan::plan_ref::{PlanRef, index_at};
-use avro_compare::{Target, Comparison, fields_of, first_entry, rest_entries};
+use avro_compare::{Comparison, Target, fields_of, first_entry, rest_entries};
 use avro_schema::{Field, Memory, Node, NodeId, Schema};
 use std::alloc::Global;
 

@@ -18,8 +18,8 @@ ghost use Rattle.avro_binary.specs.declared.place.Place.{Place as SeenPlace};
 ghost use Rattle.avro_resolve.specs.inside.Guided.{AreFitting, AreLeaves, StandsAs, of_node};
 
 use crate::plan::plan_ref::PlanRef;
-use crate::resolving::slots::make_default;
 use crate::resolving::guided::{Made, Part};
+use crate::resolving::slots::make_default;
 use avro_binary::{Leaf, Make, Pieces, Place, piece_of};
 use avro_compare::{At, fields_of, first_entry, rest_entries};
 use avro_schema::{Field, Node, NodeId, Schema};

@@ -15,7 +15,7 @@ use crate::plan::plan_ref::PlanRef;
 use crate::resolving::failing::fault_apart;
 use crate::resolving::guided::{Made, Part};
 use avro_binary::{Leaf, Make, Place};
-use avro_compare::{Target, At, FaultKind};
+use avro_compare::{At, FaultKind, Target};
 use avro_cursor::text_of;
 use avro_schema::{Node, NodeId, Schema};
 use std::alloc::{AllocError, Global};

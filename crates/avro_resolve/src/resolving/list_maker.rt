@@ -12,7 +12,7 @@ use crate::resolving::failing::{fault_apart, step_apart};
 use crate::resolving::guided::{Made, Part, Run};
 use crate::resolving::leaves::into_branch;
 use avro_binary::{Make, Place};
-use avro_compare::{Target, At};
+use avro_compare::{At, Target};
 use std::alloc::{AllocError, Global};
 
 /// What the next item or entry is for, whose pair may be kept at an index.

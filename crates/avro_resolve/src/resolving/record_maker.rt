@@ -12,11 +12,11 @@ ghost use Rattle.avro_resolve.specs.inside.Guided.{FieldsStandAs, FillsAs, Knows
 
 use crate::plan::plan_ref::{PlanRef, index_at};
 use crate::resolving::failing::{fault_apart, step_apart};
-use crate::resolving::slots::fill;
 use crate::resolving::guided::{Filling, Made, Part, Slots};
 use crate::resolving::leaves::into_branch;
+use crate::resolving::slots::fill;
 use avro_binary::{Make, Place};
-use avro_compare::{Target, At, FaultKind, fields_of, first_entry, rest_entries};
+use avro_compare::{At, FaultKind, Target, fields_of, first_entry, rest_entries};
 use std::alloc::{AllocError, Global};
 
 /// What was made of no fields, and what is known of the first.

@@ -14,7 +14,7 @@ ghost use Rattle.avro_tool.specs.declared.failure.Failure.{Failure};
 
 use crate::Finding;
 use crate::failure::Failure;
-use crate::files::container::{ROOM, length_of, print_counts};
+use crate::files::container::{CAPACITY, length_of, print_counts};
 use crate::files::kept::STANDARD_INPUT;
 use crate::files::schema::read_reader;
 use crate::progress::Watched;
@@ -61,7 +61,7 @@ fn pipe_for<'a, I: Read, O: Output>(
     input: &mut I,
     out: &mut O,
 ) -> Result<Counts, Failure<'a>> {
-    match BufReader::with_capacity(alloc, ROOM, input) {
+    match BufReader::with_capacity(alloc, CAPACITY, input) {
         Ok(input) => pipe_from(alloc, &mut ReadInput::new(input), reader, sync, out),
         Err(_) => Err(Failure::OutOfMemory),
     }
@@ -76,7 +76,7 @@ fn pipe_watched<'a, R: Files + Clock + AllocGlobal, I: Read, O: Output, E: Write
     out: &mut O,
     err: &mut E,
 ) -> Result<Counts, Failure<'a>> {
-    match BufReader::with_capacity(rt.alloc(), ROOM, input) {
+    match BufReader::with_capacity(rt.alloc(), CAPACITY, input) {
         Ok(input) => pipe_told(rt, ReadInput::new(input), reader, sync, out, err),
         Err(_) => Err(Failure::OutOfMemory),
     }

@@ -20,7 +20,7 @@ use avro_device::Output;
 use avro_resolve::ReadResolveError;
 use avro_schema::{Limits, Memory, Schema};
 use avro_schema_json::ReaderText;
-use avro_show::Room;
+use avro_show::Scratch;
 use std::alloc::Global;
 use std::io;
 use std::io::BufRead;
@@ -183,8 +183,15 @@ fn put_datum<O: Output>(
 {
     match behind(bytes, asked.skip as usize) {
         Ok(rest) => {
-            let mut room = Room::new(alloc);
-            plan.put(out, alloc, rest, &Limits::default(), asked.form, &mut room)
+            let mut scratch = Scratch::new(alloc);
+            plan.put(
+                out,
+                alloc,
+                rest,
+                &Limits::default(),
+                asked.form,
+                &mut scratch,
+            )
         }
         Err(error) => Err(DataError::Refused(error)),
     }

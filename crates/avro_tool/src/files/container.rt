@@ -19,7 +19,7 @@ use std::io::{BufReader, Cursor, Write};
 use std::rt::{Clock, Files};
 
 /// How many bytes are read or written at once.
-pub(crate) const ROOM: usize = 65_536;
+pub(crate) const CAPACITY: usize = 65_536;
 
 /// The most bytes in a line of two counts.
 const ROOM_OF_COUNTS: usize = 54;
@@ -38,7 +38,7 @@ pub(crate) fn open_file<'a, R: Files + AllocGlobal>(
     word: &'a str,
 ) -> Result<BufReader<R::File>, Failure<'a>> {
     match fs::open(rt, word) {
-        Ok(file) => match BufReader::with_capacity(rt.alloc(), ROOM, file) {
+        Ok(file) => match BufReader::with_capacity(rt.alloc(), CAPACITY, file) {
             Ok(reader) => Ok(reader),
             Err(_) => Err(Failure::OutOfMemory),
         },

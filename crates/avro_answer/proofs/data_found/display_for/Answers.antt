@@ -13,15 +13,15 @@ use Rattle.avro_answer.proofs.data_found.display_for.Goals as goal
 
 pub returns-clause-shown : goal.returns-clause-shown
 returns-clause-shown c =
-    let room = c.display_resolved.new.room in
+    let scratch = c.display_resolved.new.scratch in
     let L = c.args.limits.now in
     let B = c.args.bytes.now in
     let p = c.by_ref-plan.result in
     let all = subst (λ (s : Schema). OnlyFound (schema_nodes s)) c.writer.ensures c.one_found.ensures in
     subst (λ (p : Schema × Schema). schema_nodes c.args.table.now ≡ schema_nodes p.1 → IfOk c.display_resolved.result (λ len. (display : List ℕ)
-    × IsDisplayed (schema_nodes p.0) (Some (schema_nodes p.1)) L B len display × StandsIn room.text room.shown display))
+    × IsDisplayed (schema_nodes p.0) (Some (schema_nodes p.1)) L B len display × StandsIn scratch.text scratch.shown display))
     c.by_ref-plan.ensures
-    (λ same. read_is_displayed (schema_nodes p.0) all L B (schema_nodes p.1) (StandsIn room.text room.shown) (schema_nodes c.args.table.now) same
+    (λ same. read_is_displayed (schema_nodes p.0) all L B (schema_nodes p.1) (StandsIn scratch.text scratch.shown) (schema_nodes c.args.table.now) same
     c.display_resolved.result (c.display_resolved.ensures.found same))
 
 pub returns-clause-refused : goal.returns-clause-refused

@@ -10,7 +10,7 @@ returns-in_err-reader-clause-refused c =
     c.in_err-reader.field-0.0 c.in_err-reader.ensures.refused)
 
 pub returns-clause-answered : goal.returns-clause-answered
-returns-clause-answered c = λ is_text. let told = c.in_ok-judge_in_room.ensures.answered is_text in (
+returns-clause-answered c = λ is_text. let told = c.in_ok-judge_cut.ensures.answered is_text in (
   told.0,
   record {
     written = schema_nodes c.in_ok-writer.writer;
@@ -23,7 +23,7 @@ returns-clause-answered c = λ is_text. let told = c.in_ok-judge_in_room.ensures
 )
 
 pub returns-clause-json : goal.returns-clause-json
-returns-clause-json c = λ is_json. let told = c.in_ok-judge_in_room.ensures.json is_json in (
+returns-clause-json c = λ is_json. let told = c.in_ok-judge_cut.ensures.json is_json in (
   told.0,
   record {
     written = schema_nodes c.in_ok-writer.writer;

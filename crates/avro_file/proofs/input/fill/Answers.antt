@@ -12,4 +12,4 @@ returns-then-count-eq0-clause-lost g c =
 pub returns-in-Err-Device-clause-lost : goal.returns-in-Err-Device-clause-lost
 returns-in-Err-Device-clause-lost g c =
     TakesAtMost-behind g.I.Input.gives g.met.I.Input.chain _ _ _ (held c.args.buffer.now) (held c.loop-buffer.buffer)
-    c.min-room.result _ c.loop-buffer.invariant.0 c.in-Err-Device.ensures.lost (search rules)
+    c.min-wanted.result _ c.loop-buffer.invariant.0 c.in-Err-Device.ensures.lost (search rules)

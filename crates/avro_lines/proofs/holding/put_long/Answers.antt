@@ -4,8 +4,8 @@ use Rattle.avro_display.proofs.public.Fronts.{on_any_err}
 use Rattle.avro_lines.proofs.Parts.{part-held, puts-all, puts-still}
 use Rattle.avro_lines.proofs.holding.put_long.Goals as goal
 
-pub returns-then-len-lt-ROOM-clause-puts : goal.returns-then-len-lt-ROOM-clause-puts
-returns-then-len-lt-ROOM-clause-puts g c = puts-still g.O.Output.keeps g.met.O.Output.none c.args.output.now c.args.lines.now.text c.args.lines.now.text refl
+pub returns-then-len-lt-CAPACITY-clause-puts : goal.returns-then-len-lt-CAPACITY-clause-puts
+returns-then-len-lt-CAPACITY-clause-puts g c = puts-still g.O.Output.keeps g.met.O.Output.none c.args.output.now c.args.lines.now.text c.args.lines.now.text refl
 
 pub returns-clause-puts : goal.returns-clause-puts
 returns-clause-puts g c =

@@ -9,9 +9,9 @@ use Rattle.avro_lines.proofs.line.display_planned.Goals as goal
 
 pub returns-in-Ok : goal.returns-in-Ok
 returns-in-Ok c =
-    let room = c.display_resolved.new.room in
+    let scratch = c.display_resolved.new.scratch in
     subst (λ (p : Schema × Schema). schema_nodes c.args.table.now ≡ schema_nodes p.1 → Displays (schema_nodes p.0) c.args.limits.now (into (schema_nodes p.1) (schema_nodes p.0))
-    (schema_nodes c.args.table.now) c.args.bytes.now c.in-Ok.len (StandsIn room.text room.shown))
+    (schema_nodes c.args.table.now) c.args.bytes.now c.in-Ok.len (StandsIn scratch.text scratch.shown))
     c.by_ref.ensures
     (λ same.
     let found = c.in-Ok.ensures.found same in

@@ -37,7 +37,7 @@ loop-left-preserved g c =
     let more : ◌≢◌ {A = Option ℕ} l.left (Some 0) = search rules in
     let found = rw c.in-Some.is at step.found in
     let counted = rw c.in-Some.is at step.counted in
-    let room = found.does.show.few in
+    let scratch = found.does.show.few in
     let one = onward-next g.I.Input.gives g.O.Output.keeps limits reader h c.args.limit g.met.I.Input.chain g.met.O.Output.chain c.args.input.now l.input c.show_next.new.input c.args.output.now l.output
     c.show_next.new.output l.blocks.number l.left l.lines.text inv.shown count c.show_next.new.lines.text more found in
     record {
@@ -51,7 +51,7 @@ loop-left-preserved g c =
       limits = step.kept.1 ∙ inv.limits;
       failed = (rw c.in-Some.is at step.more).0;
       ended = (rw c.in-Some.is at step.more).1;
-      few = omega (arith, counted, room);
+      few = omega (arith, counted, scratch);
     }
 
 pub returns-in-None-clause-whole : goal.returns-in-None-clause-whole

@@ -11,7 +11,7 @@ returns-then-deref-end c = λ a front first behind.
     let second = c.args.second.value in
     let starts : second.start ≡ c.args.end = ap (λ (r : Apart). r.start) (sym c.deref.ensures) ∙ c.if-deref-end.true in
     let both = stands_joined out c.args.start c.args.end second.end a front first (subst (λ n. StandsAt out n second.end front) starts behind) in
-    c.with_room.ensures out (a ++ front) (subst (λ (r : Apart). StandsAt out c.args.start r.end (a ++ front)) (sym c.deref-then-deref-end.ensures) both)
+    c.with_buffer.ensures out (a ++ front) (subst (λ (r : Apart). StandsAt out c.args.start r.end (a ++ front)) (sym c.deref-then-deref-end.ensures) both)
 
 pub returns : goal.returns
 returns c = λ a front first behind.
@@ -21,6 +21,6 @@ returns c = λ a front first behind.
     let all : c.append_apart.new.to.items ≡ front ++ c.args.second.value.more.items =
     c.in_ok-append_apart.ensures.appended front here ∙ ap (λ (l : List ℕ). (l ++ front) ++ c.deref-4.result.now.more.items) empty
     ∙ ap (λ (r : Apart). front ++ r.more.items) c.deref-4.ensures in
-    subst (λ (l : List ℕ). Holds out c.with_room-2.result l)
+    subst (λ (l : List ℕ). Holds out c.with_buffer-2.result l)
     (ap (λ (l : List ℕ). a ++ l) all ∙ sym (append_assoc a front c.args.second.value.more.items))
-    (c.with_room-2.ensures out a first)
+    (c.with_buffer-2.ensures out a first)

@@ -14,9 +14,9 @@ use Rattle.avro_answer.proofs.data_plan.DataPlan.display.Goals as goal
 pub returns-in-Some-clause-shown : goal.returns-in-Some-clause-shown
 returns-in-Some-clause-shown c =
     let p = c.self.inside in
-    let room = c.display_for.new.room in
+    let scratch = c.display_for.new.scratch in
     in_plan (λ (W : List Node) (R : Option (List Node)). IfOk c.display_for.result (λ len. (display : List ℕ)
-    × IsDisplayed W R c.args.limits.now c.args.bytes.now len display × StandsIn room.text room.shown display))
+    × IsDisplayed W R c.args.limits.now c.args.bytes.now len display × StandsIn scratch.text scratch.shown display))
     p.writer.now c.args.self.now p.plan c.in-Some.plan c.self.view_is c.in-Some.is c.self.invariant.0
     (c.display_for.ensures.shown (table_for p.writer.now (schema_nodes p.table) p.plan c.self.invariant.1 c.in-Some.plan c.in-Some.is))
 
@@ -29,12 +29,12 @@ returns-in-Some-clause-refused c =
 pub returns-in-None-clause-shown : goal.returns-in-None-clause-shown
 returns-in-None-clause-shown c =
     let p = c.self.inside in
-    let room = c.display_plain.new.room in
+    let scratch = c.display_plain.new.scratch in
     in_none (λ (W : List Node) (R : Option (List Node)). IfOk c.display_plain.result (λ len. (display : List ℕ)
-    × IsDisplayed W R c.args.limits.now c.args.bytes.now len display × StandsIn room.text room.shown display))
+    × IsDisplayed W R c.args.limits.now c.args.bytes.now len display × StandsIn scratch.text scratch.shown display))
     p.writer.now c.args.self.now p.plan c.self.view_is c.in-None.is
     (subst (λ (W : List Node). IfOk c.display_plain.result (λ len. (display : List ℕ)
-    × IsDisplayed W None c.args.limits.now c.args.bytes.now len display × StandsIn room.text room.shown display))
+    × IsDisplayed W None c.args.limits.now c.args.bytes.now len display × StandsIn scratch.text scratch.shown display))
     (table_plain p.writer.now (schema_nodes p.table) p.plan c.self.invariant.1 c.in-None.is) c.display_plain.ensures.shown)
 
 pub returns-in-None-clause-refused : goal.returns-in-None-clause-refused

@@ -15,7 +15,7 @@ use Rattle.avro_show.proofs.displaying.DisplayingMake.copied.Goals as goal
 pub returns-clause-stands : goal.returns-clause-stands
 returns-clause-stands c = λ nodes n v alone fit plain of.
     let t = c.args.self.now.table.now in
-    let text = c.args.self.now.room.now.text in
+    let text = c.args.self.now.scratch.now.text in
     let at = c.args.at in
     let begun = c.begin.new.self.text in
     let is : node_of c.get-node.result.now ≡ n = c.get-node.ensures.node ∙ ap (λ (s : Schema). node_at (schema_nodes s) at.node.0) c.schema.ensures ∙ sym of.1 in

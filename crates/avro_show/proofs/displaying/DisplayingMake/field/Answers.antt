@@ -9,7 +9,7 @@ use Rattle.avro_show.proofs.displaying.DisplayingMake.field.Goals as goal
 pub returns-clause-stands : goal.returns-clause-stands
 returns-clause-stands c = λ nodes fs id at vs v fields got is same these.
     let t = c.args.self.now.table.now in
-    let text = c.args.self.now.room.now.text in
+    let text = c.args.self.now.scratch.now.text in
     let (own, are) = fields same these in
     let here = is (part_of t nodes id same) in (
       own,

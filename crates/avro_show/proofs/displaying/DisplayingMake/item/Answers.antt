@@ -11,7 +11,7 @@ use Rattle.avro_show.proofs.displaying.DisplayingMake.item.Goals as goal
 pub returns-clause-stands : goal.returns-clause-stands
 returns-clause-stands c = λ nodes id at vs v items is of.
     let t = c.args.self.now.table.now in
-    let text = c.args.self.now.room.now.text in
+    let text = c.args.self.now.scratch.now.text in
     let n = node_at (schema_nodes t) id in
     let (own, are) = items of in (
       own,

@@ -16,7 +16,7 @@ use Rattle.avro_show.proofs.displaying.DisplayingMake.leaf.Goals as goal
 pub returns-clause-stands : goal.returns-clause-stands
 returns-clause-stands c = λ nodes n fit. given _ c.end.result (λ of.
     let t = c.args.self.now.table.now in
-    let text = c.args.self.now.room.now.text in
+    let text = c.args.self.now.scratch.now.text in
     let at = c.args.at in
     let v = leaf_value c.args.leaf in
     let is : node_of c.get-node.result.now ≡ n = c.get-node.ensures.node ∙ ap (λ (s : Schema). node_at (schema_nodes s) at.node.0) c.schema.ensures ∙ sym of.1 in
@@ -27,7 +27,7 @@ returns-clause-stands c = λ nodes n fit. given _ c.end.result (λ of.
 
 pub returns-clause-kept : goal.returns-clause-kept
 returns-clause-kept c =
-    let text = c.args.self.now.room.now.text in
+    let text = c.args.self.now.scratch.now.text in
     let begun = c.begin.new.self.text in
     let made = c.append_leaf.new.text in
     on_ok (λ ended. ((refl, grows_on text made c.end.new.self.text (grows_on text begun made c.in_ok-start.ensures.kept c.in_ok-append_leaf.ensures.kept) ended), refl)) c.end.result c.end.ensures.kept

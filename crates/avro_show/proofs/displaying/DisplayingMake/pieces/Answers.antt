@@ -12,7 +12,7 @@ use Rattle.avro_show.proofs.displaying.DisplayingMake.pieces.Goals as goal
 pub returns-clause-stands : goal.returns-clause-stands
 returns-clause-stands c = λ nodes name aliases fs vs pieces fit of.
     let t = c.args.self.now.table.now in
-    let text = c.args.self.now.room.now.text in
+    let text = c.args.self.now.scratch.now.text in
     let at = c.args.at in
     let begun = c.begin.new.self.text in
     let n = Node.record_of name aliases fs in

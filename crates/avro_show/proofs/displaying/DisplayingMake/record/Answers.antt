@@ -21,7 +21,7 @@ returns-clause-stands c = λ nodes name aliases fs at vs fields fit. given _ c.c
     let ms = c.members-members.result.now in
     let (own, are) = fields of.0 (ap record_fields of.1) in
     let members = subst (λ (l : List FieldNode). AreMembers l ms) (ap (λ (p : Place). record_fields (node_at ns p.node.0)) own ∙ sym (ap record_fields of.1)) c.members-members.ensures in
-    let spans = spans_there nodes c.args.self.now.room.now.text fs c.args.fields.parts.items vs fit are ms members.each in
+    let spans = spans_there nodes c.args.self.now.scratch.now.text fs c.args.fields.parts.items vs fit are ms members.each in
     let shown = c.in_ok-append_members.ensures (field_tree nodes fs (values_from vs)) (rw (c.as_slice.ensures, c.deref.ensures.value) spans) in
     let whole = whole_text t at c.args.fields.owner n v c.opening-opening.result c.keep_spans.new.self.whole c.opening-opening.ensures own of.1 (λ e. absurd (cc (e)))
     (c.keep_spans.ensures.whole ∙ shown ∙ rw c.clear.ensures (record_shown nodes name aliases fs vs ms fit members ∙ ap (λ (ns : List Node). display_text ns n v) of.0)) in

@@ -1,7 +1,7 @@
 use Rattle.std.proofs.Common.{◌∙◌, ◌++◌, List, ℕ, ap}
 use Rattle.avro_show.specs.Spans.{opened}
 use Rattle.avro_show.proofs.Opened.{made_whole}
-use Rattle.avro_show.proofs.room.Room.composed.Goals as goal
+use Rattle.avro_show.proofs.scratch.Scratch.composed.Goals as goal
 
 pub returns-clause-stands : goal.returns-clause-stands
 returns-clause-stands c =

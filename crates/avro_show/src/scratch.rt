@@ -19,7 +19,7 @@ const LISTS: usize = 16;
 
 /// What the display of a datum is made in. It is kept from datum to datum; what it holds says nothing.
 #[derive(Drop)]
-pub struct Room {
+pub struct Scratch {
     // the displays of parts, and behind them those of the wholes that have them
     pub(crate) text: Text,
     // a whole that is put together
@@ -32,12 +32,12 @@ pub struct Room {
     lists: Vec<Vec<Span>>,
 }
 
-impl Room {
-    /// An empty room.
-    pub fn new(alloc: Global) -> Room
+impl Scratch {
+    /// An empty scratch.
+    pub fn new(alloc: Global) -> Scratch
         ensures { result.text ≡ [] }
     {
-        Room {
+        Scratch {
             text: Text::new(alloc),
             whole: Text::new(alloc),
             shown: Span { start: 0, end: 0 },

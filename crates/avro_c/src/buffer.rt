@@ -1,15 +1,15 @@
-//! The room that a caller gives for a text.
+//! The buffer that a caller gives for a text.
 
 ghost use Rattle.std.specs.Prelude.{◌≡◌};
-ghost use Rattle.avro_c.specs.Room.{IsPut};
+ghost use Rattle.avro_c.specs.Buffer.{IsPut};
 
 /// Copies the front of a text that there is room for, and answers the length of the whole.
 pub(crate) fn put(text: &[u8], out: &mut [u8]) -> usize
     ensures { IsPut text.now out.old out.new result }
 {
     if text.len() <= out.len() {
-        let (room, _) = out.split_at_mut(text.len());
-        room.copy_from_slice(text);
+        let (buffer, _) = out.split_at_mut(text.len());
+        buffer.copy_from_slice(text);
     } else {
         let (front, _) = text.split_at(out.len());
         out.copy_from_slice(front);

@@ -1,4 +1,4 @@
--- What a call leaves in the room that its caller gave for a text.
+-- What a call leaves in the buffer that its caller gave for a text.
 use Rattle.std.specs.Prelude.{◌≡◌, ℕ, List, ◌++◌, length, take, drop}
 
 -- The buffer has as much of a text as fits, after it what was there before, and the length of the whole text is
