@@ -8,7 +8,7 @@ ghost use Rattle.avro_schema.specs.Value.{Value};
 ghost use Rattle.avro_zigzag.specs.Number.{SpellsInt, SpellsLong};
 ghost use Rattle.avro_cursor.specs.Encoding.{Spells, SpellsBytes};
 ghost use Rattle.avro_binary.specs.CursorReads.{ReadsNode};
-ghost use Rattle.avro_binary.specs.LeafValue.{has_no_parts, leaf_value};
+ghost use Rattle.avro_binary.specs.LeafValue.{IsLeafOf, has_no_parts, leaf_value};
 ghost use Rattle.avro_binary.specs.Making.{Made};
 
 use crate::leaf::Leaf;
@@ -18,7 +18,7 @@ use avro_schema::Node;
 use avro_zigzag::read_long;
 use std::alloc::Global;
 
-/// Reads the datum of a node without parts. A node with parts is read as null, and is not asked for.
+/// Reads the datum of a node without parts, and makes it. A node with parts is read as null, and is not asked for.
 #[inline(always)]
 pub(crate) fn read_leaf<M: Make>(
     alloc: Global,
@@ -31,39 +31,48 @@ pub(crate) fn read_leaf<M: Make>(
         → ReadsNode (Made M.keeps (λ m. M.stands_for m nodes (node_of node.now) at) maker.old maker.new) nodes (node_of node.now) cursor.old cursor.new result }
     ensures stays { (front : List ℕ) → M.begins maker.old front → M.begins maker.new front }
 {
+    let read = next_leaf(node, cursor)?;
+    Ok(maker.leaf(alloc, at, read)?)
+}
+
+/// Reads the datum of a node without parts.
+#[inline(always)]
+pub(crate) fn next_leaf<'c>(node: &Node, cursor: &mut Cursor<'c>) -> Result<Leaf<'c>, ReadError>
+    ensures { (nodes : List SeenNode) → has_no_parts (node_of node.now) ≡ true → ReadsNode IsLeafOf nodes (node_of node.now) cursor.old cursor.new result }
+{
     cursor.count()?;
     match node {
         Node::Boolean => {
             let value = cursor.boolean()?;
-            Ok(maker.leaf(alloc, at, Leaf::Boolean(value))?)
+            Ok(Leaf::Boolean(value))
         }
         Node::Int => {
             let value = cursor.int()?;
-            Ok(maker.leaf(alloc, at, Leaf::Int(value))?)
+            Ok(Leaf::Int(value))
         }
         Node::Long => {
             let value = cursor.long()?;
-            Ok(maker.leaf(alloc, at, Leaf::Long(value))?)
+            Ok(Leaf::Long(value))
         }
         Node::Bytes => {
             let content = cursor.bytes()?;
             drop_content(content);
-            Ok(maker.leaf(alloc, at, Leaf::Bytes(content))?)
+            Ok(Leaf::Bytes(content))
         }
         Node::Str => {
             let text = cursor.string()?;
-            Ok(maker.leaf(alloc, at, Leaf::Text(text))?)
+            Ok(Leaf::Text(text))
         }
         Node::Enum(enumeration) => {
             let index = cursor.index(enumeration.symbols.len())?;
-            Ok(maker.leaf(alloc, at, Leaf::Symbol(index as u32))?)
+            Ok(Leaf::Symbol(index as u32))
         }
         Node::Fixed(fixed) => {
             let content = cursor.fixed(fixed.size)?;
             drop_content(content);
-            Ok(maker.leaf(alloc, at, Leaf::Fixed(content))?)
+            Ok(Leaf::Fixed(content))
         }
-        _ => Ok(maker.leaf(alloc, at, Leaf::Null)?),
+        _ => Ok(Leaf::Null),
     }
 }
 

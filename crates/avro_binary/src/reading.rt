@@ -97,6 +97,7 @@ fn read_item_blocks<M: Make>(
 
 /// Reads a number of items, and adds them to those before.
 #[cycle(reading)]
+#[inline(always)]
 fn read_items<M: Make>(
     alloc: Global,
     schema: &Schema,

@@ -10,7 +10,7 @@ use crate::plan::plan_ref::PlanRef;
 use crate::resolving::copying::copy_record;
 use crate::resolving::failing::step_apart;
 use crate::resolving::guided::{Filling, Made, Part, Run};
-use crate::resolving::leaves::{is_long_leaf, make_apart, make_leaf};
+use crate::resolving::leaves::make_leaf;
 use crate::resolving::list_maker::{
     make_array, make_map, next_part, put_entry, put_item, repeat_item, start_entries, start_items,
 };
@@ -146,9 +146,6 @@ impl<'p, 'a, 'b, M: Make<At = Place>> Make for Resolving<'p, 'a, 'b, M> {
         at: Part,
         leaf: Leaf<'_>,
     ) -> Result<Made<M::Out>, AllocError> {
-        if !is_long_leaf(leaf) {
-            return make_apart(alloc, self.maker, self.plan, at, leaf);
-        }
         make_leaf(alloc, self.maker, self.plan, at, leaf)
     }
 

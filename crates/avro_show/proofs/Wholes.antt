@@ -14,7 +14,6 @@ use Rattle.avro_schema.specs.Seen.{entries_from, values_from}
 use Rattle.avro_schema.specs.SeenSchema.{schema_nodes}
 use Rattle.avro_schema.specs.Value.{Value, values_count}
 use Rattle.avro_schema.specs.declared.schema.Schema.{Schema}
-use Rattle.avro_binary.specs.Pieces.{ArePieces}
 use Rattle.avro_binary.specs.Places.{alone}
 use Rattle.serde_json.specs.Data.{Data, Members, no_members, put}
 use Rattle.serde_json.specs.Written.{compact_text}
@@ -22,7 +21,7 @@ use Rattle.avro_display.specs.DisplayTree.{display_entries, display_items, displ
 use Rattle.avro_display.specs.Displayed.{object_text}
 use Rattle.avro_display.specs.Table.{AreMembers, IsMember, field_id, field_tree, value_at}
 use Rattle.avro_display.specs.declared.member.Member.{Member}
-use Rattle.avro_show.specs.Spans.{AreFieldsAt, AreItemsAt, AreMembersAt, IsOf, IsPieceOf, IsSpanAt, StandsIn}
+use Rattle.avro_show.specs.Spans.{AreFieldsAt, AreItemsAt, AreMembersAt, IsOf, IsSpanAt, StandsIn}
 use Rattle.avro_show.specs.declared.spans.Span.{Span}
 use Rattle.avro_show.proofs.Objects.{members_shown}
 
@@ -88,15 +87,6 @@ pub spans_there : (nodes : List Node) (text : List ℕ) (fs : List FieldNode) (s
     → (ms : List Member) → AllByRecursion (IsMember fs) ms → AllByRecursion (λ m. IsSpanAt text spans m.field (compact_text (field_tree nodes fs (values_from vs) m.field))) ms
 spans_there nodes text fs spans vs fit are [] each = tt
 spans_there nodes text fs spans vs fit are (m ∷ ms) each = ((field_there nodes text fs spans vs m.field each.0.0 fit).2 are, spans_there nodes text fs spans vs fit are ms each.1)
-
-pub pieces_there : (nodes : List Node) (bytes ends : List ℕ) (fs : List FieldNode) (vs : List Value) → fields_fit nodes (field_ids fs) (values_from vs) ≡ true → ArePieces vs bytes ends
-    → (ms : List Member) → AllByRecursion (IsMember fs) ms → AllByRecursion (IsPieceOf nodes bytes ends (field_tree nodes fs (values_from vs))) ms
-pieces_there nodes bytes ends fs vs fit are [] each = tt
-pieces_there nodes bytes ends fs vs fit are (m ∷ ms) each =
-    let there = field_there nodes [] fs [] vs m.field each.0.0 fit in
-    let v = value_at (values_from vs) m.field in
-    let same = each.0.1 in
-    ((v, rw same there.1, are m.field v there.0, rw same refl), pieces_there nodes bytes ends fs vs fit are ms each.1)
 
 -- ---- The display of a record
 

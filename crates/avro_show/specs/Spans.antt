@@ -11,11 +11,9 @@ use Rattle.avro_schema.specs.declared.schema.Schema.{Schema}
 use Rattle.serde_json.specs.Data.{Data, Items, no_items, item, Members, no_members, member}
 use Rattle.serde_json.specs.Written.{compact_text}
 use Rattle.avro_binary.specs.Outputs.{Grows, StandsAt}
-use Rattle.avro_binary.specs.Pieces.{piece}
 use Rattle.avro_binary.specs.Places.{MayBeAt}
 use Rattle.avro_binary.specs.declared.place.Place.{Place}
 use Rattle.avro_cursor.specs.Encoding.{Spells}
-use Rattle.avro_display.specs.declared.member.Member.{Member}
 use Rattle.avro_display.specs.DisplayTree.{branch_tree, display_entries, display_items, display_text, display_tree, record_fields}
 use Rattle.avro_show.specs.declared.spans.Span.{Span}
 use Rattle.avro_show.specs.declared.spans.Spans.{Spans}
@@ -49,11 +47,6 @@ AreFieldsAt nodes text fs (s ∷ ss) vs = ⊥
 -- the bytes stand where the span at an index says
 abbrev pub IsSpanAt : List ℕ → List Span → ℕ → List ℕ → Type 0
 IsSpanAt text spans k bytes = (span : Span) × (slice_get spans k ≡ Some span) × StandsIn text span bytes
-
--- the value of a member is encoded in its piece
-abbrev pub IsPieceOf : List Node → List ℕ → List ℕ → (ℕ → Data) → Member → Type 0
-IsPieceOf nodes bytes ends tree m = (v : Value) × (fits nodes (node_at nodes m.node.0) v ≡ true) × Spells v (piece bytes ends m.field)
-    × (tree m.field ≡ display_tree nodes (node_at nodes m.node.0) v)
 
 -- the display of a value, with the text that opens it as the value of a union's branch where there is one
 abbrev pub opened : Option (Bor (List ℕ)) → List ℕ → List ℕ

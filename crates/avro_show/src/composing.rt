@@ -8,17 +8,16 @@ ghost use Rattle.avro_display.specs.Displayed.{object_text};
 ghost use Rattle.avro_schema.specs.Fits.{fits};
 ghost use Rattle.avro_schema.specs.Node.{Node as SeenNode};
 ghost use Rattle.avro_schema.specs.Seen.{node_of};
-ghost use Rattle.avro_schema.specs.SeenSchema.{schema_nodes};
 ghost use Rattle.avro_schema.specs.Value.{Value};
 ghost use Rattle.avro_cursor.specs.Encoding.{Spells};
 ghost use Rattle.avro_display.specs.DisplayTree.{display_text};
 ghost use Rattle.avro_binary.specs.Outputs.{Grows};
-ghost use Rattle.avro_show.specs.Spans.{AreItemsAt, AreMembersAt, IsPieceOf, IsSpanAt, StandsIn};
+ghost use Rattle.avro_show.specs.Spans.{AreItemsAt, AreMembersAt, IsSpanAt, StandsIn};
 
 use crate::leaf::append_leaf;
 use crate::spans::Span;
-use avro_binary::{Pieces, leaf_of, piece_of};
-use avro_display::{DisplayTable, Member, Text};
+use avro_binary::leaf_of;
+use avro_display::{Member, Text};
 use avro_schema::Node;
 use std::alloc::AllocError;
 use std::collections::BTreeMap;
@@ -89,44 +88,6 @@ pub(crate) fn append_members(
         }
     }
     whole.append_byte(b'}')
-}
-
-/// Appends the display of an object of members, whose values are encoded in pieces.
-pub(crate) fn append_pieces(
-    text: &mut Text,
-    table: &DisplayTable<'_>,
-    members: &[Member],
-    pieces: Pieces<'_>,
-) -> Result<(), AllocError>
-    ensures shown { (tree : ℕ → Data) → AllByRecursion (IsPieceOf (schema_nodes table.now) pieces.entry.bytes.now pieces.entry.ends.now tree) members.now
-        → OnOk result (text.new ≡ text.old ++ object_text tree members.now) }
-    ensures kept { OnOk result (Grows text.old text.new) }
-{
-    if members.is_empty() {
-        return text.append(b"{}");
-    }
-    for member in members {
-        text.append(member.head())?;
-        append_piece(text, table, member, pieces)?;
-    }
-    text.append_byte(b'}')
-}
-
-/// Appends the display of the value of a member.
-fn append_piece(
-    text: &mut Text,
-    table: &DisplayTable<'_>,
-    member: &Member,
-    pieces: Pieces<'_>,
-) -> Result<(), AllocError>
-    ensures shown { (tree : ℕ → Data) → IsPieceOf (schema_nodes table.now) pieces.entry.bytes.now pieces.entry.ends.now tree member.now
-        → OnOk result (text.new ≡ text.old ++ compact_text (tree member.now.field)) }
-    ensures kept { OnOk result (Grows text.old text.new) }
-{
-    match piece_of(pieces, member.field) {
-        Some(bytes) => append_encoded(text, table.schema().get(member.node), bytes),
-        None => Err(AllocError),
-    }
 }
 
 /// Appends the display of the datum without parts of a node that is encoded as these bytes.

@@ -1,12 +1,10 @@
 //! The display of a datum, made while the datum is read.
 
-use crate::composing::{
-    append_encoded, append_entries, append_items, append_members, append_pieces,
-};
+use crate::composing::{append_encoded, append_entries, append_items, append_members};
 use crate::leaf::append_leaf;
 use crate::scratch::Scratch;
 use crate::spans::{KeyedSpans, Span, Spans};
-use avro_binary::{Leaf, Make, Pieces, Place};
+use avro_binary::{Leaf, Make, Place};
 use avro_display::DisplayTable;
 use avro_schema::NodeId;
 use std::alloc::{AllocError, Global};
@@ -14,8 +12,7 @@ use std::collections::BTreeMap;
 
 /// Makes the display of what is read as data of a table's schema.
 ///
-/// The display of a record of leaves is made from the encodings of its fields. That of another whole is copied together from
-/// those of its parts.
+/// The display of a whole is copied together from those of its parts.
 #[derive(Drop)]
 pub(crate) struct Displaying<'a> {
     pub(crate) table: &'a DisplayTable<'a>,
@@ -98,32 +95,12 @@ impl<'a> Make for Displaying<'a> {
 
     ghost field_at_kept = { λ s t fields id kept. refl };
 
-    fn ends(&mut self, alloc: Global, _at: Place) -> Option<Vec<usize>> {
-        Some(self.scratch.take_ends(alloc))
-    }
-
     fn spare_ends(&mut self, alloc: Global) -> Option<Vec<usize>> {
         Some(self.scratch.take_ends(alloc))
     }
 
     fn keep_ends(&mut self, ends: Vec<usize>) {
         self.scratch.keep_ends(ends);
-    }
-
-    fn pieces(
-        &mut self,
-        _alloc: Global,
-        at: Place,
-        bytes: &[u8],
-        ends: Vec<usize>,
-    ) -> Result<Option<Span>, AllocError> {
-        let opening = self.opening(at);
-        let members = self.table.members(at.node);
-        let pieces = Pieces { bytes, ends: &ends };
-        let start = self.scratch.begin(opening)?;
-        append_pieces(&mut self.scratch.text, self.table, members, pieces)?;
-        self.scratch.keep_ends(ends);
-        Ok(Some(self.scratch.end(opening, start)?))
     }
 
     fn copied(

@@ -73,6 +73,7 @@ fn read_entry_blocks<M: Make>(
 
 /// Reads a number of entries, none of whose keys is among those before it, and adds them to those before.
 #[cycle(reading)]
+#[inline(always)]
 fn read_entries<'a, M: Make>(
     alloc: Global,
     schema: &Schema,

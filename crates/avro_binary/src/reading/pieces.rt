@@ -10,10 +10,8 @@ ghost use Rattle.avro_binary.specs.CursorReads.{FindsValue, outside, left_node};
 ghost use Rattle.avro_binary.specs.Pieces.{ArePieces};
 ghost use Rattle.avro_binary.specs.inside.PassesAtOnce.{PassesAtOnce};
 
-use crate::leaves::read_leaf;
+use crate::leaves::next_leaf;
 use crate::make::Make;
-use crate::nothing::Nothing;
-use crate::place::Place;
 use avro_cursor::{Cursor, ReadError};
 use avro_schema::{Field, Node, NodeId, Schema};
 use std::alloc::{AllocError, Global};
@@ -55,7 +53,7 @@ fn make_of_pieces<'c, M: Make>(
 {
     let mut ends = ends;
     let mut ahead = cursor.ahead();
-    if !pass_record(alloc, schema, fields, &mut ahead, &mut ends)? {
+    if !pass_record(schema, fields, &mut ahead, &mut ends)? {
         return Ok(None);
     }
     match maker.pieces(alloc, at, cursor.rest(), ends)? {
@@ -70,7 +68,6 @@ fn make_of_pieces<'c, M: Make>(
 /// Passes a record none of whose fields has parts, says whether it could, and lists where the encoding of each field ends.
 #[inline(never)]
 fn pass_record(
-    alloc: Global,
     schema: &Schema,
     fields: &[Field],
     cursor: &mut Cursor<'_>,
@@ -84,7 +81,7 @@ fn pass_record(
         Ok(()) => {}
         Err(_) => return Ok(false),
     }
-    let passed = pass_fields(alloc, schema, fields, cursor, ends)?;
+    let passed = pass_fields(schema, fields, cursor, ends)?;
     cursor.leave();
     Ok(passed)
 }
@@ -92,7 +89,6 @@ fn pass_record(
 /// Passes a datum for each field, and lists where each ends.
 #[inline(always)]
 fn pass_fields(
-    alloc: Global,
     schema: &Schema,
     fields: &[Field],
     cursor: &mut Cursor<'_>,
@@ -106,7 +102,7 @@ fn pass_fields(
     ends.clear();
     ends.push(0)?;
     for field in fields {
-        if !pass_leaf(alloc, schema, field.node, cursor) {
+        if !pass_leaf(schema, field.node, cursor) {
             return Ok(false);
         }
         ends.push(cursor.offset() - start)?;
@@ -116,11 +112,11 @@ fn pass_fields(
 
 /// Passes a datum of a node without parts, and says whether it could.
 #[inline(always)]
-fn pass_leaf(alloc: Global, schema: &Schema, id: NodeId, cursor: &mut Cursor<'_>) -> bool
+fn pass_leaf(schema: &Schema, id: NodeId, cursor: &mut Cursor<'_>) -> bool
     ensures { result ≡ true → (v : Value) × FindsValue (schema_nodes schema.now) (node_at (schema_nodes schema.now) id.0) cursor.old cursor.new v }
 {
     match schema.get(id) {
         Node::Array(_) | Node::Map(_) | Node::Union(_) | Node::Record(_) => false,
-        node => read_leaf(alloc, node, cursor, &mut Nothing, Place::of(id)).is_ok(),
+        node => next_leaf(node, cursor).is_ok(),
     }
 }

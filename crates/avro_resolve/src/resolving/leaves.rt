@@ -21,7 +21,7 @@ use avro_schema::{Node, NodeId, Schema};
 use std::alloc::{AllocError, Global};
 
 /// What is made of a writer's leaf.
-#[inline(always)]
+#[inline(never)]
 pub(crate) fn make_leaf<M: Make<At = Place>>(
     alloc: Global,
     maker: &mut M,
@@ -53,28 +53,6 @@ pub(crate) fn make_leaf<M: Make<At = Place>>(
             }
         },
     }
-}
-
-/// Whether a leaf is a long, which is made in place.
-#[inline(always)]
-pub(crate) fn is_long_leaf(leaf: Leaf<'_>) -> bool {
-    matches!(leaf, Leaf::Long(_))
-}
-
-/// The same by a call, so that what reads a leaf is small enough to be inlined.
-#[inline(never)]
-pub(crate) fn make_apart<M: Make<At = Place>>(
-    alloc: Global,
-    maker: &mut M,
-    plan: &PlanRef<'_>,
-    part: Part,
-    leaf: Leaf<'_>,
-) -> Result<Made<M::Out>, AllocError>
-    ensures kept { OnOk result (M.keeps maker.old maker.new) }
-    ensures stands { (nodes : List SeenNode) (n : SeenNode) → AreTold M.branch_at M.item_at M.entry_at M.field_at → fits nodes n (leaf_value leaf.entry) ≡ true
-        → IfOk result (λ made. StandsAs (M.stands_for maker.new) (schema_nodes plan.now.0) (schema_nodes plan.now.1) nodes n part.at made (leaf_value leaf.entry)) }
-{
-    make_leaf(alloc, maker, plan, part, leaf)
 }
 
 /// What was made of a datum in its place, as data of the reader's union that has the branch, where there is one.

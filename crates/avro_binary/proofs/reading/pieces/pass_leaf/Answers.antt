@@ -10,4 +10,4 @@ returns-in_default c = λ ok.
     let nodes = schema_nodes c.args.schema.now in
     let leaf = none_have_parts c.get.result.now c.in_default.not-Array c.in_default.not-Map c.in_default.not-Union c.in_default.not-Record in
     rw (sym c.get.ensures.node)
-    (passed_of nodes (node_of c.get.result.now) c.args.cursor.now c.read_leaf.new.cursor c.read_leaf.result (c.read_leaf.ensures.reads nodes leaf) (sym c.is_ok.ensures.value ∙ ok))
+    (passed_of nodes (node_of c.get.result.now) c.args.cursor.now c.next_leaf.new.cursor c.next_leaf.result (c.next_leaf.ensures nodes leaf) (sym c.is_ok.ensures.value ∙ ok))
