@@ -24,12 +24,11 @@ impl Appending {
     }
 }
 
-/// Takes back all behind the end that an output had, but what was written, or that too where the output would be longer than
-/// `most`. Returns whether it is not.
+/// Truncates an output to `end`, and appends what was written if it then has at most `most` bytes. Returns whether it does.
 ///
 /// # Errors
 ///
-/// Memory ran out; the output is as it was at that end.
+/// Memory ran out; the output is truncated to `end`.
 #[inline(always)]
 pub(crate) fn settle(
     out: &mut Vec<u8>,
@@ -110,7 +109,7 @@ fn settle_counted(
     }
 }
 
-/// Leaves what was written right behind the end that an output had; if memory runs out, anything behind that end.
+/// Moves what was written to offset `end` of an output, and truncates behind it; if memory runs out, anything is behind `end`.
 #[inline(always)]
 fn leave(out: &mut Vec<u8>, end: usize, written: &Written) -> Result<(), AllocError>
     ensures left { (old bytes : List ℕ) → Grows old out.old.items → end ≡ length old → Holds out.old.items written.now bytes

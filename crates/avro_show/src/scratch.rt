@@ -17,7 +17,7 @@ const MOST: usize = 65_536;
 /// So many lists are kept.
 const LISTS: usize = 16;
 
-/// What the display of a datum is made in. It is kept from datum to datum; what it holds says nothing.
+/// Scratch space in which displays are made, reused from datum to datum; its content between calls is unspecified.
 #[derive(Drop)]
 pub struct Scratch {
     // the displays of parts, and behind them those of the wholes that have them
