@@ -1,7 +1,7 @@
 pub mod Parts
 pub mod Firsts
 pub mod Helds
-pub mod Onward
 pub mod Nexts
+pub mod Onward
 pub mod Files
 pub mod Plans

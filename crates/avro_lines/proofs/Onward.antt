@@ -1,6 +1,5 @@
 -- Blocks that are shown, one after another.
 use Rattle.std.proofs.Common.{◌≡◌, ◌≢◌, ℕ, zero, suc, ◌+◌, ◌-◌, ◌<◌, ◌≤◌, List, [], ◌∷◌, ◌++◌, length, take, Option, Some, None, inl, inr, refl, sym, ap, subst, ◌∙◌, arith, append_assoc, append-nil, length-append}
-use Rattle.std.specs.Prelude.{◌⊎◌}
 use Rattle.std.specs.List.{concat}
 use Rattle.std.proofs.lemmas.List.Folds.{concat-append}
 use Rattle.std.proofs.lemmas.Option.{none-some, same_Some}
@@ -10,14 +9,16 @@ use Rattle.avro_compare.specs.Resolve.{Resolved}
 use Rattle.avro_file.specs.BlockFails.{FileLimitValues, max_blocks}
 use Rattle.avro_file.specs.DataRead.{read_nodes, resolution}
 use Rattle.avro_file.specs.File.{HeaderValue}
-use Rattle.avro_file.specs.FileFault.{FileFault}
+use Rattle.avro_file.specs.declared.error.CopyError.{CopyError}
 use Rattle.avro_container.specs.CopiedFile.{AreResolved}
 use Rattle.avro_container.specs.Moved.{Moved}
 use Rattle.avro_container.specs.Steps.{AreBlocksWithin, total_data}
 use Rattle.avro_lines.specs.Lines.{all_lines, lines_of, up_to}
 use Rattle.avro_lines.specs.Shown.{HasEnough, IsShown}
-use Rattle.avro_lines.specs.inside.BlocksShown.{BlocksShow, FaultAfter, IsBlockFault, Leaves, ShowsBlocks, ShowsNext, ShowsNone, ShowsSome, lessened}
+use Rattle.avro_lines.specs.inside.BlocksShown.{BlocksShow, Goes, IsAll, IsBlockFault, IsEnd, IsFaultNext, IsNext, Leaves, Shows, Stops, lessened}
 use Rattle.avro_lines.proofs.Firsts.{lines-count, made-count}
+use Rattle.avro_lines.proofs.Nexts.{next-none}
+use Rattle.avro_lines.proofs.Parts.{fails-after}
 
 abbrev pub Chains : {D : Type 0} → (D → List ℕ → D → Type 0) → Type 0
 Chains {D} gives = (s t u : D) (front back : List ℕ) → gives s front t → gives t back u → gives s (front ++ back) u
@@ -140,133 +141,111 @@ leaves-next limit left number count blocks vs more counted (same, over, reached)
 
 -- ---- what was taken and put
 
-module _ {I O : Type 0} (gives : I → List ℕ → I → Type 0) (keeps : O → List ℕ → O → Type 0) (limits : FileLimitValues) (reader : Option (List Node)) (h : HeaderValue) (limit : Option ℕ) where
+module _ {I O : Type 0} (gives : I → List ℕ → I → Type 0) (lost : I → ℕ) (keeps : O → List ℕ → O → Type 0) (failures : O → ℕ) (limits : FileLimitValues) (reader : Option (List Node)) (h : HeaderValue) (limit : Option ℕ) where
   -- no block yet
   pub onward-none : ((s : I) → gives s [] s) → ((s : O) → keeps s [] s) → (i : I) (o : O) (number : ℕ) (text : List ℕ) → number ≡ 0 → text ≡ []
-      → Moved gives keeps i i o o (ShowsBlocks limits reader h limit (Leaves limit number limit) text)
+      → Goes gives lost keeps failures i i o o (Shows limits reader h limit 0 [] text (IsAll (Leaves limit number limit)))
   onward-none none still i o number text first nothing = record {
-    taken = [];
-    put = [];
-    is_taken = none i;
-    is_put = still o;
-    does = record {
-      blocks = [];
-      show = record {
-        are_blocks = refl;
-        few = omega arith;
-        shown = record { made = []; resolved = refl; lines = nothing ∙ sym (no-lines limit) };
-      };
-      is_end = (sym first, whole limit, λ e. HasEnough.none_asked e refl);
-    };
+    moved = next-none gives keeps failures limits reader h limit i i o o 0 [] text [] (IsAll (Leaves limit number limit)) (omega arith) (none i) ([], still o, sym nothing)
+        (refl, refl, (sym first, whole limit, λ e. HasEnough.none_asked e refl));
+    input_works = refl;
+    output_works = refl;
   }
     where
-      no-lines : (l : Option ℕ) → concat (up_to l []) ≡ []
-      no-lines None = refl
-      no-lines (Some zero) = refl
-      no-lines (Some (suc n)) = refl
-
       whole : (l : Option ℕ) → l ≡ lessened l 0
       whole None = refl
       whole (Some n) = let e : n ≡ n - 0 = omega arith in ap Some e
 
-  module _ (chain : Chains gives) (after : Chains keeps) (i i' i'' : I) (o o' o'' : O) (number : ℕ) (left : Option ℕ) (text : List ℕ)
-      (had : Moved gives keeps i i' o o' (ShowsBlocks limits reader h limit (Leaves limit number left) text)) where
+  module _ (chain : Chains gives) (after : Chains keeps) (i i' i'' : I) (o o' o'' : O) (number : ℕ) (left : Option ℕ) (text now : List ℕ)
+      (had : Goes gives lost keeps failures i i' o o' (Shows limits reader h limit 0 [] text (IsAll (Leaves limit number left)))) where
     -- the text of both
     regrouped : (put lines more later rest : List ℕ) → text ++ lines ≡ (more ++ later) ++ rest → (put ++ text) ++ lines ≡ ((put ++ more) ++ later) ++ rest
     regrouped put lines more later rest e =
         append_assoc put text lines ∙ ap (λ (b : List ℕ). put ++ b) e ∙ sym (append_assoc put (more ++ later) rest)
         ∙ ap (λ (b : List ℕ). b ++ rest) (sym (append_assoc put more later))
 
+    -- what the next one moves
+    onward : (P Q : List Values → List ℕ → List ℕ → Type 0) → ((done blocks : List Values) (rest later : List ℕ) → Leaves limit number left done → P blocks rest later → Q (done ++ blocks) rest later)
+        → Moved gives keeps i' i'' o' o'' (Shows limits reader h left number text now P) → Moved gives keeps i i'' o o'' (Shows limits reader h limit 0 [] now Q)
+    onward P Q turn next =
+        let moved = had.moved in
+        let done = moved.does in
+        let more = next.does in
+        let (none, whole, leaves) = done.is_so in
+        let taken : moved.taken ≡ done.front = done.split ∙ ap (λ (b : List ℕ). done.front ++ b) none ∙ append-nil done.front in
+        let lines : done.lines ≡ moved.put ++ text = done.puts ∙ ap (λ (b : List ℕ). (moved.put ++ text) ++ b) whole ∙ append-nil (moved.put ++ text) in
+        record {
+          taken = moved.taken ++ next.taken;
+          put = moved.put ++ next.put;
+          is_taken = chain i i' i'' moved.taken next.taken moved.is_taken next.is_taken;
+          is_put = after o o' o'' moved.put next.put moved.is_put next.is_put;
+          does = record {
+            blocks = done.blocks ++ more.blocks;
+            front = done.front ++ more.front;
+            rest = more.rest;
+            lines = done.lines ++ more.lines;
+            later = more.later;
+            show = show-both limits reader h limit left number done.blocks more.blocks done.front more.front done.lines more.lines done.show leaves.0 leaves.1 more.show;
+            split = (λ j. taken j ++ more.split j) ∙ sym (append_assoc done.front more.front more.rest);
+            puts = ap (λ (b : List ℕ). b ++ more.lines) lines ∙ regrouped moved.put more.lines next.put now more.later more.puts;
+            is_so = turn done.blocks more.blocks more.rest more.later leaves more.is_so;
+          };
+        }
+
+    onward-goes : (P Q : List Values → List ℕ → List ℕ → Type 0) → ((done blocks : List Values) (rest later : List ℕ) → Leaves limit number left done → P blocks rest later → Q (done ++ blocks) rest later)
+        → Goes gives lost keeps failures i' i'' o' o'' (Shows limits reader h left number text now P) → Goes gives lost keeps failures i i'' o o'' (Shows limits reader h limit 0 [] now Q)
+    onward-goes P Q turn next = record {
+      moved = onward P Q turn next.moved;
+      input_works = next.input_works ∙ had.input_works;
+      output_works = next.output_works ∙ had.output_works;
+    }
+
     -- one block more
-    pub onward-next : (count : ℕ) (now : List ℕ) → left ≢ Some 0 → Moved gives keeps i' i'' o' o'' (ShowsNext limits reader h left number count text now)
-        → Moved gives keeps i i'' o o'' (ShowsBlocks limits reader h limit (Leaves limit (number + 1) (lessened left count)) now)
-    onward-next count now more next =
-        let done = had.does in
-        let one = next.does in
-        let both = show-both limits reader h limit left number done.blocks (one.values ∷ []) had.taken next.taken (had.put ++ text) one.lines done.show done.is_end.0 done.is_end.1 one.show in
-        let same : (had.put ++ text) ++ one.lines ≡ (had.put ++ next.put) ++ now =
-        append_assoc had.put text one.lines ∙ ap (λ (b : List ℕ). had.put ++ b) one.puts ∙ sym (append_assoc had.put next.put now) in
-        record {
-          taken = had.taken ++ next.taken;
-          put = had.put ++ next.put;
-          is_taken = chain i i' i'' had.taken next.taken had.is_taken next.is_taken;
-          is_put = after o o' o'' had.put next.put had.is_put next.is_put;
-          does = record {
-            blocks = done.blocks ++ one.values ∷ [];
-            show = subst (λ (b : List ℕ). BlocksShow limits reader h limit 0 (done.blocks ++ one.values ∷ []) (had.taken ++ next.taken) b) same both;
-            is_end = leaves-next limit left number count done.blocks one.values more one.counted done.is_end;
-          };
-        }
-
-    -- a part of the next one
-    pub onward-some : (now : List ℕ) → Moved gives keeps i' i'' o' o'' (ShowsSome limits reader h left number text now)
-        → Moved gives keeps i i'' o o'' (ShowsSome limits reader h limit 0 [] now)
-    onward-some now next =
-        let done = had.does in
-        let some = next.does in
-        record {
-          taken = had.taken ++ next.taken;
-          put = had.put ++ next.put;
-          is_taken = chain i i' i'' had.taken next.taken had.is_taken next.is_taken;
-          is_put = after o o' o'' had.put next.put had.is_put next.is_put;
-          does = record {
-            blocks = done.blocks ++ some.blocks;
-            front = had.taken ++ some.front;
-            rest = some.rest;
-            lines = (had.put ++ text) ++ some.lines;
-            later = some.later;
-            show = show-both limits reader h limit left number done.blocks some.blocks had.taken some.front (had.put ++ text) some.lines done.show done.is_end.0 done.is_end.1 some.show;
-            split = ap (λ (b : List ℕ). had.taken ++ b) some.split ∙ sym (append_assoc had.taken some.front some.rest);
-            puts = regrouped had.put some.lines next.put now some.later some.puts;
-          };
-        }
-
-    -- a fault of the next one
-    pub onward-fault : (ended : Type 0) (f : FileFault) (now : List ℕ) → Moved gives keeps i' i'' o' o'' (ShowsNone limits reader h number ended f text now)
-        → Moved gives keeps i i'' o o'' (FaultAfter limits reader h limit ended f now)
-    onward-fault ended f now next =
-        let done = had.does in
-        let same : had.put ++ text ≡ (had.put ++ next.put) ++ now = ap (λ (b : List ℕ). had.put ++ b) next.does.0 ∙ sym (append_assoc had.put next.put now) in
-        record {
-          taken = had.taken ++ next.taken;
-          put = had.put ++ next.put;
-          is_taken = chain i i' i'' had.taken next.taken had.is_taken next.is_taken;
-          is_put = after o o' o'' had.put next.put had.is_put next.is_put;
-          does = record {
-            blocks = done.blocks;
-            front = had.taken;
-            rest = next.taken;
-            show = subst (λ (b : List ℕ). BlocksShow limits reader h limit 0 done.blocks had.taken b) same done.show;
-            split = refl;
-            fault = subst (λ (n : ℕ). IsBlockFault limits reader h n ended f next.taken) (sym done.is_end.0) next.does.1;
-          };
-        }
+    pub onward-next : (ended : Type 0) (count : ℕ) → left ≢ Some 0 → Goes gives lost keeps failures i' i'' o' o'' (Shows limits reader h left number text now (IsAll (IsNext (Some count) ended)))
+        → Goes gives lost keeps failures i i'' o o'' (Shows limits reader h limit 0 [] now (IsAll (Leaves limit (number + 1) (lessened left count))))
+    onward-next ended count more = onward-goes (IsAll (IsNext (Some count) ended)) (IsAll (Leaves limit (number + 1) (lessened left count)))
+        (λ done blocks rest later leaves (none, whole, one). (
+          none,
+          whole,
+          subst (λ (bs : List Values). Leaves limit (number + 1) (lessened left count) (done ++ bs)) (sym one.1) (leaves-next limit left number count done one.0 more one.2 leaves),
+        ))
 
     -- the input ended
-    pub onward-end : (ended : Type 0) (now : List ℕ) → gives i' [] i'' → o'' ≡ o' → now ≡ text → ended
-        → Moved gives keeps i i'' o o'' (ShowsBlocks limits reader h limit (λ blocks. ended ⊎ HasEnough limit blocks) now)
-    onward-end ended now none still same over =
-        let done = had.does in
-        record {
-          taken = had.taken;
-          put = had.put;
-          is_taken = subst (λ (b : List ℕ). gives i b i'') (append-nil had.taken) (chain i i' i'' had.taken [] had.is_taken none);
-          is_put = subst (λ (q : O). keeps o had.put q) (sym still) had.is_put;
-          does = record {
-            blocks = done.blocks;
-            show = subst (λ (b : List ℕ). BlocksShow limits reader h limit 0 done.blocks had.taken (had.put ++ b)) (sym same) done.show;
-            is_end = inl over;
-          };
-        }
+    pub onward-end : (ended : Type 0) → Goes gives lost keeps failures i' i'' o' o'' (Shows limits reader h left number text now (IsAll (IsNext None ended)))
+        → Goes gives lost keeps failures i i'' o o'' (Shows limits reader h limit 0 [] now (IsAll (IsEnd limit ended)))
+    onward-end ended = onward-goes (IsAll (IsNext None ended)) (IsAll (IsEnd limit ended)) (λ done blocks rest later leaves (none, whole, over). (none, whole, inl over.1))
+
+    -- an error in the next one
+    pub onward-stops : (stuck : O → Type 0) (ended : Type 0) (e : CopyError)
+        → Stops gives lost keeps failures stuck i' i'' o' o'' (Shows limits reader h left number text now (IsFaultNext limits reader h number ended e)) e
+        → Stops gives lost keeps failures stuck i i'' o o'' (Shows limits reader h limit 0 [] now (IsFaultNext limits reader h 0 ended e)) e
+    onward-stops stuck ended e next = record {
+      moved = onward (IsFaultNext limits reader h number ended e) (IsFaultNext limits reader h 0 ended e)
+          (λ done blocks rest later leaves so f is.
+          let (whole, fault) = so f is in
+          let same = leaves.0 in
+          let long = length-append done blocks in
+          let at : number + length blocks ≡ 0 + length (done ++ blocks) = omega (arith, same, long) in
+          (whole, subst (λ (n : ℕ). IsBlockFault limits reader h n ended f rest) at fault))
+          next.moved;
+      named = next.named;
+      first = next.first;
+      input_fails = λ failed same. next.input_fails failed (same ∙ sym had.input_works);
+      output_works = λ other. next.output_works other ∙ had.output_works;
+      output_fails = λ failed. fails-after failures stuck o o' o'' had.output_works (next.output_fails failed);
+    }
 
   -- they are enough
-  pub onward-enough : (i i' : I) (o o' : O) (number : ℕ) (left : Option ℕ) (text : List ℕ) (ended : Type 0) → left ≡ Some 0
-      → Moved gives keeps i i' o o' (ShowsBlocks limits reader h limit (Leaves limit number left) text)
-      → Moved gives keeps i i' o o' (ShowsBlocks limits reader h limit (λ blocks. ended ⊎ HasEnough limit blocks) text)
-  onward-enough i i' o o' number left text ended reached had = record {
-    taken = had.taken;
-    put = had.put;
-    is_taken = had.is_taken;
-    is_put = had.is_put;
-    does = record { blocks = had.does.blocks; show = had.does.show; is_end = inr (had.does.is_end.2 reached) };
-  }
+  pub onward-enough : Chains gives → Chains keeps → ((s : I) → gives s [] s) → ((s : O) → keeps s [] s) → (i i' : I) (o o' : O) (number : ℕ) (left : Option ℕ) (text : List ℕ) (ended : Type 0)
+      → left ≡ Some 0 → number ≤ max_blocks → Goes gives lost keeps failures i i' o o' (Shows limits reader h limit 0 [] text (IsAll (Leaves limit number left)))
+      → Goes gives lost keeps failures i i' o o' (Shows limits reader h limit 0 [] text (IsAll (IsEnd limit ended)))
+  onward-enough chain after none still i i' o o' number left text ended reached few had =
+      onward-goes chain after i i' i' o o' o' number left text text had (IsAll (λ blocks. blocks ≡ [])) (IsAll (IsEnd limit ended))
+      (λ done blocks rest later leaves (no_rest, whole, is).
+      let same : done ≡ done ++ blocks = sym (ap (λ (bs : List Values). done ++ bs) is ∙ append-nil done) in
+      (no_rest, whole, inr (subst (λ (bs : List Values). HasEnough limit bs) same (leaves.2 reached))))
+      (record {
+        moved = next-none gives keeps failures limits reader h left i' i' o' o' number text text [] (IsAll (λ blocks. blocks ≡ [])) few (none i') ([], still o', append-nil text) (refl, refl, refl);
+        input_works = refl;
+        output_works = refl;
+      })

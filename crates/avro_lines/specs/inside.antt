@@ -2,3 +2,4 @@
 pub mod BlocksShown
 pub mod DataShown
 pub mod OpenedSeen
+pub mod OutputTold

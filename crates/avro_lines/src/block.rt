@@ -1,15 +1,13 @@
 //! Showing a block.
 
-ghost use Rattle.std.specs.Prelude.{◌≡◌, ◌≢◌, ◌⊎◌, ◌≤◌, [], None, Some, Err, OnOk, OnErr};
+ghost use Rattle.std.specs.Prelude.{◌≡◌, ◌≤◌, None, Some, OnOk};
 ghost use Rattle.std.specs.Result.{IfErr};
 ghost use Rattle.avro_schema.specs.Value.{Values};
-ghost use Rattle.avro_display.specs.Pieces.{PutsText};
 ghost use Rattle.avro_file.specs.BlockFails.{DataAreWhole};
 ghost use Rattle.avro_file.specs.DataRead.{IsDataFault};
 ghost use Rattle.avro_file.specs.FileFault.{FileFault};
 ghost use Rattle.avro_file.specs.FileSeen.{file_fault};
-ghost use Rattle.avro_lines.specs.inside.DataShown.{ShowsFirst, ShowsPart};
-ghost use Rattle.avro_lines.specs.inside.OpenedSeen.{reading_for, shown_for};
+ghost use Rattle.avro_lines.specs.inside.OpenedSeen.{ShowsBlock, reading_for};
 
 use crate::holding::{Lines, put_long};
 use crate::reaching::{Reached, hold_lines, show_rest};
@@ -52,16 +50,8 @@ fn show_part<O: Output>(
 ) -> Result<(), CopyError>
     requires same { (block.now.header.now ≡ opened.now.header.now) × (block.now.limits ≡ opened.now.task.now.limits) }
     requires few { count ≤ block.now.count }
-    ensures shown { OnOk result (ShowsFirst O.keeps (reading_for opened.now) (shown_for opened.now) block.now.count count block.now.body.items
-        output.old lines.old.text output.new lines.new.text) }
-    ensures part { OnErr result (ShowsPart O.keeps (reading_for opened.now) (shown_for opened.now) block.now.count count block.now.body.items
-        output.old lines.old.text output.new lines.new.text) }
-    ensures fault { IfErr result (λ e. (f : FileFault) → file_fault e ≡ Some f
-        → IsDataFault (reading_for opened.now) block.now.number block.now.count block.now.body.items f
-        × PutsText O.keeps output.old lines.old.text [] output.new lines.new.text) }
-    ensures works { result ≢ Err CopyError.OutputFailed → O.failures output.new ≡ O.failures output.old }
-    ensures fails { result ≡ Err CopyError.OutputFailed → (O.failures output.new ≢ O.failures output.old) ⊎ O.stuck output.new }
-    ensures error { IfErr result (λ e. file_fault e ≡ None → (e ≡ CopyError.OutputFailed) ⊎ (e ≡ CopyError.OutOfMemory)) }
+    ensures { ShowsBlock O.keeps O.failures O.stuck opened.now block.now.number block.now.count count block.now.body.items
+        output.old lines.old.text output.new lines.new.text result }
 {
     match walk(opened, block) {
         Ok(()) => {
@@ -69,8 +59,7 @@ fn show_part<O: Output>(
             let all = block.count();
             let front = Reached { done: 0, start: 0 };
             let to = hold_lines(&mut *lines, opened, body, front, count);
-            show_rest(output, lines, opened, body, all, to, count)?;
-            Ok(())
+            show_rest(output, lines, opened, body, all, to, count)
         }
         Err(error) => Err(error),
     }
@@ -88,16 +77,8 @@ fn show_whole<O: Output>(
     block: &Block<'_>,
 ) -> Result<(), CopyError>
     requires same { (block.now.header.now ≡ opened.now.header.now) × (block.now.limits ≡ opened.now.task.now.limits) }
-    ensures shown { OnOk result (ShowsFirst O.keeps (reading_for opened.now) (shown_for opened.now) block.now.count block.now.count block.now.body.items
-        output.old lines.old.text output.new lines.new.text) }
-    ensures part { OnErr result (ShowsPart O.keeps (reading_for opened.now) (shown_for opened.now) block.now.count block.now.count block.now.body.items
-        output.old lines.old.text output.new lines.new.text) }
-    ensures fault { IfErr result (λ e. (f : FileFault) → file_fault e ≡ Some f
-        → IsDataFault (reading_for opened.now) block.now.number block.now.count block.now.body.items f
-        × PutsText O.keeps output.old lines.old.text [] output.new lines.new.text) }
-    ensures works { result ≢ Err CopyError.OutputFailed → O.failures output.new ≡ O.failures output.old }
-    ensures fails { result ≡ Err CopyError.OutputFailed → (O.failures output.new ≢ O.failures output.old) ⊎ O.stuck output.new }
-    ensures error { IfErr result (λ e. file_fault e ≡ None → (e ≡ CopyError.OutputFailed) ⊎ (e ≡ CopyError.OutOfMemory)) }
+    ensures { ShowsBlock O.keeps O.failures O.stuck opened.now block.now.number block.now.count block.now.count block.now.body.items
+        output.old lines.old.text output.new lines.new.text result }
 {
     let held = lines.text.len();
     let body = block.body();
@@ -105,14 +86,10 @@ fn show_whole<O: Output>(
     let front = Reached { done: 0, start: 0 };
     let to = hold_lines(&mut *lines, opened, body, front, count);
     if to.done == count && to.start == body.len() {
-        put_long(output, lines)?;
-        return Ok(());
+        return put_long(output, lines);
     }
     match walk(opened, block) {
-        Ok(()) => {
-            show_rest(output, lines, opened, body, count, to, count)?;
-            Ok(())
-        }
+        Ok(()) => show_rest(output, lines, opened, body, count, to, count),
         Err(error) => {
             lines.text.truncate(held);
             Err(error)
@@ -134,16 +111,8 @@ pub(crate) fn show_block<O: Output>(
 ) -> Result<(), CopyError>
     requires same { (block.now.header.now ≡ opened.now.header.now) × (block.now.limits ≡ opened.now.task.now.limits) }
     requires few { count ≤ block.now.count }
-    ensures shown { OnOk result (ShowsFirst O.keeps (reading_for opened.now) (shown_for opened.now) block.now.count count block.now.body.items
-        output.old lines.old.text output.new lines.new.text) }
-    ensures part { OnErr result (ShowsPart O.keeps (reading_for opened.now) (shown_for opened.now) block.now.count count block.now.body.items
-        output.old lines.old.text output.new lines.new.text) }
-    ensures fault { IfErr result (λ e. (f : FileFault) → file_fault e ≡ Some f
-        → IsDataFault (reading_for opened.now) block.now.number block.now.count block.now.body.items f
-        × PutsText O.keeps output.old lines.old.text [] output.new lines.new.text) }
-    ensures works { result ≢ Err CopyError.OutputFailed → O.failures output.new ≡ O.failures output.old }
-    ensures fails { result ≡ Err CopyError.OutputFailed → (O.failures output.new ≢ O.failures output.old) ⊎ O.stuck output.new }
-    ensures error { IfErr result (λ e. file_fault e ≡ None → (e ≡ CopyError.OutputFailed) ⊎ (e ≡ CopyError.OutOfMemory)) }
+    ensures { ShowsBlock O.keeps O.failures O.stuck opened.now block.now.number block.now.count count block.now.body.items
+        output.old lines.old.text output.new lines.new.text result }
 {
     if count < block.count() {
         return show_part(output, lines, opened, block, count);

@@ -1,10 +1,8 @@
 //! The text that is held, and putting it.
 
-ghost use Rattle.std.specs.Prelude.{◌≡◌, ◌≢◌, ◌⊎◌, [], OnOk, OnErr};
-ghost use Rattle.std.specs.Result.{IfErr};
-ghost use Rattle.avro_device.specs.PutFront.{PutsFrontOf};
-ghost use Rattle.avro_display.specs.Pieces.{PutsText};
-ghost use Rattle.avro_lines.specs.inside.DataShown.{PutsPart};
+ghost use Rattle.std.specs.Prelude.{◌≡◌, [], MatchResult};
+ghost use Rattle.avro_lines.specs.inside.DataShown.{Puts, PutsSome};
+ghost use Rattle.avro_lines.specs.inside.OutputTold.{PutFails, PutsBefore, PutsFlushed};
 
 use avro_device::{Output, put_all};
 use avro_display::Text;
@@ -42,12 +40,8 @@ impl Lines {
 ///
 /// `OutputFailed`: a prefix of the bytes was put.
 fn put_flushed<O: Output>(output: &mut O, bytes: &[u8]) -> Result<(), CopyError>
-    ensures put { OnOk result (O.keeps output.old bytes.now output.new) }
-    ensures flushed { OnOk result (O.flushed output.new) }
-    ensures front { OnErr result (PutsFrontOf O.keeps output.old output.new bytes.now) }
-    ensures works { OnOk result (O.failures output.new ≡ O.failures output.old) }
-    ensures fails { OnErr result ((O.failures output.new ≢ O.failures output.old) ⊎ O.stuck output.new) }
-    ensures error { IfErr result (λ e. e ≡ CopyError.OutputFailed) }
+    ensures { MatchResult result (λ _. PutsFlushed O.keeps O.flushed O.failures output.old bytes.now output.new)
+        (PutFails O.keeps O.failures O.stuck output.old bytes.now output.new) }
 {
     match put_all(&mut *output, bytes) {
         Ok(()) => {}
@@ -65,13 +59,9 @@ fn put_flushed<O: Output>(output: &mut O, bytes: &[u8]) -> Result<(), CopyError>
 ///
 /// `OutputFailed`.
 pub(crate) fn put_held<O: Output>(output: &mut O, lines: &mut Lines) -> Result<(), CopyError>
-    ensures put { OnOk result (O.keeps output.old lines.old.text output.new) }
     ensures none { lines.new.text ≡ [] }
-    ensures flushed { OnOk result (O.flushed output.new) }
-    ensures front { OnErr result (PutsFrontOf O.keeps output.old output.new lines.old.text) }
-    ensures works { OnOk result (O.failures output.new ≡ O.failures output.old) }
-    ensures fails { OnErr result ((O.failures output.new ≢ O.failures output.old) ⊎ O.stuck output.new) }
-    ensures error { IfErr result (λ e. e ≡ CopyError.OutputFailed) }
+    ensures held { MatchResult result (λ _. PutsFlushed O.keeps O.flushed O.failures output.old lines.old.text output.new)
+        (PutFails O.keeps O.failures O.stuck output.old lines.old.text output.new) }
 {
     let put = put_flushed(output, lines.text.as_slice());
     lines.text.clear();
@@ -84,17 +74,13 @@ pub(crate) fn put_held<O: Output>(output: &mut O, lines: &mut Lines) -> Result<(
 ///
 /// `OutputFailed`.
 pub(crate) fn put_long<O: Output>(output: &mut O, lines: &mut Lines) -> Result<(), CopyError>
-    ensures puts { OnOk result (PutsText O.keeps output.old lines.old.text [] output.new lines.new.text) }
-    ensures front { OnErr result (PutsPart O.keeps output.old lines.old.text [] output.new lines.new.text) }
-    ensures works { OnOk result (O.failures output.new ≡ O.failures output.old) }
-    ensures fails { OnErr result ((O.failures output.new ≢ O.failures output.old) ⊎ O.stuck output.new) }
-    ensures error { IfErr result (λ e. e ≡ CopyError.OutputFailed) }
+    ensures { MatchResult result (λ _. Puts O.keeps O.failures output.old lines.old.text [] output.new lines.new.text)
+        (λ e. (e ≡ CopyError.OutputFailed) × PutsSome O.keeps O.failures O.stuck output.old lines.old.text [] output.new lines.new.text e) }
 {
     if lines.text.len() < CAPACITY {
         return Ok(());
     }
-    put_held(output, lines)?;
-    Ok(())
+    put_held(output, lines)
 }
 
 /// Puts what is held before an error is told, and returns the error to tell: that the output failed, if it did.
@@ -103,12 +89,7 @@ pub(crate) fn put_before<O: Output>(
     lines: &mut Lines,
     error: CopyError,
 ) -> CopyError
-    ensures put { result ≢ CopyError.OutputFailed → O.keeps output.old lines.old.text output.new }
-    ensures front { PutsFrontOf O.keeps output.old output.new lines.old.text }
-    ensures told { result ≢ CopyError.OutputFailed → result ≡ error }
-    ensures either { (result ≡ error) ⊎ (result ≡ CopyError.OutputFailed) }
-    ensures fails { result ≡ CopyError.OutputFailed → ((error ≡ CopyError.OutputFailed) × (output.new ≡ output.old))
-        ⊎ ((error ≢ CopyError.OutputFailed) × ((O.failures output.new ≢ O.failures output.old) ⊎ O.stuck output.new)) }
+    ensures { PutsBefore O.keeps O.failures O.stuck output.old lines.old.text output.new error result }
 {
     if error == CopyError::OutputFailed {
         return error;

@@ -1,7 +1,6 @@
 //! The line of one datum: held while the datum is read, or put in pieces.
 
-ghost use Rattle.std.specs.Prelude.{◌≡◌, ◌≢◌, ◌⊎◌, ◌++◌, ℕ, ◌≤◌, length, Ok, Err, IfOk, IfNone, IfSome, IsErrOf, OnOk, OnErr};
-ghost use Rattle.std.specs.Result.{IfErr};
+ghost use Rattle.std.specs.Prelude.{◌≡◌, ◌≢◌, ◌⊎◌, ◌++◌, ℕ, ◌≤◌, length, Ok, IfOk, IfNone, IfSome, IsErrOf, MatchResult, OnOk, OnErr};
 ghost use Rattle.avro_device.specs.PutFront.{PutsFrontOf};
 ghost use Rattle.avro_schema.specs.Seen.{value_of};
 ghost use Rattle.avro_schema.specs.SeenSchema.{schema_nodes};
@@ -11,7 +10,7 @@ ghost use Rattle.avro_display.specs.declared.put_error.PutError.{PutError};
 ghost use Rattle.avro_file.specs.Copied.{into, unchanged};
 ghost use Rattle.avro_show.specs.Spans.{StandsIn};
 ghost use Rattle.avro_lines.specs.Lines.{line_of};
-ghost use Rattle.avro_lines.specs.inside.DataShown.{Displays, HoldsNext, PutsPart, Stands};
+ghost use Rattle.avro_lines.specs.inside.DataShown.{Displays, HoldsNext, Puts, PutsOr, PutsSome, Stands};
 ghost use Rattle.avro_lines.specs.inside.OpenedSeen.{limits_for, reading_for, shown_for};
 
 use crate::holding::{Lines, put_held};
@@ -95,27 +94,6 @@ pub(crate) fn hold_line(lines: &mut Lines, opened: &Opened<'_>, bytes: &[u8]) ->
     }
 }
 
-/// Puts the line of what a datum is for the reader of a plan, in pieces.
-fn put_planned<O: Output>(
-    output: &mut O,
-    text: &mut Text,
-    plan: &Plan<'_>,
-    table: &DisplayTable<'_>,
-    datum: &Datum,
-) -> Result<(), PutError>
-    ensures put { (u : Value) → into (schema_nodes plan.now.1) (schema_nodes plan.now.0) (value_of datum.now) ≡ Ok u
-        → OnOk result (PutsText O.keeps output.old text.old (line_of (schema_nodes table.now) u) output.new text.new) }
-    ensures front { (u : Value) → into (schema_nodes plan.now.1) (schema_nodes plan.now.0) (value_of datum.now) ≡ Ok u
-        → OnErr result (PutsFrontOf O.keeps output.old output.new (text.old ++ line_of (schema_nodes table.now) u)) }
-    ensures works { OnOk result (O.failures output.new ≡ O.failures output.old) }
-    ensures fails { IsErrOf result PutError.CannotWrite → (O.failures output.new ≢ O.failures output.old) ⊎ O.stuck output.new }
-    ensures memory { IsErrOf result PutError.OutOfMemory → O.failures output.new ≡ O.failures output.old }
-{
-    let plan = plan.by_ref();
-    let resolved = Resolved::new(&plan, table);
-    put_resolved_line(output, text, &resolved, datum)
-}
-
 /// Puts the line of a datum in pieces, by the plan if there is one. What the text held goes out before it.
 fn put_by<O: Output>(
     output: &mut O,
@@ -132,7 +110,10 @@ fn put_by<O: Output>(
     ensures memory { IsErrOf result PutError.OutOfMemory → O.failures output.new ≡ O.failures output.old }
 {
     match opened.plan {
-        Some(plan) => put_planned(output, text, plan, opened.table, datum),
+        Some(plan) => {
+            let plan = plan.by_ref();
+            put_resolved_line(output, text, &Resolved::new(&plan, opened.table), datum)
+        }
         None => put_line(output, text, opened.table, datum),
     }
 }
@@ -159,13 +140,8 @@ fn put_datum<O: Output>(
     opened: &Opened<'_>,
     datum: &Datum,
 ) -> Result<(), CopyError>
-    ensures shown { (u : Value) → (reading_for opened.now).resolve (value_of datum.now) ≡ Ok u
-        → OnOk result (PutsText O.keeps output.old lines.old.text (line_of (shown_for opened.now) u) output.new lines.new.text) }
-    ensures part { (u : Value) → (reading_for opened.now).resolve (value_of datum.now) ≡ Ok u
-        → OnErr result (PutsPart O.keeps output.old lines.old.text (line_of (shown_for opened.now) u) output.new lines.new.text) }
-    ensures works { result ≢ Err CopyError.OutputFailed → O.failures output.new ≡ O.failures output.old }
-    ensures fails { result ≡ Err CopyError.OutputFailed → (O.failures output.new ≢ O.failures output.old) ⊎ O.stuck output.new }
-    ensures error { IfErr result (λ e. (e ≡ CopyError.OutputFailed) ⊎ (e ≡ CopyError.OutOfMemory)) }
+    ensures { (u : Value) → (reading_for opened.now).resolve (value_of datum.now) ≡ Ok u
+        → PutsOr O.keeps O.failures O.stuck output.old lines.old.text (line_of (shown_for opened.now) u) output.new lines.new.text result }
 {
     put_held(&mut *output, &mut *lines)?;
     match put_by(output, &mut lines.text, opened, datum) {
@@ -190,13 +166,9 @@ pub(crate) fn put_read<O: Output>(
     bytes: &[u8],
 ) -> Result<usize, CopyError>
     ensures inside { IfOk result (λ len. len ≤ length bytes.now) }
-    ensures shown { (u : Value) (size : ℕ) → Stands (reading_for opened.now) bytes.now size u → IfOk result (λ len. (len ≡ size)
-        × PutsText O.keeps output.old lines.old.text (line_of (shown_for opened.now) u) output.new lines.new.text) }
-    ensures part { (u : Value) (size : ℕ) → Stands (reading_for opened.now) bytes.now size u
-        → OnErr result (PutsPart O.keeps output.old lines.old.text (line_of (shown_for opened.now) u) output.new lines.new.text) }
-    ensures works { result ≢ Err CopyError.OutputFailed → O.failures output.new ≡ O.failures output.old }
-    ensures fails { result ≡ Err CopyError.OutputFailed → (O.failures output.new ≢ O.failures output.old) ⊎ O.stuck output.new }
-    ensures error { IfErr result (λ e. (e ≡ CopyError.OutputFailed) ⊎ (e ≡ CopyError.OutOfMemory)) }
+    ensures shown { (u : Value) (size : ℕ) → Stands (reading_for opened.now) bytes.now size u → MatchResult result
+        (λ len. (len ≡ size) × Puts O.keeps O.failures output.old lines.old.text (line_of (shown_for opened.now) u) output.new lines.new.text)
+        (PutsSome O.keeps O.failures O.stuck output.old lines.old.text (line_of (shown_for opened.now) u) output.new lines.new.text) }
 {
     let schema = opened.header.schema();
     let limits = opened.task.limits.datum();

@@ -1,12 +1,10 @@
 //! The lines of the data of a block, one after another.
 
-ghost use Rattle.std.specs.Prelude.{◌≡◌, ◌≢◌, ◌⊎◌, ◌++◌, ℕ, ◌<◌, ◌≤◌, List, length, take, drop, Err, IfOk, OnOk, OnErr};
-ghost use Rattle.std.specs.Result.{IfErr};
+ghost use Rattle.std.specs.Prelude.{◌++◌, ℕ, ◌<◌, ◌≤◌, List, length, take, drop, IfOk, MatchResult};
 ghost use Rattle.avro_schema.specs.Value.{Value, Values};
-ghost use Rattle.avro_display.specs.Pieces.{PutsText};
 ghost use Rattle.avro_file.specs.BlockFails.{DataAreWhole};
 ghost use Rattle.avro_lines.specs.Lines.{line_of};
-ghost use Rattle.avro_lines.specs.inside.DataShown.{Continues, HasShown, HoldsMore, PutsPart, Stands, first_of};
+ghost use Rattle.avro_lines.specs.inside.DataShown.{HasShown, HoldsMore, PutsOr, PutsSome, Stands, first_of, text_of};
 ghost use Rattle.avro_lines.specs.inside.OpenedSeen.{reading_for, shown_for};
 
 use crate::holding::{Lines, put_long};
@@ -75,15 +73,10 @@ fn put_more<O: Output>(
     requires less { from.done < count }
     ensures inside { IfOk result (λ to. to.start ≤ length body.now) }
     ensures few { IfOk result (λ to. (from.done < to.done) × (to.done ≤ count)) }
-    ensures shown { (u : Value) (size : ℕ) → Stands (reading_for opened.now) (drop from.start body.now) size u
-        → IfOk result (λ to. Continues O.keeps (reading_for opened.now) (shown_for opened.now) from.done (take from.start body.now) output.old lines.old.text
-        to.done (take to.start body.now) output.new lines.new.text) }
-    ensures part { (first : O) (held front : List ℕ) (u : Value) (size : ℕ) → Stands (reading_for opened.now) (drop from.start body.now) size u
-        → PutsText O.keeps first held front output.old lines.old.text
-        → OnErr result (PutsPart O.keeps first held (front ++ line_of (shown_for opened.now) u) output.new lines.new.text) }
-    ensures works { result ≢ Err CopyError.OutputFailed → O.failures output.new ≡ O.failures output.old }
-    ensures fails { result ≡ Err CopyError.OutputFailed → (O.failures output.new ≢ O.failures output.old) ⊎ O.stuck output.new }
-    ensures error { IfErr result (λ e. (e ≡ CopyError.OutputFailed) ⊎ (e ≡ CopyError.OutOfMemory)) }
+    ensures shown { (first : O) (held : List ℕ) (u : Value) (size : ℕ) → Stands (reading_for opened.now) (drop from.start body.now) size u
+        → (had : HasShown O.keeps O.failures (reading_for opened.now) (shown_for opened.now) from.done (take from.start body.now) first held output.old lines.old.text)
+        → MatchResult result (λ to. HasShown O.keeps O.failures (reading_for opened.now) (shown_for opened.now) to.done (take to.start body.now) first held output.new lines.new.text)
+        (PutsSome O.keeps O.failures O.stuck first held (text_of (shown_for opened.now) had.made ++ line_of (shown_for opened.now) u) output.new lines.new.text) }
 {
     let (_, rest) = body.split_at(from.start);
     let len = put_read(output, &mut *lines, opened, rest)?;
@@ -110,21 +103,14 @@ pub(crate) fn show_rest<O: Output>(
 ) -> Result<(), CopyError>
     requires inside { from.start ≤ length body.now }
     requires few { (from.done ≤ count) × (count ≤ all) }
-    ensures shown { (first : O) (held : List ℕ) (made : Values) → DataAreWhole (reading_for opened.now) all body.now made
-        → HasShown O.keeps (reading_for opened.now) (shown_for opened.now) from.done (take from.start body.now) first held output.old lines.old.text
-        → OnOk result (PutsText O.keeps first held (first_of (shown_for opened.now) count made) output.new lines.new.text) }
-    ensures part { (first : O) (held : List ℕ) (made : Values) → DataAreWhole (reading_for opened.now) all body.now made
-        → HasShown O.keeps (reading_for opened.now) (shown_for opened.now) from.done (take from.start body.now) first held output.old lines.old.text
-        → OnErr result (PutsPart O.keeps first held (first_of (shown_for opened.now) count made) output.new lines.new.text) }
-    ensures works { result ≢ Err CopyError.OutputFailed → O.failures output.new ≡ O.failures output.old }
-    ensures fails { result ≡ Err CopyError.OutputFailed → (O.failures output.new ≢ O.failures output.old) ⊎ O.stuck output.new }
-    ensures error { IfErr result (λ e. (e ≡ CopyError.OutputFailed) ⊎ (e ≡ CopyError.OutOfMemory)) }
+    ensures { (first : O) (held : List ℕ) (made : Values) → DataAreWhole (reading_for opened.now) all body.now made
+        → HasShown O.keeps O.failures (reading_for opened.now) (shown_for opened.now) from.done (take from.start body.now) first held output.old lines.old.text
+        → PutsOr O.keeps O.failures O.stuck first held (first_of (shown_for opened.now) count made) output.new lines.new.text result }
 {
     prefix();
     let mut to = from;
     while to.done < count {
         to = put_more(&mut *output, &mut *lines, opened, body, to, count)?;
     }
-    put_long(output, lines)?;
-    Ok(())
+    put_long(output, lines)
 }

@@ -8,8 +8,8 @@ ghost use Rattle.avro_file.specs.FileSeen.{file_fault};
 ghost use Rattle.avro_file.specs.HeaderTaken.{header_value};
 ghost use Rattle.avro_file.specs.Named.{IsNamed};
 ghost use Rattle.avro_container.specs.Moved.{Moved};
-ghost use Rattle.avro_lines.specs.Shown.{HasEnough, ShowsFault, ShowsFront, ShowsWhole, nodes_of};
-ghost use Rattle.avro_lines.specs.inside.BlocksShown.{FaultAfter, ShowsBlocks, ShowsSome};
+ghost use Rattle.avro_lines.specs.Shown.{ShowsFault, ShowsFront, ShowsWhole, nodes_of};
+ghost use Rattle.avro_lines.specs.inside.BlocksShown.{ShowsOr};
 ghost use Rattle.avro_lines.specs.inside.OpenedSeen.{header_for, limits_for, reader_for};
 
 use crate::holding::{Lines, put_before, put_held};
@@ -64,7 +64,7 @@ pub fn show<I: Input, O: Output>(
     }
 }
 
-/// Shows the blocks after a header.
+/// Shows the blocks after a header, by a plan if there is a reader.
 ///
 /// # Errors
 ///
@@ -77,58 +77,16 @@ fn show_after<I: Input, O: Output>(
     limit: Option<u64>,
 ) -> Result<(), CopyError>
     requires marker { length header.now.sync ≡ 16 }
-    ensures whole { OnOk result (Moved I.gives O.keeps input.old input.new output.old output.new
-        (ShowsBlocks task.now.limits (nodes_of task.now.reader) (header_value header.now) limit (λ blocks. I.ended input.new ⊎ HasEnough limit blocks) [])) }
-    ensures front { OnErr result (Moved I.gives O.keeps input.old input.new output.old output.new
-        (ShowsSome task.now.limits (nodes_of task.now.reader) (header_value header.now) limit 0 [] [])) }
-    ensures fault { IfErr result (λ e. (f : FileFault) → file_fault e ≡ Some f → Moved I.gives O.keeps input.old input.new output.old output.new
-        (FaultAfter task.now.limits (nodes_of task.now.reader) (header_value header.now) limit (I.ended input.new) f [])) }
-    ensures named { IfErr result IsNamed }
-    ensures input_fails { result ≡ Err CopyError.InputFailed → I.failures input.new ≢ I.failures input.old }
-    ensures output_fails { result ≡ Err CopyError.OutputFailed → (O.failures output.new ≢ O.failures output.old) ⊎ O.stuck output.new }
-    ensures output_works { OnOk result (O.failures output.new ≡ O.failures output.old) }
+    ensures shown { ShowsOr I.gives I.ended I.failures O.keeps O.failures O.stuck task.now.limits (nodes_of task.now.reader) (header_value header.now) limit
+        input.old input.new output.old output.new [] result }
     ensures flushed { OnOk result (O.flushed output.new) }
-    ensures first { result ≢ Err CopyError.FailedBefore }
-    ensures input_works { OnOk result (I.failures input.new ≡ I.failures input.old) }
 {
     let plan = plan_of(task, header)?;
-    show_planned(input, output, task, header, &plan, limit)
-}
-
-/// Shows the blocks after a header by a plan, if there is a reader.
-///
-/// # Errors
-///
-/// Those of [`show_after`].
-fn show_planned<I: Input, O: Output>(
-    input: &mut I,
-    output: &mut O,
-    task: &Task<'_>,
-    header: &Header,
-    plan: &Option<Plan<'_>>,
-    limit: Option<u64>,
-) -> Result<(), CopyError>
-    requires marker { length header.now.sync ≡ 16 }
-    requires planned { plan.now ≡ option_map (λ r. (header.now.schema, r)) (option_copied task.now.reader) }
-    ensures whole { OnOk result (Moved I.gives O.keeps input.old input.new output.old output.new
-        (ShowsBlocks task.now.limits (nodes_of task.now.reader) (header_value header.now) limit (λ blocks. I.ended input.new ⊎ HasEnough limit blocks) [])) }
-    ensures front { OnErr result (Moved I.gives O.keeps input.old input.new output.old output.new
-        (ShowsSome task.now.limits (nodes_of task.now.reader) (header_value header.now) limit 0 [] [])) }
-    ensures fault { IfErr result (λ e. (f : FileFault) → file_fault e ≡ Some f → Moved I.gives O.keeps input.old input.new output.old output.new
-        (FaultAfter task.now.limits (nodes_of task.now.reader) (header_value header.now) limit (I.ended input.new) f [])) }
-    ensures named { IfErr result IsNamed }
-    ensures input_fails { result ≡ Err CopyError.InputFailed → I.failures input.new ≢ I.failures input.old }
-    ensures output_fails { result ≡ Err CopyError.OutputFailed → (O.failures output.new ≢ O.failures output.old) ⊎ O.stuck output.new }
-    ensures output_works { OnOk result (O.failures output.new ≡ O.failures output.old) }
-    ensures flushed { OnOk result (O.flushed output.new) }
-    ensures first { result ≢ Err CopyError.FailedBefore }
-    ensures input_works { OnOk result (I.failures input.new ≡ I.failures input.old) }
-{
     let table = DisplayTable::new(task.alloc, shown_schema(task, header))?;
     let opened = Opened {
         task,
         header,
-        plan,
+        plan: &plan,
         table: &table,
     };
     show_opened(input, output, &opened, limit)
@@ -146,26 +104,13 @@ fn show_opened<I: Input, O: Output>(
     limit: Option<u64>,
 ) -> Result<(), CopyError>
     requires marker { length opened.now.header.now.sync ≡ 16 }
-    ensures whole { OnOk result (Moved I.gives O.keeps input.old input.new output.old output.new
-        (ShowsBlocks (limits_for opened.now) (reader_for opened.now) (header_for opened.now) limit (λ blocks. I.ended input.new ⊎ HasEnough limit blocks) [])) }
-    ensures front { OnErr result (Moved I.gives O.keeps input.old input.new output.old output.new
-        (ShowsSome (limits_for opened.now) (reader_for opened.now) (header_for opened.now) limit 0 [] [])) }
-    ensures fault { IfErr result (λ e. (f : FileFault) → file_fault e ≡ Some f → Moved I.gives O.keeps input.old input.new output.old output.new
-        (FaultAfter (limits_for opened.now) (reader_for opened.now) (header_for opened.now) limit (I.ended input.new) f [])) }
-    ensures named { IfErr result IsNamed }
-    ensures input_fails { result ≡ Err CopyError.InputFailed → I.failures input.new ≢ I.failures input.old }
-    ensures output_fails { result ≡ Err CopyError.OutputFailed → (O.failures output.new ≢ O.failures output.old) ⊎ O.stuck output.new }
-    ensures output_works { OnOk result (O.failures output.new ≡ O.failures output.old) }
+    ensures shown { ShowsOr I.gives I.ended I.failures O.keeps O.failures O.stuck (limits_for opened.now) (reader_for opened.now) (header_for opened.now) limit
+        input.old input.new output.old output.new [] result }
     ensures flushed { OnOk result (O.flushed output.new) }
-    ensures first { result ≢ Err CopyError.FailedBefore }
-    ensures input_works { OnOk result (I.failures input.new ≡ I.failures input.old) }
 {
     let mut lines = Lines::new(opened.task.alloc);
     match show_blocks(input, &mut *output, &mut lines, opened, limit) {
-        Ok(()) => {
-            put_held(output, &mut lines)?;
-            Ok(())
-        }
+        Ok(()) => put_held(output, &mut lines),
         Err(error) => Err(put_before(output, &mut lines, error)),
     }
 }

@@ -1,15 +1,9 @@
 //! Showing block after block, up to a limit.
 
-ghost use Rattle.std.specs.Prelude.{◌≡◌, ◌≢◌, ◌⊎◌, ◌+◌, ◌≤◌, ℕ, List, [], true, false, length, take, Some, Err, IfOk, IfNone, IfSome, OnOk, OnErr};
-ghost use Rattle.std.specs.Result.{IfErr};
+ghost use Rattle.std.specs.Prelude.{◌≡◌, ◌≢◌, ◌+◌, ◌≤◌, ℕ, List, [], true, false, length, take, Some, IfOk, IfSome, MatchResult};
 ghost use Rattle.avro_file.specs.BlockFails.{max_blocks};
-ghost use Rattle.avro_file.specs.FileFault.{FileFault};
-ghost use Rattle.avro_file.specs.FileSeen.{file_fault};
-ghost use Rattle.avro_file.specs.Named.{IsNamed};
-ghost use Rattle.avro_container.specs.Moved.{Moved};
 ghost use Rattle.avro_lines.specs.Lines.{up_to};
-ghost use Rattle.avro_lines.specs.Shown.{HasEnough};
-ghost use Rattle.avro_lines.specs.inside.BlocksShown.{FaultAfter, ShowsBlocks, ShowsNext, ShowsNone, ShowsSome, lessened};
+ghost use Rattle.avro_lines.specs.inside.BlocksShown.{Goes, IsAll, IsFaultNext, IsNext, Shows, ShowsOr, Stops, lessened};
 ghost use Rattle.avro_lines.specs.inside.OpenedSeen.{header_for, limits_for, reader_for};
 
 use crate::block::show_block;
@@ -73,24 +67,15 @@ fn show_next<I: Input, O: Output>(
     requires same { (blocks.old.header.now ≡ opened.now.header.now) × (blocks.old.limits ≡ opened.now.task.now.limits) }
     requires marker { length opened.now.header.now.sync ≡ 16 }
     requires few { blocks.old.number ≤ max_blocks }
-    ensures found { IfOk result (λ found. IfSome found (λ count. Moved I.gives O.keeps input.old input.new output.old output.new
-        (ShowsNext (limits_for opened.now) (reader_for opened.now) (header_for opened.now) left blocks.old.number count lines.old.text lines.new.text))) }
-    ensures none { IfOk result (λ found. IfNone found (I.gives input.old [] input.new)) }
-    ensures still { IfOk result (λ found. IfNone found ((output.new ≡ output.old) × (lines.new.text ≡ lines.old.text))) }
-    ensures told { IfOk result (λ found. IfNone found (I.ended input.new)) }
-    ensures some { OnErr result (Moved I.gives O.keeps input.old input.new output.old output.new
-        (ShowsSome (limits_for opened.now) (reader_for opened.now) (header_for opened.now) left blocks.old.number lines.old.text lines.new.text)) }
-    ensures fault { IfErr result (λ e. (f : FileFault) → file_fault e ≡ Some f → Moved I.gives O.keeps input.old input.new output.old output.new
-        (ShowsNone (limits_for opened.now) (reader_for opened.now) (header_for opened.now) blocks.old.number (I.ended input.new) f lines.old.text lines.new.text)) }
-    ensures counted { IfOk result (λ found. IfSome found (λ _. blocks.new.number ≡ blocks.old.number + 1)) }
-    ensures more { IfOk result (λ found. IfSome found (λ _. (blocks.new.failed ≡ false) × (blocks.new.ended ≡ false))) }
+    ensures shown { MatchResult result
+        (λ found. Goes I.gives I.failures O.keeps O.failures input.old input.new output.old output.new
+        (Shows (limits_for opened.now) (reader_for opened.now) (header_for opened.now) left blocks.old.number lines.old.text lines.new.text
+        (IsAll (IsNext found (I.ended input.new)))))
+        (λ e. Stops I.gives I.failures O.keeps O.failures O.stuck input.old input.new output.old output.new
+        (Shows (limits_for opened.now) (reader_for opened.now) (header_for opened.now) left blocks.old.number lines.old.text lines.new.text
+        (IsFaultNext (limits_for opened.now) (reader_for opened.now) (header_for opened.now) blocks.old.number (I.ended input.new) e)) e) }
+    ensures goes_on { IfOk result (λ found. IfSome found (λ _. (blocks.new.number ≡ blocks.old.number + 1) × (blocks.new.failed ≡ false) × (blocks.new.ended ≡ false))) }
     ensures kept { (blocks.new.header ≡ blocks.old.header) × (blocks.new.limits ≡ blocks.old.limits) }
-    ensures named { IfErr result IsNamed }
-    ensures input_works { OnOk result (I.failures input.new ≡ I.failures input.old) }
-    ensures input_fails { result ≡ Err CopyError.InputFailed → I.failures input.new ≢ I.failures input.old }
-    ensures output_works { result ≢ Err CopyError.OutputFailed → O.failures output.new ≡ O.failures output.old }
-    ensures output_fails { result ≡ Err CopyError.OutputFailed → (O.failures output.new ≢ O.failures output.old) ⊎ O.stuck output.new }
-    ensures first { result ≢ Err CopyError.FailedBefore }
 {
     match blocks.next(input)? {
         Some(block) => {
@@ -117,18 +102,8 @@ pub(crate) fn show_blocks<I: Input, O: Output>(
 ) -> Result<(), CopyError>
     requires none { lines.old.text ≡ [] }
     requires marker { length opened.now.header.now.sync ≡ 16 }
-    ensures whole { OnOk result (Moved I.gives O.keeps input.old input.new output.old output.new
-        (ShowsBlocks (limits_for opened.now) (reader_for opened.now) (header_for opened.now) limit (λ blocks. I.ended input.new ⊎ HasEnough limit blocks) lines.new.text)) }
-    ensures front { OnErr result (Moved I.gives O.keeps input.old input.new output.old output.new
-        (ShowsSome (limits_for opened.now) (reader_for opened.now) (header_for opened.now) limit 0 [] lines.new.text)) }
-    ensures fault { IfErr result (λ e. (f : FileFault) → file_fault e ≡ Some f → Moved I.gives O.keeps input.old input.new output.old output.new
-        (FaultAfter (limits_for opened.now) (reader_for opened.now) (header_for opened.now) limit (I.ended input.new) f lines.new.text)) }
-    ensures named { IfErr result IsNamed }
-    ensures input_works { OnOk result (I.failures input.new ≡ I.failures input.old) }
-    ensures input_fails { result ≡ Err CopyError.InputFailed → I.failures input.new ≢ I.failures input.old }
-    ensures output_works { result ≢ Err CopyError.OutputFailed → O.failures output.new ≡ O.failures output.old }
-    ensures output_fails { result ≡ Err CopyError.OutputFailed → (O.failures output.new ≢ O.failures output.old) ⊎ O.stuck output.new }
-    ensures first { result ≢ Err CopyError.FailedBefore }
+    ensures { ShowsOr I.gives I.ended I.failures O.keeps O.failures O.stuck (limits_for opened.now) (reader_for opened.now) (header_for opened.now) limit
+        input.old input.new output.old output.new lines.new.text result }
 {
     let mut blocks = Blocks::new(opened.task.alloc, opened.header, &opened.task.limits);
     let mut left = limit;
