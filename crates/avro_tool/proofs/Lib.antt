@@ -1,3 +1,4 @@
+pub mod DataFailures
 pub mod EachLines
 mod FoundLemmas
 mod GrammarLemmas

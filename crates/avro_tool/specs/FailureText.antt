@@ -1,7 +1,11 @@
 -- What the program says where it ends without an answer: the exit status, and the line of what is refused.
 use Rattle.std.specs.Borrow.{Bor}
-use Rattle.std.specs.Prelude.{◌≡◌, ◌≢◌, ℕ, List, IsSome}
-use Rattle.avro_answer.specs.DataRead.{error_text}
+use Rattle.std.specs.Prelude.{◌≡◌, ◌≢◌, ℕ, Bool, List, IsSome, IsSomeAnd, if◌then◌else◌}
+use Rattle.avro_cursor.specs.declared.error.ReadError.{ReadError}
+use Rattle.avro_resolve.specs.declared.error.ReadResolveError.{ReadResolveError}
+use Rattle.avro_answer.specs.DataRead.{error_text, fault_found}
+use Rattle.avro_answer.specs.ReadAnswer.{Found}
+use Rattle.avro_answer.specs.declared.data_error.DataError.{DataError}
 use Rattle.avro_schema_json.specs.Refusals.{schema_code}
 use Rattle.avro_file.specs.FileSeen.{file_fault}
 use Rattle.avro_certificate.specs.CertificateRead.{certificate_code}
@@ -49,6 +53,26 @@ abbrev pub IsFileFailure : Bor (List ℕ) → Failure → Type 0
 IsFileFailure word (Failure.Container w e) = (w ≡ word) × IsSome (file_fault e)
 IsFileFailure word (Failure.CannotRead w) = w ≡ word
 IsFileFailure word f = IsPutFailure f
+
+-- the error that is told of data that may have been cut: where those end in the datum, a limit is exceeded
+abbrev pub told_error : Bool → ReadResolveError → ReadResolveError
+told_error is_cut (ReadResolveError.Read (ReadError.EndOfInput place)) = ReadResolveError.Read (if is_cut then ReadError.LimitExceeded else ReadError.EndOfInput place)
+told_error is_cut e = e
+
+-- data that are refused, or no memory
+abbrev pub refused_failure : Bor (List ℕ) → ReadResolveError → Failure
+refused_failure word (ReadResolveError.Read ReadError.OutOfMemory) = Failure.OutOfMemory
+refused_failure word e = Failure.Data word e
+
+-- the failure of data in a file, which is named by this word, whose text is not put
+abbrev pub data_failure : Bor (List ℕ) → Bool → DataError → Failure
+data_failure word is_cut (DataError.Refused e) = refused_failure word (told_error is_cut e)
+data_failure word is_cut (DataError.Put e) = put_failure e
+
+-- a failure of telling the datum in a file, which is named by this word: that of telling, or the data are refused for a fault that is found in them
+abbrev pub IsDataFailure : Bor (List ℕ) → Bool → (Found → Type 0) → Failure → Type 0
+IsDataFailure word is_cut is_found (Failure.Data w e) = (w ≡ word) × (error : ReadResolveError) × (e ≡ told_error is_cut error) × IsSomeAnd (fault_found error) is_found
+IsDataFailure word is_cut is_found f = IsPutFailure f
 
 -- words that ask for nothing: memory ran out exactly where the parser says so
 pub record IsUsageOf (e : Error) (failure : Failure) : Type 0 where

@@ -6,9 +6,9 @@
 //! worst status, and that the certificates that are kept confirm their schemas (`judge_each`, `certify_each`); that `pipe` is a copy of
 //! what it takes (`pipe_from`); the counts of `check` (`counts_of`), and their line of JSON (`tell_file_counts`); that `header` prints
 //! the text of the schema of the header that it takes, or the line of all its metadata (`tell_header`); that `show` prints what
-//! `avro_lines` says of the file that it takes (`tell_lines`); that what these tell, but for `read`, fails for nothing but memory, the
-//! output, or a file that cannot be read or has a fault (`IsPutFailure`, `IsFileFailure`), and blames the output only where it failed
-//! or took nothing; the bytes of the file of a refutation (`put_block`); and that `Watched`, an input around another for `--progress`,
+//! `avro_lines` says of the file that it takes (`tell_lines`); that what these tell fails for nothing but memory, the output, or a file
+//! that cannot be read or has a fault (`IsPutFailure`, `IsFileFailure`, `IsDataFailure`), and blames the output only where it failed or
+//! took nothing; the bytes of the file of a refutation (`put_block`); and that `Watched`, an input around another for `--progress`,
 //! takes, ends and counts as the other does. The rest is safe, and returns.
 //!
 //! `run` makes an `Output` of the writer for the answers, and the commands put into that. No failed call of it is retried.

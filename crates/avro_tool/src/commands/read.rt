@@ -1,13 +1,19 @@
 //! The first datum of encoded data.
 
-ghost use Rattle.std.specs.Prelude.{◌≡◌, ℕ, [], List, OnOk, IfOk, option_copied, option_map};
+ghost use Rattle.std.specs.Prelude.{◌≡◌, ◌≢◌, ◌⊎◌, ℕ, [], List, OnOk, IfOk, IsErrOf, Err, option_copied, option_map};
 ghost use Rattle.std.specs.Option.{IfSome};
+ghost use Rattle.std.specs.Result.{IfErr};
 ghost use Rattle.avro_schema.specs.SeenSchema.{schema_nodes};
+ghost use Rattle.avro_resolve.specs.declared.error.ReadResolveError.{ReadResolveError};
+ghost use Rattle.avro_display.specs.declared.put_error.PutError.{PutError};
 ghost use Rattle.avro_answer.specs.DataPut.{IfRefused};
 ghost use Rattle.avro_answer.specs.DataRead.{IsDatumTold, fault_found};
 ghost use Rattle.avro_answer.specs.ReadAnswer.{IsAllFound};
+ghost use Rattle.avro_answer.specs.declared.data_error.DataError.{DataError};
 ghost use Rattle.avro_tool.specs.DefaultLimits.{datum_limits};
+ghost use Rattle.avro_tool.specs.FailureText.{data_failure, told_error, IsDataFailure};
 ghost use Rattle.avro_tool.specs.FoundStatus.{finding_status};
+ghost use Rattle.avro_tool.specs.declared.failure.Failure.TheVariants.{Data, CannotPrint, OutOfMemory};
 
 use crate::Finding;
 use crate::failure::Failure;
@@ -82,6 +88,12 @@ fn tell_datum<'a, O: Output>(
     ensures told { OnOk result ((text : List ℕ) × IsDatumTold (schema_nodes writer.now) (option_map (λ t. schema_nodes t.1) (option_copied reader.entry)) datum_limits
         asked.now.form asked.now.skip bytes.now text × O.keeps out.old text out.new) }
     ensures good { IfOk result (λ f. finding_status f ≡ 0) }
+    ensures fails { IfErr result (IsDataFailure asked.now.data is_cut (IsAllFound (schema_nodes writer.now)
+        (option_map (λ t. schema_nodes t.1) (option_copied reader.entry)) datum_limits asked.now.skip bytes.now)) }
+    ensures refused { (e : ReadResolveError) → result ≡ Err (Data asked.now.data e) → O.keeps out.old [] out.new × (O.failures out.new ≡ O.failures out.old) }
+    ensures failed { IsErrOf result CannotPrint → (O.failures out.new ≢ O.failures out.old) ⊎ O.stuck out.new }
+    ensures memory { IsErrOf result OutOfMemory → O.failures out.new ≡ O.failures out.old }
+    ensures works { OnOk result (O.failures out.new ≡ O.failures out.old) }
 {
     let plan = plan_of(alloc, writer, reader)?;
     match put_datum(alloc, asked, &plan, bytes, out) {
@@ -180,6 +192,10 @@ fn put_datum<O: Output>(
         asked.now.form asked.now.skip bytes.now text × O.keeps out.old text out.new) }
     ensures refused { IfRefused result (λ e. O.keeps out.old [] out.new × IfSome (fault_found e) (IsAllFound (schema_nodes plan.now.0) (option_map schema_nodes plan.now.1)
         datum_limits asked.now.skip bytes.now)) }
+    ensures unused { IfRefused result (λ e. O.failures out.new ≡ O.failures out.old) }
+    ensures works { OnOk result (O.failures out.new ≡ O.failures out.old) }
+    ensures fails { IsErrOf result (DataError.Put PutError.CannotWrite) → (O.failures out.new ≢ O.failures out.old) ⊎ O.stuck out.new }
+    ensures memory { IsErrOf result (DataError.Put PutError.OutOfMemory) → O.failures out.new ≡ O.failures out.old }
 {
     match behind(bytes, asked.skip as usize) {
         Ok(rest) => {
@@ -198,7 +214,9 @@ fn put_datum<O: Output>(
 }
 
 /// The failure of data whose text is not put.
-fn failure_of<'a>(word: &'a str, error: DataError, is_cut: bool) -> Failure<'a> {
+fn failure_of<'a>(word: &'a str, error: DataError, is_cut: bool) -> Failure<'a>
+    ensures { result ≡ data_failure word.exit is_cut error }
+{
     match error {
         DataError::Refused(error) => Failure::of_data(word, told_of(error, is_cut)),
         DataError::Put(error) => Failure::from(error),
@@ -206,7 +224,9 @@ fn failure_of<'a>(word: &'a str, error: DataError, is_cut: bool) -> Failure<'a> 
 }
 
 /// The error of data that may have been cut: where these end in the datum, a limit is exceeded.
-fn told_of(error: ReadResolveError, is_cut: bool) -> ReadResolveError {
+fn told_of(error: ReadResolveError, is_cut: bool) -> ReadResolveError
+    ensures { result ≡ told_error is_cut error }
+{
     match error {
         ReadResolveError::Read(ReadError::EndOfInput { .. }) if is_cut => {
             ReadResolveError::Read(ReadError::LimitExceeded)

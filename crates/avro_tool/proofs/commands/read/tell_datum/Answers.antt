@@ -1,18 +1,58 @@
-use Rattle.std.proofs.Common.{ℕ, List, Option, ap, subst}
-use Rattle.std.specs.Prelude.{option_copied, option_map}
+use Rattle.std.proofs.Common.{◌≡◌, ◌∙◌, ℕ, [], List, Option, ap, subst, sym}
+use Rattle.std.specs.Prelude.{option_map}
+use Rattle.std.specs.Option.{IfSome}
 use Rattle.avro_schema.specs.Node.{Node}
 use Rattle.avro_schema.specs.SeenSchema.{schema_nodes}
-use Rattle.avro_answer.specs.DataRead.{IsDatumTold}
+use Rattle.avro_resolve.specs.declared.error.ReadResolveError.{ReadResolveError}
+use Rattle.avro_answer.specs.DataRead.{IsDatumTold, fault_found}
+use Rattle.avro_answer.specs.ReadAnswer.{IsAllFound}
 use Rattle.avro_tool.specs.DefaultLimits.{datum_limits}
+use Rattle.avro_tool.specs.FailureText.{IsDataFailure}
+use Rattle.avro_tool.specs.declared.failure.Failure.{Failure}
+use Rattle.avro_tool.proofs.DataFailures.{data_blames, data_fails, data_memory, data_refused}
 use Rattle.avro_tool.proofs.commands.read.tell_datum.Goals as goal
+
+-- what is so of the plan's schemas is so of these
+for_schemas : (P : List Node → Option (List Node) → Type 0) {W V : List Node} {R S : Option (List Node)} → W ≡ V → R ≡ S → P W R → P V S
+for_schemas P {W} {V} {R} {S} same also h = subst (λ (X : List Node). P X S) same (subst (P W) also h)
 
 pub returns-in-Ok-clause-told : goal.returns-in-Ok-clause-told
 returns-in-Ok-clause-told g c =
-    let p = c.in_ok-plan.plan in
     let asked = c.args.asked.now in
-    subst (λ (W : List Node). (text : List ℕ) × IsDatumTold W (option_map (λ t. schema_nodes t.1) (option_copied c.args.reader)) datum_limits asked.form asked.skip c.args.bytes.now text
-    × g.O.Output.keeps c.args.out.now text c.put_datum.new.out)
-    (ap schema_nodes c.in_ok-plan.ensures.written)
-    (subst (λ (R : Option (List Node)). (text : List ℕ) × IsDatumTold (schema_nodes p.0) R datum_limits asked.form asked.skip c.args.bytes.now text
-    × g.O.Output.keeps c.args.out.now text c.put_datum.new.out)
-    c.in_ok-plan.ensures.read c.in-Ok.ensures.put)
+    for_schemas (λ (W : List Node) (R : Option (List Node)). (text : List ℕ) × IsDatumTold W R datum_limits asked.form asked.skip c.args.bytes.now text
+    × g.O.Output.keeps c.args.out.now text c.put_datum.new.out) (ap schema_nodes c.in_ok-plan.ensures.written) c.in_ok-plan.ensures.read c.in-Ok.ensures.put
+
+pub returns-in-Err-clause-fails : goal.returns-in-Err-clause-fails
+returns-in-Err-clause-fails g c =
+    let asked = c.args.asked.now in
+    let p = c.in_ok-plan.plan in
+    for_schemas (λ (W : List Node) (R : Option (List Node)). IsDataFailure asked.data c.args.is_cut (IsAllFound W R datum_limits asked.skip c.args.bytes.now) c.failure_of.result)
+    (ap schema_nodes c.in_ok-plan.ensures.written) c.in_ok-plan.ensures.read
+    (rw c.failure_of.ensures (data_fails asked.data (IsAllFound (schema_nodes p.0) (option_map schema_nodes p.1) datum_limits asked.skip c.args.bytes.now)
+    (g.O.Output.keeps c.args.out.now [] c.put_datum.new.out) c.args.is_cut c.in-Err.error c.in-Err.ensures.refused))
+
+pub returns-in-Err-clause-failed : goal.returns-in-Err-clause-failed
+returns-in-Err-clause-failed g c is =
+    let asked = c.args.asked.now in
+    let p = c.in_ok-plan.plan in
+    let same : c.failure_of.result ≡ Failure.CannotPrint = cc in
+    data_blames asked.data (IsAllFound (schema_nodes p.0) (option_map schema_nodes p.1) datum_limits asked.skip c.args.bytes.now)
+    (g.O.Output.keeps c.args.out.now [] c.put_datum.new.out) c.args.is_cut c.in-Err.error c.in-Err.ensures.refused c.in-Err.ensures.fails (sym c.failure_of.ensures ∙ same)
+
+pub returns-in-Err-clause-memory : goal.returns-in-Err-clause-memory
+returns-in-Err-clause-memory g c is =
+    let same : c.failure_of.result ≡ Failure.OutOfMemory = cc in
+    data_memory c.args.asked.now.data c.args.is_cut c.in-Err.error c.in-Err.ensures.unused c.in-Err.ensures.memory (sym c.failure_of.ensures ∙ same)
+
+pub returns-in-Err-clause-refused : goal.returns-in-Err-clause-refused
+returns-in-Err-clause-refused g c told is =
+    let asked = c.args.asked.now in
+    let p = c.in_ok-plan.plan in
+    let keeps = g.O.Output.keeps c.args.out.now [] c.put_datum.new.out in
+    let same : c.failure_of.result ≡ Failure.Data asked.data told = cc in (
+      (data_refused asked.data c.args.is_cut
+          (λ (e : ReadResolveError). keeps × IfSome (fault_found e) (IsAllFound (schema_nodes p.0) (option_map schema_nodes p.1) datum_limits asked.skip c.args.bytes.now))
+          asked.data told c.in-Err.error c.in-Err.ensures.refused (sym c.failure_of.ensures ∙ same)).1.0,
+      (data_refused asked.data c.args.is_cut (λ _. g.O.Output.failures c.put_datum.new.out ≡ g.O.Output.failures c.args.out.now)
+          asked.data told c.in-Err.error c.in-Err.ensures.unused (sym c.failure_of.ensures ∙ same)).1,
+    )
