@@ -22,8 +22,8 @@ returns-in-Ok-clause-told g c =
     for_schemas (λ (W : List Node) (R : Option (List Node)). (text : List ℕ) × IsDatumTold W R datum_limits asked.form asked.skip c.args.bytes.now text
     × g.O.Output.keeps c.args.out.now text c.put_datum.new.out) (ap schema_nodes c.in_ok-plan.ensures.written) c.in_ok-plan.ensures.read c.in-Ok.ensures.put
 
-pub returns-in-Err-clause-fails : goal.returns-in-Err-clause-fails
-returns-in-Err-clause-fails g c =
+pub returns-clause-fails : goal.returns-clause-fails
+returns-clause-fails g c =
     let asked = c.args.asked.now in
     let p = c.in_ok-plan.plan in
     for_schemas (λ (W : List Node) (R : Option (List Node)). IsDataFailure asked.data c.args.is_cut (IsAllFound W R datum_limits asked.skip c.args.bytes.now) c.failure_of.result)
@@ -31,21 +31,21 @@ returns-in-Err-clause-fails g c =
     (rw c.failure_of.ensures (data_fails asked.data (IsAllFound (schema_nodes p.0) (option_map schema_nodes p.1) datum_limits asked.skip c.args.bytes.now)
     (g.O.Output.keeps c.args.out.now [] c.put_datum.new.out) c.args.is_cut c.in-Err.error c.in-Err.ensures.refused))
 
-pub returns-in-Err-clause-failed : goal.returns-in-Err-clause-failed
-returns-in-Err-clause-failed g c is =
+pub returns-clause-failed : goal.returns-clause-failed
+returns-clause-failed g c is =
     let asked = c.args.asked.now in
     let p = c.in_ok-plan.plan in
     let same : c.failure_of.result ≡ Failure.CannotPrint = cc in
     data_blames asked.data (IsAllFound (schema_nodes p.0) (option_map schema_nodes p.1) datum_limits asked.skip c.args.bytes.now)
     (g.O.Output.keeps c.args.out.now [] c.put_datum.new.out) c.args.is_cut c.in-Err.error c.in-Err.ensures.refused c.in-Err.ensures.fails (sym c.failure_of.ensures ∙ same)
 
-pub returns-in-Err-clause-memory : goal.returns-in-Err-clause-memory
-returns-in-Err-clause-memory g c is =
+pub returns-clause-memory : goal.returns-clause-memory
+returns-clause-memory g c is =
     let same : c.failure_of.result ≡ Failure.OutOfMemory = cc in
     data_memory c.args.asked.now.data c.args.is_cut c.in-Err.error c.in-Err.ensures.unused c.in-Err.ensures.memory (sym c.failure_of.ensures ∙ same)
 
-pub returns-in-Err-clause-refused : goal.returns-in-Err-clause-refused
-returns-in-Err-clause-refused g c told is =
+pub returns-clause-refused : goal.returns-clause-refused
+returns-clause-refused g c told is =
     let asked = c.args.asked.now in
     let p = c.in_ok-plan.plan in
     let keeps = g.O.Output.keeps c.args.out.now [] c.put_datum.new.out in
