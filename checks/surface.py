@@ -251,7 +251,6 @@ EXCEPTIONS = {
         ("avro_display/src/putting.rt put_ordered", TOKEN_WISE),
         ("avro_show/src/composing.rt append_entries", TOKEN_WISE),
         ("avro_show/src/composing.rt append_members", TOKEN_WISE),
-        ("avro_show/src/composing.rt append_pieces", TOKEN_WISE),
         ("avro_show/src/scratch.rt end", TOKEN_WISE),
         ("avro_why/src/json_fault.rt too_deep", SCANNED),
         ("avro_why/src/offsets.rt step", SCANNED),
