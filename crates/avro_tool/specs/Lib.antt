@@ -1,10 +1,12 @@
 pub mod ContainerText
 pub mod DefaultLimits
 pub mod EachAnswer
+pub mod FailsOnlyFor
 pub mod FailureText
 pub mod FoundStatus
 pub mod HeaderText
 pub mod KeptCertificates
 pub mod ModeAnswer
 pub mod PlainWords
+pub mod PlainAnswers
 pub mod inside

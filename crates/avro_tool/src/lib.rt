@@ -1,8 +1,8 @@
-//! The program `avro`, as a function over its words, a reader and two writers. Of its own functions these are proved: that plain words,
-//! a command and its files, make the request for these files (`request_of`, for seven commands); the exit status of each `Failure` and
-//! each `Finding`, and the line of each refusal; that the text and the status of `judge`, `explain`, `confirm`, `schema` and `read` are
-//! those of `avro_answer` for the schemas and the data that were read, in their order (`judge_pair`, `explain_pair`, `tell_confirmed`,
-//! `tell_schema`, `tell_datum`); that the lines of `history`, as text and as JSON, are those of its files, in their order, with the
+//! The program `avro`, as a function over its words, its files, an input, an output and a writer for errors. Of its own functions these
+//! are proved: that a command and its files make the request for these files (`request_of`, for eight commands); that `judge`, `explain`
+//! and `confirm` of files of which it is known what they hold put the answer for these texts, with its status (`run_over`); the exit
+//! status of each `Failure` and each `Finding`, and the line of each refusal; that the text and the status of `schema` and `read` are
+//! those of `avro_answer` for the schemas and the data that were read (`tell_schema`, `tell_datum`); that the lines of `history`, as text and as JSON, are those of its files, in their order, with the
 //! worst status, and that the certificates that are kept confirm their schemas (`judge_each`, `certify_each`); that `pipe` is a copy of
 //! what it takes (`pipe_from`); the counts of `check` (`counts_of`), and their line of JSON (`tell_file_counts`); that `header` prints
 //! the text of the schema of the header that it takes, or the line of all its metadata (`tell_header`); that `show` prints what
@@ -12,11 +12,19 @@
 //! takes, ends and counts as the other does. The rest is safe, and returns.
 //!
 //! `run` makes an `Output` of the writer for the answers, and the commands put into that. No failed call of it is retried.
+//! `Texts` are files of which it may be known what they hold; nothing is known of the system's.
 #![tactic(auto)]
 
-ghost use Rattle.std.specs.Prelude.{◌≡◌, ◌⊎◌, ◌≤◌};
+ghost use Rattle.std.specs.Borrow.{Bor};
+ghost use Rattle.std.specs.Prelude.{◌≡◌, ◌⊎◌, ◌≤◌, ◌∷◌, ℕ, List, map, string_bytes, IfOk};
+ghost use Rattle.avro_answer.specs.declared.form.Form.{Form};
 ghost use Rattle.avro_tool.specs.FailureText.{exit_status};
 ghost use Rattle.avro_tool.specs.FoundStatus.{finding_status, first_failed, IsVerdict, worse};
+ghost use Rattle.avro_tool.specs.PlainAnswers.{AnswersConfirm, AnswersExplain, AnswersJudge, AnswersPlain};
+ghost use Rattle.avro_tool.specs.PlainWords.{files_of, name_of, AreApart, HaveNoOption, PlainWords};
+ghost use Rattle.avro_tool.specs.declared.request.Explaining.{Explaining};
+ghost use Rattle.avro_tool.specs.declared.request.Judging.{Judging};
+ghost use Rattle.avro_tool.specs.declared.request.Request.{Request as Asked};
 
 mod command_line;
 mod commands;
@@ -29,13 +37,15 @@ mod printing;
 mod progress;
 mod request;
 
-use avro_device::{Output, WriteOutput};
+use avro_device::{Output, WriteOutput, put_all};
 use command_line::request_of;
 use commands::{
     check, confirm, copy, explain, header, history, judge, pipe, read, schema, show, version,
 };
 use failure::Failure;
 use files::kept::refuse_files;
+use files::texts::SystemTexts;
+pub use files::texts::Texts;
 use request::Request;
 use std::alloc::Global;
 use std::io;
@@ -120,22 +130,53 @@ pub fn run<R: Files + Clock + AllocGlobal, I: Read, O: Write, E: Write>(
     out: &mut O,
     err: &mut E,
 ) -> u8 {
-    match answer(rt, words, input, out, err) {
+    run_over(
+        &SystemTexts { rt },
+        rt,
+        words,
+        input,
+        &mut WriteOutput::new(out),
+        err,
+    )
+}
+
+/// Runs the program on its words, as [`run`] does, over an output.
+pub fn run_over<T: Texts, R: Files + Clock + AllocGlobal, I: Read, O: Output, E: Write>(
+    texts: &T,
+    rt: &R,
+    words: &[String],
+    input: &mut I,
+    out: &mut O,
+    err: &mut E,
+) -> u8
+    ensures { (plain : PlainWords) → map string_bytes words.now ≡ name_of plain ∷ files_of plain → HaveNoOption (files_of plain) → AreApart plain
+        → result ≤ 2 → AnswersPlain (T.known texts.now) (λ text. O.keeps out.old text out.new) result plain }
+{
+    match answer(texts, rt, words, input, out, err) {
         Ok(finding) => finding.status(),
-        Err(failure) if matches!(failure, Failure::IsError(_)) => report(rt.alloc(), &failure, out),
-        Err(failure) => report(rt.alloc(), &failure, err),
+        Err(failure) => refuse(rt.alloc(), &failure, out, err),
     }
+}
+
+/// Reports a failure to standard error, or to standard output where a file of the words is standard error, and returns its status.
+fn refuse<O: Output, E: Write>(alloc: Global, failure: &Failure<'_>, out: &mut O, err: &mut E) -> u8
+    ensures { (result ≡ exit_status failure.now) ⊎ (result ≡ 5) }
+{
+    if matches!(failure, Failure::IsError(_)) {
+        return report(alloc, failure, out);
+    }
+    report(alloc, failure, &mut WriteOutput::new(err))
 }
 
 /// Reports a failure by one write, and returns its status. If standard error fails too, the
 /// status is all that can be reported; if memory runs out for the line, that is reported in its
 /// place.
-fn report<E: Write>(alloc: Global, failure: &Failure<'_>, err: &mut E) -> u8
+fn report<E: Output>(alloc: Global, failure: &Failure<'_>, err: &mut E) -> u8
     ensures { (result ≡ exit_status failure.now) ⊎ (result ≡ 5) }
 {
     match failure.line(alloc) {
         Ok(line) => {
-            let _ = err.write_all(&line);
+            let _ = put_all(err, &line);
             failure.status()
         }
         Err(_) => report_memory(err),
@@ -143,50 +184,62 @@ fn report<E: Write>(alloc: Global, failure: &Failure<'_>, err: &mut E) -> u8
 }
 
 /// Reports that memory ran out, without allocating.
-fn report_memory<E: Write>(err: &mut E) -> u8
+fn report_memory<E: Output>(err: &mut E) -> u8
     ensures { result ≡ 5 }
 {
     let failure = Failure::OutOfMemory;
-    let _ = err.write_all(failure.fixed_line().as_bytes());
+    let _ = put_all(err, failure.fixed_line().as_bytes());
     failure.status()
 }
 
 /// Does what the words ask for.
-fn answer<'a, R: Files + Clock + AllocGlobal, I: Read, O: Write, E: Write>(
+fn answer<'a, T: Texts, R: Files + Clock + AllocGlobal, I: Read, O: Output, E: Write>(
+    texts: &T,
     rt: &R,
     words: &'a [String],
     input: &mut I,
     out: &mut O,
     err: &mut E,
-) -> Result<Finding, Failure<'a>> {
+) -> Result<Finding, Failure<'a>>
+    ensures { (plain : PlainWords) → map string_bytes words.entry.now ≡ name_of plain ∷ files_of plain → HaveNoOption (files_of plain) → AreApart plain
+        → IfOk result (λ f. AnswersPlain (T.known texts.now) (λ text. O.keeps out.old text out.new) (finding_status f) plain) }
+{
     let request = request_of(rt.alloc(), words)?;
-    refuse_files(rt, &request)?;
-    answer_request(rt, &request, input, &mut WriteOutput::new(out), err)
+    refuse_files(texts, rt, &request)?;
+    answer_request(texts, rt, &request, input, out, err)
 }
 
 /// Does what is asked for.
-fn answer_request<'a, R: Files + Clock + AllocGlobal, I: Read, O: Output, E: Write>(
+fn answer_request<'a, T: Texts, R: Files + Clock + AllocGlobal, I: Read, O: Output, E: Write>(
+    texts: &T,
     rt: &R,
     request: &Request<'a>,
     input: &mut I,
     out: &mut O,
     err: &mut E,
-) -> Result<Finding, Failure<'a>> {
+) -> Result<Finding, Failure<'a>>
+    ensures judge { (asked : Judging) → request.now ≡ Asked.Judge asked → asked.form ≡ Form.Text
+        → IfOk result (λ f. AnswersJudge (T.known texts.now) (λ text. O.keeps out.old text out.new) (finding_status f) asked.writer.now asked.reader.now asked.limits) }
+    ensures explain { (asked : Explaining) → request.now ≡ Asked.Explain asked → asked.form ≡ Form.Text
+        → IfOk result (λ f. AnswersExplain (T.known texts.now) (λ text. O.keeps out.old text out.new) (finding_status f) asked.writer.now asked.reader.now asked.max_pairs) }
+    ensures confirm { (writer reader certificate : Bor (List ℕ)) → request.now ≡ Asked.Confirm writer reader certificate Form.Text
+        → IfOk result (λ f. AnswersConfirm (T.known texts.now) (λ text. O.keeps out.old text out.new) (finding_status f) writer.now reader.now certificate.now) }
+{
     match request {
-        Request::Judge(asked) => judge::judge_files(rt, asked, out),
-        Request::Explain(asked) => explain::explain_files(rt, asked, out),
+        Request::Judge(asked) => judge::judge_files(texts, rt, asked, out),
+        Request::Explain(asked) => explain::explain_files(texts, asked, out),
         Request::Confirm {
             writer,
             reader,
             certificate,
             form,
-        } => confirm::confirm_files(rt, writer, reader, certificate, *form, out),
-        Request::History(history) => history::history_of_files(rt, history, out),
+        } => confirm::confirm_files(texts, writer, reader, certificate, *form, out),
+        Request::History(history) => history::history_of_files(texts, rt, history, out),
         Request::Schema {
             file,
             shown,
             is_why,
-        } => schema::show_schema(rt, file, *shown, *is_why, out, err),
+        } => schema::show_schema(texts, file, *shown, *is_why, out, err),
         Request::Check {
             files,
             form,
@@ -196,11 +249,11 @@ fn answer_request<'a, R: Files + Clock + AllocGlobal, I: Read, O: Output, E: Wri
             file,
             reader,
             limit,
-        } => show::show_file(rt, file, *reader, *limit, out),
-        Request::Copy(asked) => copy::copy_file(rt, asked, out, err),
-        Request::Pipe(asked) => pipe::pipe_streams(rt, asked, input, out, err),
+        } => show::show_file(texts, rt, file, *reader, *limit, out),
+        Request::Copy(asked) => copy::copy_file(texts, rt, asked, out, err),
+        Request::Pipe(asked) => pipe::pipe_streams(texts, rt, asked, input, out, err),
         Request::Header { file, is_metadata } => header::show_header(rt, file, *is_metadata, out),
-        Request::Read(asked) => read::read_file(rt, asked, out),
+        Request::Read(asked) => read::read_file(texts, rt, asked, out),
         Request::Version => version::tell_version(rt.alloc(), out),
     }
 }

@@ -1,62 +1,71 @@
-ghost use Rattle.std.specs.Prelude.{◌≡◌, ◌≢◌, ◌⊎◌, ℕ, List, IfOk, OnOk, IsErrOf};
-ghost use Rattle.std.specs.Result.{IfErr};
+ghost use Rattle.std.specs.Prelude.{◌≡◌, ℕ, List, Some, IfOk};
 ghost use Rattle.avro_schema.specs.SeenSchema.{schema_nodes};
 ghost use Rattle.avro_certificate.specs.SeenCertificate.{dead_of, pairs_in};
-ghost use Rattle.avro_answer.specs.ConfirmAnswer.{SetsAnswer, SetsJson, SetsStatus};
+ghost use Rattle.avro_answer.specs.ConfirmAnswer.{ConfirmAnswer, SetsAnswer, SetsJson, SetsStatus};
+ghost use Rattle.avro_answer.specs.ReadText.{IsReadAs};
 ghost use Rattle.avro_answer.specs.declared.form.Form.{Form};
+ghost use Rattle.avro_tool.specs.FailsOnlyFor.{FailsOnlyFor};
 ghost use Rattle.avro_tool.specs.FailureText.{IsPutFailure};
 ghost use Rattle.avro_tool.specs.FoundStatus.{finding_status};
-ghost use Rattle.avro_tool.specs.declared.failure.Failure.TheVariants.{CannotPrint, OutOfMemory};
+ghost use Rattle.avro_tool.specs.PlainAnswers.{AnswersConfirm};
 
 use crate::Finding;
 use crate::failure::Failure;
 use crate::files::certificate::read_certificate_file;
 use crate::files::schema::read_schema_file;
+use crate::files::texts::Texts;
 use crate::printing::print_bytes;
 use avro_answer::{Form, confirm_schemas};
 use avro_device::Output;
 use avro_judge::Certificate;
 use avro_schema::Schema;
 use std::alloc::Global;
-use std::rt::Files;
 
 /// Prints whether the certificate in a file confirms the schemas of two files.
-pub(crate) fn confirm_files<'a, R: Files + AllocGlobal, O: Output>(
-    rt: &R,
+pub(crate) fn confirm_files<'a, T: Texts, O: Output>(
+    texts: &T,
     writer: &'a str,
     reader: &'a str,
     certificate: &'a str,
     form: Form,
     out: &mut O,
-) -> Result<Finding, Failure<'a>> {
-    let writer = read_schema_file(rt, writer)?;
-    confirm_written(rt, &writer, reader, certificate, form, out)
+) -> Result<Finding, Failure<'a>>
+    ensures { form ≡ Form.Text → IfOk result (λ f. AnswersConfirm (T.known texts.now) (λ text. O.keeps out.old text out.new) (finding_status f) writer.now reader.now certificate.now) }
+{
+    let writer = read_schema_file(texts, writer)?;
+    confirm_written(texts, &writer, reader, certificate, form, out)
 }
 
 /// The same for a writer's schema.
-fn confirm_written<'a, R: Files + AllocGlobal, O: Output>(
-    rt: &R,
+fn confirm_written<'a, T: Texts, O: Output>(
+    texts: &T,
     writer: &Schema,
     reader: &'a str,
     certificate: &'a str,
     form: Form,
     out: &mut O,
-) -> Result<Finding, Failure<'a>> {
-    let reader = read_schema_file(rt, reader)?;
-    confirm_pair(rt, writer, &reader, certificate, form, out)
+) -> Result<Finding, Failure<'a>>
+    ensures { (w r c : List ℕ) → form ≡ Form.Text → IsReadAs w (schema_nodes writer.now) → T.known texts.now reader.now ≡ Some r → T.known texts.now certificate.now ≡ Some c
+        → IfOk result (λ f. (text : List ℕ) × ConfirmAnswer w r c text (finding_status f) × O.keeps out.old text out.new) }
+{
+    let reader = read_schema_file(texts, reader)?;
+    confirm_pair(texts, writer, &reader, certificate, form, out)
 }
 
 /// The same for two schemas.
-fn confirm_pair<'a, R: Files + AllocGlobal, O: Output>(
-    rt: &R,
+fn confirm_pair<'a, T: Texts, O: Output>(
+    texts: &T,
     writer: &Schema,
     reader: &Schema,
     certificate: &'a str,
     form: Form,
     out: &mut O,
-) -> Result<Finding, Failure<'a>> {
-    let certificate = read_certificate_file(rt, certificate)?;
-    tell_confirmed(rt.alloc(), writer, reader, &certificate, form, out)
+) -> Result<Finding, Failure<'a>>
+    ensures { (w r c : List ℕ) → form ≡ Form.Text → IsReadAs w (schema_nodes writer.now) → IsReadAs r (schema_nodes reader.now) → T.known texts.now certificate.now ≡ Some c
+        → IfOk result (λ f. (text : List ℕ) × ConfirmAnswer w r c text (finding_status f) × O.keeps out.old text out.new) }
+{
+    let certificate = read_certificate_file(texts, certificate)?;
+    tell_confirmed(texts.alloc(), writer, reader, &certificate, form, out)
 }
 
 /// Prints whether a certificate confirms two schemas.
@@ -74,10 +83,7 @@ fn tell_confirmed<'a, O: Output>(
     ensures json { IfOk result (λ f. form ≡ Form.Json → (line : List ℕ)
         × SetsJson (schema_nodes writer.now) (schema_nodes reader.now) (dead_of certificate.now) (pairs_in certificate.now) line × O.keeps out.old line out.new) }
     ensures status { IfOk result (λ f. SetsStatus (schema_nodes writer.now) (schema_nodes reader.now) (dead_of certificate.now) (pairs_in certificate.now) (finding_status f)) }
-    ensures fails { IfErr result IsPutFailure }
-    ensures failed { IsErrOf result CannotPrint → (O.failures out.new ≢ O.failures out.old) ⊎ O.stuck out.new }
-    ensures memory { IsErrOf result OutOfMemory → O.failures out.new ≡ O.failures out.old }
-    ensures works { OnOk result (O.failures out.new ≡ O.failures out.old) }
+    ensures fails { FailsOnlyFor IsPutFailure O.failures O.stuck out.old out.new result }
 {
     let answer = confirm_schemas(alloc, writer, reader, certificate, form)?;
     print_bytes(out, &answer.text)?;

@@ -3,6 +3,7 @@ use crate::failure::Failure;
 use crate::files::container::{open_container, open_watched, tell_counts};
 use crate::files::late::LateFile;
 use crate::files::schema::read_reader;
+use crate::files::texts::Texts;
 use crate::request::Copying;
 use avro_container::{Counts, copy};
 use avro_device::{Input, Output, WriteOutput};
@@ -14,13 +15,14 @@ use std::rt::{Clock, Files};
 
 /// Copies the container in a file into another one, and prints how many data and blocks it has. The other
 /// file is created, or truncated, once the header was read.
-pub(crate) fn copy_file<'a, R: Files + Clock + AllocGlobal, O: Output, E: Write>(
+pub(crate) fn copy_file<'a, T: Texts, R: Files + Clock + AllocGlobal, O: Output, E: Write>(
+    texts: &T,
     rt: &R,
     asked: &Copying<'a>,
     out: &mut O,
     err: &mut E,
 ) -> Result<Finding, Failure<'a>> {
-    let reader = read_reader(rt, asked.reader)?;
+    let reader = read_reader(texts, asked.reader)?;
     let counts = if asked.is_watched {
         copy_watched(rt, asked, reader.as_ref(), err)?
     } else {

@@ -1,17 +1,19 @@
 //! All faults of two schemas, by name.
 
-ghost use Rattle.std.specs.Prelude.{◌≡◌, ◌≢◌, ◌⊎◌, ℕ, List, IfOk, OnOk, IsErrOf};
-ghost use Rattle.std.specs.Result.{IfErr};
+ghost use Rattle.std.specs.Prelude.{◌≡◌, ℕ, List, Some, IfOk};
 ghost use Rattle.avro_schema.specs.SeenSchema.{schema_nodes};
-ghost use Rattle.avro_answer.specs.ExplainAnswer.{FaultsAnswer, FaultsJson, FaultsStatus};
+ghost use Rattle.avro_answer.specs.ExplainAnswer.{ExplainAnswer, FaultsAnswer, FaultsJson, FaultsStatus};
+ghost use Rattle.avro_answer.specs.ReadText.{IsReadAs};
 ghost use Rattle.avro_answer.specs.declared.form.Form.{Form};
+ghost use Rattle.avro_tool.specs.FailsOnlyFor.{FailsOnlyFor};
 ghost use Rattle.avro_tool.specs.FailureText.{IsPutFailure};
 ghost use Rattle.avro_tool.specs.FoundStatus.{finding_status};
-ghost use Rattle.avro_tool.specs.declared.failure.Failure.TheVariants.{CannotPrint, OutOfMemory};
+ghost use Rattle.avro_tool.specs.PlainAnswers.{AnswersExplain};
 
 use crate::Finding;
 use crate::failure::Failure;
 use crate::files::schema::read_schema_file;
+use crate::files::texts::Texts;
 use crate::printing::print;
 use crate::request::Explaining;
 use avro_answer::{no_fault, over_pairs, put_faults};
@@ -19,27 +21,32 @@ use avro_device::Output;
 use avro_explain::{ExplainError, explain};
 use avro_schema::Schema;
 use std::alloc::Global;
-use std::rt::Files;
 
 /// Finds all faults of the schemas of two files, and prints them.
-pub(crate) fn explain_files<'a, R: Files + AllocGlobal, O: Output>(
-    rt: &R,
+pub(crate) fn explain_files<'a, T: Texts, O: Output>(
+    texts: &T,
     asked: &Explaining<'a>,
     out: &mut O,
-) -> Result<Finding, Failure<'a>> {
-    let writer = read_schema_file(rt, asked.writer)?;
-    explain_written(rt, asked, &writer, out)
+) -> Result<Finding, Failure<'a>>
+    ensures { asked.now.form ≡ Form.Text
+        → IfOk result (λ f. AnswersExplain (T.known texts.now) (λ text. O.keeps out.old text out.new) (finding_status f) asked.now.writer.now asked.now.reader.now asked.now.max_pairs) }
+{
+    let writer = read_schema_file(texts, asked.writer)?;
+    explain_written(texts, asked, &writer, out)
 }
 
 /// The same for a writer's schema.
-fn explain_written<'a, R: Files + AllocGlobal, O: Output>(
-    rt: &R,
+fn explain_written<'a, T: Texts, O: Output>(
+    texts: &T,
     asked: &Explaining<'a>,
     writer: &Schema,
     out: &mut O,
-) -> Result<Finding, Failure<'a>> {
-    let reader = read_schema_file(rt, asked.reader)?;
-    explain_pair(rt.alloc(), asked, writer, &reader, out)
+) -> Result<Finding, Failure<'a>>
+    ensures { (w r : List ℕ) → asked.now.form ≡ Form.Text → IsReadAs w (schema_nodes writer.now) → T.known texts.now asked.now.reader.now ≡ Some r
+        → IfOk result (λ f. (text : List ℕ) × ExplainAnswer w r asked.now.max_pairs text (finding_status f) × O.keeps out.old text out.new) }
+{
+    let reader = read_schema_file(texts, asked.reader)?;
+    explain_pair(texts.alloc(), asked, writer, &reader, out)
 }
 
 /// Finds all faults of two schemas, and prints them.
@@ -55,10 +62,7 @@ fn explain_pair<'a, O: Output>(
     ensures json { IfOk result (λ f. asked.now.form ≡ Form.Json → (line : List ℕ)
         × FaultsJson (schema_nodes writer.now) (schema_nodes reader.now) asked.now.max_pairs line (finding_status f) × O.keeps out.old line out.new) }
     ensures status { IfOk result (λ f. FaultsStatus (schema_nodes writer.now) (schema_nodes reader.now) asked.now.max_pairs (finding_status f)) }
-    ensures fails { IfErr result IsPutFailure }
-    ensures failed { IsErrOf result CannotPrint → (O.failures out.new ≢ O.failures out.old) ⊎ O.stuck out.new }
-    ensures memory { IsErrOf result OutOfMemory → O.failures out.new ≡ O.failures out.old }
-    ensures works { OnOk result (O.failures out.new ≡ O.failures out.old) }
+    ensures fails { FailsOnlyFor IsPutFailure O.failures O.stuck out.old out.new result }
 {
     match explain(alloc, writer, reader, asked.max_pairs as usize) {
         Ok(found) if found.faults.is_empty() => {

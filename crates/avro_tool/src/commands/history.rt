@@ -1,5 +1,4 @@
-ghost use Rattle.std.specs.Prelude.{◌≡◌, ◌≢◌, ◌⊎◌, ◌≤◌, ◌++◌, ℕ, List, [], ◌∷◌, length, false, map, IfOk, OnOk, OnErr, IsErrOf, option_copied, string_bytes, Some, None, codes};
-ghost use Rattle.std.specs.Result.{IfErr};
+ghost use Rattle.std.specs.Prelude.{◌≡◌, ◌≤◌, ℕ, List, [], ◌∷◌, length, false, map, IfOk, OnOk, option_copied, string_bytes, Some, None};
 ghost use Rattle.avro_schema.specs.SeenSchema.{schema_nodes};
 ghost use Rattle.avro_judge.specs.Answered.{IfApproved};
 ghost use Rattle.avro_judge.specs.Headline.{IsRight};
@@ -8,18 +7,20 @@ ghost use Rattle.avro_answer.specs.HistoryAnswer.{LineAnswer};
 ghost use Rattle.avro_answer.specs.JsonAnswer.{IsHistoryLine};
 ghost use Rattle.avro_answer.specs.JudgeAnswer.{StatusAnswer};
 ghost use Rattle.avro_answer.specs.declared.form.Form.{Form};
+ghost use Rattle.avro_tool.specs.FailsOnlyFor.{FailsOnlyFor};
 ghost use Rattle.avro_tool.specs.EachAnswer.{later_of, EachAnswer};
 ghost use Rattle.avro_tool.specs.FailureText.{IsPutFailure};
 ghost use Rattle.avro_tool.specs.FoundStatus.{finding_status, IsVerdict};
 ghost use Rattle.avro_tool.specs.KeptCertificates.{AddsClosed};
 ghost use Rattle.avro_tool.specs.ModeAnswer.{line_word, FormAnswer, ModeAnswer};
-ghost use Rattle.avro_tool.specs.declared.failure.Failure.TheVariants.{CannotPrint, OutOfMemory};
+ghost use Rattle.avro_tool.specs.declared.failure.Failure.TheVariants.{CannotPrint};
 ghost use Rattle.avro_tool.specs.declared.request.Mode.{Mode};
 
 use crate::Finding;
 use crate::failure::Failure;
 use crate::files::certificate::{read_history_file, write_history_file};
 use crate::files::schema::read_schema_file;
+use crate::files::texts::Texts;
 use crate::printing::print_bytes;
 use crate::request::{Evidence, History, Mode};
 use avro_answer::{Form, Judged, answer_confirmed, judge_json_line, judge_line};
@@ -53,28 +54,31 @@ impl Line<'_> {
 
 /// Prints whether the schemas of several files read each other's data as the mode asks: by judging them, or by
 /// the certificates of a file.
-pub(crate) fn history_of_files<'a, R: Files + AllocGlobal, O: Output>(
+pub(crate) fn history_of_files<'a, T: Texts, R: Files + AllocGlobal, O: Output>(
+    texts: &T,
     rt: &R,
     history: &History<'a>,
     out: &mut O,
 ) -> Result<Finding, Failure<'a>> {
-    let earlier = read_schema_files(rt, &history.writers)?;
-    history_of_earlier(rt, history, &earlier, out)
+    let earlier = read_schema_files(texts, &history.writers)?;
+    history_of_earlier(texts, rt, history, &earlier, out)
 }
 
 /// The answer for the earlier schemas; the last one is read first.
-fn history_of_earlier<'a, R: Files + AllocGlobal, O: Output>(
+fn history_of_earlier<'a, T: Texts, R: Files + AllocGlobal, O: Output>(
+    texts: &T,
     rt: &R,
     history: &History<'a>,
     earlier: &[Schema],
     out: &mut O,
 ) -> Result<Finding, Failure<'a>> {
-    let last = read_schema_file(rt, history.reader)?;
-    history_of_schemas(rt, history, earlier, &last, out)
+    let last = read_schema_file(texts, history.reader)?;
+    history_of_schemas(texts, rt, history, earlier, &last, out)
 }
 
 /// The answer for the earlier schemas and the last one.
-fn history_of_schemas<'a, R: Files + AllocGlobal, O: Output>(
+fn history_of_schemas<'a, T: Texts, R: Files + AllocGlobal, O: Output>(
+    texts: &T,
     rt: &R,
     history: &History<'a>,
     earlier: &[Schema],
@@ -82,24 +86,24 @@ fn history_of_schemas<'a, R: Files + AllocGlobal, O: Output>(
     out: &mut O,
 ) -> Result<Finding, Failure<'a>> {
     match history.evidence {
-        Evidence::Given(word) => confirm_given(rt, word, history.form, earlier, last, out),
+        Evidence::Given(word) => confirm_given(texts, word, history.form, earlier, last, out),
         Evidence::Written(word) => certify_into(rt, word, history, earlier, last, out),
         Evidence::Left => judge_each(rt.alloc(), history, earlier, last, out),
     }
 }
 
 /// Prints whether the certificates of a file confirm schemas with the last one.
-fn confirm_given<'a, R: Files + AllocGlobal, O: Output>(
-    rt: &R,
+fn confirm_given<'a, T: Texts, O: Output>(
+    texts: &T,
     word: &'a str,
     form: Form,
     earlier: &[Schema],
     last: &Schema,
     out: &mut O,
 ) -> Result<Finding, Failure<'a>> {
-    let certificates = read_history_file(rt, word)?;
-    let is_confirmed = are_confirmed(rt.alloc(), earlier, last, &certificates)?;
-    tell_confirmed(rt.alloc(), is_confirmed, form, out)
+    let certificates = read_history_file(texts, word)?;
+    let is_confirmed = are_confirmed(texts.alloc(), earlier, last, &certificates)?;
+    tell_confirmed(texts.alloc(), is_confirmed, form, out)
 }
 
 /// Whether certificates confirm schemas with the last one.
@@ -119,10 +123,7 @@ fn tell_confirmed<'a, O: Output>(
     form: Form,
     out: &mut O,
 ) -> Result<Finding, Failure<'a>>
-    ensures fails { IfErr result IsPutFailure }
-    ensures failed { IsErrOf result CannotPrint → (O.failures out.new ≢ O.failures out.old) ⊎ O.stuck out.new }
-    ensures memory { IsErrOf result OutOfMemory → O.failures out.new ≡ O.failures out.old }
-    ensures works { OnOk result (O.failures out.new ≡ O.failures out.old) }
+    ensures fails { FailsOnlyFor IsPutFailure O.failures O.stuck out.old out.new result }
 {
     let answer = answer_confirmed(alloc, is_confirmed, form)?;
     print_bytes(out, &answer.text)?;
@@ -147,13 +148,13 @@ fn certify_into<'a, R: Files + AllocGlobal, O: Output>(
 }
 
 /// The schemas of files, in order.
-fn read_schema_files<'a, R: Files + AllocGlobal>(
-    rt: &R,
+fn read_schema_files<'a, T: Texts>(
+    texts: &T,
     words: &[&'a str],
 ) -> Result<Vec<Schema>, Failure<'a>> {
-    let mut schemas = Vec::new(rt.alloc());
+    let mut schemas = Vec::new(texts.alloc());
     for word in words {
-        let schema = read_schema_file(rt, word)?;
+        let schema = read_schema_file(texts, word)?;
         if schemas.push(schema).is_err() {
             return Err(Failure::OutOfMemory);
         }
@@ -174,10 +175,7 @@ fn judge_each<'a, O: Output>(
         × EachAnswer history.now.form history.now.mode history.now.is_next (map (λ w. w.now) history.now.writers.items) schemas.now last.now history.now.limits text (finding_status f)
         × O.keeps out.old text out.new) }
     ensures verdict { IfOk result IsVerdict }
-    ensures fails { IfErr result IsPutFailure }
-    ensures failed { IsErrOf result CannotPrint → (O.failures out.new ≢ O.failures out.old) ⊎ O.stuck out.new }
-    ensures memory { IsErrOf result OutOfMemory → O.failures out.new ≡ O.failures out.old }
-    ensures works { OnOk result (O.failures out.new ≡ O.failures out.old) }
+    ensures fails { FailsOnlyFor IsPutFailure O.failures O.stuck out.old out.new result }
 {
     let files = history.writers.as_slice();
     let count = files.len().min(schemas.len());
@@ -224,10 +222,7 @@ fn judge_modes<'a, O: Output>(
     ensures answered { IfOk result (λ f. (text : List ℕ)
         × ModeAnswer history.now.form history.now.mode file.now earlier.now later.now history.now.limits text (finding_status f) × O.keeps out.old text out.new) }
     ensures verdict { IfOk result IsVerdict }
-    ensures fails { IfErr result IsPutFailure }
-    ensures failed { IsErrOf result CannotPrint → (O.failures out.new ≢ O.failures out.old) ⊎ O.stuck out.new }
-    ensures memory { IsErrOf result OutOfMemory → O.failures out.new ≡ O.failures out.old }
-    ensures works { OnOk result (O.failures out.new ≡ O.failures out.old) }
+    ensures fails { FailsOnlyFor IsPutFailure O.failures O.stuck out.old out.new result }
 {
     let line = Line { file, mode: None };
     match history.mode {
@@ -249,10 +244,7 @@ fn judge_both<'a, O: Output>(
     ensures answered { IfOk result (λ f. (text : List ℕ)
         × ModeAnswer history.now.form Mode.Full file.now earlier.now later.now history.now.limits text (finding_status f) × O.keeps out.old text out.new) }
     ensures verdict { IfOk result IsVerdict }
-    ensures fails { IfErr result IsPutFailure }
-    ensures failed { IsErrOf result CannotPrint → (O.failures out.new ≢ O.failures out.old) ⊎ O.stuck out.new }
-    ensures memory { IsErrOf result OutOfMemory → O.failures out.new ≡ O.failures out.old }
-    ensures works { OnOk result (O.failures out.new ≡ O.failures out.old) }
+    ensures fails { FailsOnlyFor IsPutFailure O.failures O.stuck out.old out.new result }
 {
     let line = Line {
         file,
@@ -281,10 +273,7 @@ fn judge_one<'a, O: Output>(
         × O.keeps out.old text out.new) }
     ensures status { IfOk result (λ f. StatusAnswer (schema_nodes writer.now) (schema_nodes reader.now) history.now.limits (finding_status f)) }
     ensures verdict { IfOk result IsVerdict }
-    ensures fails { IfErr result IsPutFailure }
-    ensures failed { IsErrOf result CannotPrint → (O.failures out.new ≢ O.failures out.old) ⊎ O.stuck out.new }
-    ensures memory { IsErrOf result OutOfMemory → O.failures out.new ≡ O.failures out.old }
-    ensures works { OnOk result (O.failures out.new ≡ O.failures out.old) }
+    ensures fails { FailsOnlyFor IsPutFailure O.failures O.stuck out.old out.new result }
 {
     let judged = judge_as(alloc, history, line, writer, reader)?;
     let finding = tell_judged(&judged, out)?;
@@ -330,10 +319,7 @@ fn certify_each<'a, O: Output>(
     // After a yes of all the certificates are those that confirm the schemas.
     ensures kept { IfOk result (λ f. length history.now.writers.items ≡ length writers.now → finding_status f ≡ 0
         → AddsClosed (nodes_of_all writers.now) (schema_nodes reader.now) certificates.old.items certificates.new.items) }
-    ensures fails { IfErr result IsPutFailure }
-    ensures failed { IsErrOf result CannotPrint → (O.failures out.new ≢ O.failures out.old) ⊎ O.stuck out.new }
-    ensures memory { IsErrOf result OutOfMemory → O.failures out.new ≡ O.failures out.old }
-    ensures works { OnOk result (O.failures out.new ≡ O.failures out.old) }
+    ensures fails { FailsOnlyFor IsPutFailure O.failures O.stuck out.old out.new result }
 {
     let files = history.writers.as_slice();
     let count = files.len().min(writers.len());
@@ -369,10 +355,7 @@ fn certify_one<'a, O: Output>(
     ensures verdict { IfOk result IsVerdict }
     ensures kept { IfOk result (λ f. finding_status f ≡ 0
         → AddsClosed (schema_nodes writer.now ∷ []) (schema_nodes reader.now) certificates.old.items certificates.new.items) }
-    ensures fails { IfErr result IsPutFailure }
-    ensures failed { IsErrOf result CannotPrint → (O.failures out.new ≢ O.failures out.old) ⊎ O.stuck out.new }
-    ensures memory { IsErrOf result OutOfMemory → O.failures out.new ≡ O.failures out.old }
-    ensures works { OnOk result (O.failures out.new ≡ O.failures out.old) }
+    ensures fails { FailsOnlyFor IsPutFailure O.failures O.stuck out.old out.new result }
 {
     let line = Line { file, mode: None };
     let judged = judge_as(alloc, history, line, writer, reader)?;
@@ -392,10 +375,7 @@ fn tell_certified<'a, O: Output>(
     ensures status { IfOk result (λ f. judged.now.answer.status ≤ 2 → finding_status f ≡ judged.now.answer.status) }
     ensures kept { OnOk result (IfApproved judged.now.verdict (λ a.
         AddsClosed (schema_nodes a.0 ∷ []) (schema_nodes a.1) certificates.old.items certificates.new.items)) }
-    ensures fails { IfErr result IsPutFailure }
-    ensures failed { IsErrOf result CannotPrint → (O.failures out.new ≢ O.failures out.old) ⊎ O.stuck out.new }
-    ensures memory { IsErrOf result OutOfMemory → O.failures out.new ≡ O.failures out.old }
-    ensures works { OnOk result (O.failures out.new ≡ O.failures out.old) }
+    ensures fails { FailsOnlyFor IsPutFailure O.failures O.stuck out.old out.new result }
 {
     let finding = tell_judged(judged, out)?;
     keep_certificate(alloc, &judged.verdict, certificates)?;
@@ -407,9 +387,7 @@ fn tell_judged<'a, O: Output>(judged: &Judged<'_>, out: &mut O) -> Result<Findin
     ensures put { OnOk result (O.keeps out.old judged.now.answer.text.items out.new) }
     ensures verdict { IfOk result IsVerdict }
     ensures status { IfOk result (λ f. judged.now.answer.status ≤ 2 → finding_status f ≡ judged.now.answer.status) }
-    ensures fails { IfErr result (λ f. f ≡ CannotPrint) }
-    ensures failed { OnErr result ((O.failures out.new ≢ O.failures out.old) ⊎ O.stuck out.new) }
-    ensures works { OnOk result (O.failures out.new ≡ O.failures out.old) }
+    ensures fails { FailsOnlyFor (λ f. f ≡ CannotPrint) O.failures O.stuck out.old out.new result }
 {
     print_bytes(out, &judged.answer.text)?;
     Ok(Finding::of_verdict(judged.answer.status))

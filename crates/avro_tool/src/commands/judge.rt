@@ -1,21 +1,23 @@
-ghost use Rattle.std.specs.Prelude.{◌≡◌, ◌≢◌, ◌⊎◌, ℕ, List, [], IfOk, OnOk, OnErr, IsErrOf};
-ghost use Rattle.std.specs.Result.{IfErr};
+ghost use Rattle.std.specs.Prelude.{◌≡◌, ◌⊎◌, ℕ, List, [], Some, IfOk, OnErr};
 ghost use Rattle.avro_device.specs.PutFront.{PutsFrontOf};
 ghost use Rattle.avro_schema.specs.SeenSchema.{schema_nodes};
 ghost use Rattle.avro_judge.specs.Headline.{IsRight};
 ghost use Rattle.avro_judge.specs.declared.verdict.Verdict.{Verdict};
-ghost use Rattle.avro_answer.specs.JudgeAnswer.{SchemasAnswer, StatusAnswer};
+ghost use Rattle.avro_answer.specs.JudgeAnswer.{JudgeAnswer, SchemasAnswer, StatusAnswer};
 ghost use Rattle.avro_answer.specs.JsonAnswer.{IsJudgedLine};
+ghost use Rattle.avro_answer.specs.ReadText.{IsReadAs};
 ghost use Rattle.avro_answer.specs.declared.form.Form.{Form};
+ghost use Rattle.avro_tool.specs.FailsOnlyFor.{FailsOnlyFor};
 ghost use Rattle.avro_tool.specs.FailureText.{IsPutFailure};
 ghost use Rattle.avro_tool.specs.FoundStatus.{finding_status};
-ghost use Rattle.avro_tool.specs.declared.failure.Failure.TheVariants.{CannotPrint, OutOfMemory};
+ghost use Rattle.avro_tool.specs.PlainAnswers.{AnswersJudge};
 
 use crate::Finding;
 use crate::failure::Failure;
 use crate::files::certificate::write_certificate_file;
 use crate::files::refutation::write_refutation_file;
 use crate::files::schema::{read_schema_file, read_text_file};
+use crate::files::texts::Texts;
 use crate::request::Judging;
 use avro_answer::{Form, judge_schemas};
 use avro_device::Output;
@@ -27,23 +29,31 @@ use std::rt::Files;
 
 /// Judges the schemas of two files, and prints the verdict. After a yes the certificate is written
 /// where a file is named for it, and after a no the refutation.
-pub(crate) fn judge_files<'a, R: Files + AllocGlobal, O: Output>(
+pub(crate) fn judge_files<'a, T: Texts, R: Files + AllocGlobal, O: Output>(
+    texts: &T,
     rt: &R,
     asked: &Judging<'a>,
     out: &mut O,
-) -> Result<Finding, Failure<'a>> {
-    let writer = read_text_file(rt, asked.writer)?;
-    judge_written(rt, asked, &writer, out)
+) -> Result<Finding, Failure<'a>>
+    ensures { asked.now.form ≡ Form.Text
+        → IfOk result (λ f. AnswersJudge (T.known texts.now) (λ text. O.keeps out.old text out.new) (finding_status f) asked.now.writer.now asked.now.reader.now asked.now.limits) }
+{
+    let writer = read_text_file(texts, asked.writer)?;
+    judge_written(texts, rt, asked, &writer, out)
 }
 
 /// Judges a writer's schema and the reader's, which is read first.
-fn judge_written<'a, R: Files + AllocGlobal, O: Output>(
+fn judge_written<'a, T: Texts, R: Files + AllocGlobal, O: Output>(
+    texts: &T,
     rt: &R,
     asked: &Judging<'a>,
     writer: &ReaderText,
     out: &mut O,
-) -> Result<Finding, Failure<'a>> {
-    let reader = read_schema_file(rt, asked.reader)?;
+) -> Result<Finding, Failure<'a>>
+    ensures { (w r : List ℕ) → asked.now.form ≡ Form.Text → IsReadAs w (schema_nodes writer.now.1) → T.known texts.now asked.now.reader.now ≡ Some r
+        → IfOk result (λ f. (text : List ℕ) × JudgeAnswer w r asked.now.limits text (finding_status f) × O.keeps out.old text out.new) }
+{
+    let reader = read_schema_file(texts, asked.reader)?;
     judge_pair(rt, asked, writer, &reader, out)
 }
 
@@ -89,10 +99,7 @@ fn tell_verdict<'a, 's, O: Output>(
     ensures front { form ≡ Form.Text → OnErr result (O.keeps out.old [] out.new ⊎ (text : List ℕ) × (status : ℕ)
         × SchemasAnswer (schema_nodes writer.now) (schema_nodes reader.now) limits.now text status × PutsFrontOf O.keeps out.old out.new text) }
     ensures status { IfOk result (λ v. StatusAnswer (schema_nodes writer.now) (schema_nodes reader.now) limits.now (finding_status v.1)) }
-    ensures fails { IfErr result IsPutFailure }
-    ensures failed { IsErrOf result CannotPrint → (O.failures out.new ≢ O.failures out.old) ⊎ O.stuck out.new }
-    ensures memory { IsErrOf result OutOfMemory → O.failures out.new ≡ O.failures out.old }
-    ensures works { OnOk result (O.failures out.new ≡ O.failures out.old) }
+    ensures fails { FailsOnlyFor IsPutFailure O.failures O.stuck out.old out.new result }
 {
     let (verdict, status) = judge_schemas(out, alloc, writer, reader, limits, form)?;
     Ok((verdict, Finding::of_verdict(status)))

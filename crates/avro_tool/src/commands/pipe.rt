@@ -17,6 +17,7 @@ use crate::failure::Failure;
 use crate::files::container::{CAPACITY, length_of, print_counts};
 use crate::files::kept::STANDARD_INPUT;
 use crate::files::schema::read_reader;
+use crate::files::texts::Texts;
 use crate::progress::Watched;
 use crate::request::Piping;
 use avro_container::{Counts, copy};
@@ -32,14 +33,22 @@ const INPUT: &str = "-";
 
 /// Copies a container from a reader to a writer, and, if asked for, reports how many data and blocks a whole copy
 /// has.
-pub(crate) fn pipe_streams<'a, R: Files + Clock + AllocGlobal, I: Read, O: Output, E: Write>(
+pub(crate) fn pipe_streams<
+    'a,
+    T: Texts,
+    R: Files + Clock + AllocGlobal,
+    I: Read,
+    O: Output,
+    E: Write,
+>(
+    texts: &T,
     rt: &R,
     asked: &Piping<'a>,
     input: &mut I,
     out: &mut O,
     err: &mut E,
 ) -> Result<Finding, Failure<'a>> {
-    let reader = read_reader(rt, asked.reader)?;
+    let reader = read_reader(texts, asked.reader)?;
     let counts = if asked.is_watched {
         pipe_watched(rt, reader.as_ref(), asked.sync, input, out, err)?
     } else {

@@ -1,24 +1,23 @@
 //! The first datum of encoded data.
 
-ghost use Rattle.std.specs.Prelude.{◌≡◌, ◌≢◌, ◌⊎◌, ℕ, [], List, OnOk, IfOk, IsErrOf, Err, option_copied, option_map};
-ghost use Rattle.std.specs.Option.{IfSome};
-ghost use Rattle.std.specs.Result.{IfErr};
+ghost use Rattle.std.specs.Prelude.{◌≡◌, ◌⊎◌, ℕ, [], List, OnErr, OnOk, IfOk, Err, option_copied, option_map};
 ghost use Rattle.avro_schema.specs.SeenSchema.{schema_nodes};
+ghost use Rattle.avro_device.specs.PutFront.{PutsFrontOf};
 ghost use Rattle.avro_resolve.specs.declared.error.ReadResolveError.{ReadResolveError};
-ghost use Rattle.avro_display.specs.declared.put_error.PutError.{PutError};
-ghost use Rattle.avro_answer.specs.DataPut.{IfRefused};
-ghost use Rattle.avro_answer.specs.DataRead.{IsDatumTold, fault_found};
+ghost use Rattle.avro_answer.specs.DataPut.{DatumPut};
+ghost use Rattle.avro_answer.specs.DataRead.{IsDatumTold};
 ghost use Rattle.avro_answer.specs.ReadAnswer.{IsAllFound};
-ghost use Rattle.avro_answer.specs.declared.data_error.DataError.{DataError};
 ghost use Rattle.avro_tool.specs.DefaultLimits.{datum_limits};
+ghost use Rattle.avro_tool.specs.FailsOnlyFor.{FailsOnlyFor};
 ghost use Rattle.avro_tool.specs.FailureText.{data_failure, told_error, IsDataFailure};
 ghost use Rattle.avro_tool.specs.FoundStatus.{finding_status};
-ghost use Rattle.avro_tool.specs.declared.failure.Failure.TheVariants.{Data, CannotPrint, OutOfMemory};
+ghost use Rattle.avro_tool.specs.declared.failure.Failure.TheVariants.{Data};
 
 use crate::Finding;
 use crate::failure::Failure;
 use crate::files::container::open_file;
 use crate::files::schema::{read_reader, read_schema_file};
+use crate::files::texts::Texts;
 use crate::request::Reading;
 use avro_answer::{DataError, DataPlan, behind};
 use avro_binary::{Nothing, ReadError, read_own};
@@ -40,23 +39,25 @@ const FREE: usize = 1_048_576;
 
 /// Prints the first datum of the data in a file, after the bytes that are skipped, and its length in bytes; what follows
 /// it is ignored.
-pub(crate) fn read_file<'a, R: Files + AllocGlobal, O: Output>(
+pub(crate) fn read_file<'a, T: Texts, R: Files + AllocGlobal, O: Output>(
+    texts: &T,
     rt: &R,
     asked: &Reading<'a>,
     out: &mut O,
 ) -> Result<Finding, Failure<'a>> {
-    let writer = read_schema_file(rt, asked.writer)?;
-    read_written(rt, asked, &writer, out)
+    let writer = read_schema_file(texts, asked.writer)?;
+    read_written(texts, rt, asked, &writer, out)
 }
 
 /// Reads the data of a writer's schema, for the reader's, which is read first.
-fn read_written<'a, R: Files + AllocGlobal, O: Output>(
+fn read_written<'a, T: Texts, R: Files + AllocGlobal, O: Output>(
+    texts: &T,
     rt: &R,
     asked: &Reading<'a>,
     writer: &Schema,
     out: &mut O,
 ) -> Result<Finding, Failure<'a>> {
-    let reader = read_reader(rt, asked.reader)?;
+    let reader = read_reader(texts, asked.reader)?;
     read_for(rt, asked, writer, reader.as_ref(), out)
 }
 
@@ -87,13 +88,12 @@ fn tell_datum<'a, O: Output>(
 ) -> Result<Finding, Failure<'a>>
     ensures told { OnOk result ((text : List ℕ) × IsDatumTold (schema_nodes writer.now) (option_map (λ t. schema_nodes t.1) (option_copied reader.entry)) datum_limits
         asked.now.form asked.now.skip bytes.now text × O.keeps out.old text out.new) }
+    ensures front { OnErr result (O.keeps out.old [] out.new ⊎ (text : List ℕ) × IsDatumTold (schema_nodes writer.now) (option_map (λ t. schema_nodes t.1) (option_copied reader.entry)) datum_limits
+        asked.now.form asked.now.skip bytes.now text × PutsFrontOf O.keeps out.old out.new text) }
     ensures good { IfOk result (λ f. finding_status f ≡ 0) }
-    ensures fails { IfErr result (IsDataFailure asked.now.data is_cut (IsAllFound (schema_nodes writer.now)
-        (option_map (λ t. schema_nodes t.1) (option_copied reader.entry)) datum_limits asked.now.skip bytes.now)) }
+    ensures fails { FailsOnlyFor (IsDataFailure asked.now.data is_cut (IsAllFound (schema_nodes writer.now)
+        (option_map (λ t. schema_nodes t.1) (option_copied reader.entry)) datum_limits asked.now.skip bytes.now)) O.failures O.stuck out.old out.new result }
     ensures refused { (e : ReadResolveError) → result ≡ Err (Data asked.now.data e) → O.keeps out.old [] out.new × (O.failures out.new ≡ O.failures out.old) }
-    ensures failed { IsErrOf result CannotPrint → (O.failures out.new ≢ O.failures out.old) ⊎ O.stuck out.new }
-    ensures memory { IsErrOf result OutOfMemory → O.failures out.new ≡ O.failures out.old }
-    ensures works { OnOk result (O.failures out.new ≡ O.failures out.old) }
 {
     let plan = plan_of(alloc, writer, reader)?;
     match put_datum(alloc, asked, &plan, bytes, out) {
@@ -188,14 +188,7 @@ fn put_datum<O: Output>(
     bytes: &[u8],
     out: &mut O,
 ) -> Result<(), DataError>
-    ensures put { OnOk result ((text : List ℕ) × IsDatumTold (schema_nodes plan.now.0) (option_map schema_nodes plan.now.1) datum_limits
-        asked.now.form asked.now.skip bytes.now text × O.keeps out.old text out.new) }
-    ensures refused { IfRefused result (λ e. O.keeps out.old [] out.new × IfSome (fault_found e) (IsAllFound (schema_nodes plan.now.0) (option_map schema_nodes plan.now.1)
-        datum_limits asked.now.skip bytes.now)) }
-    ensures unused { IfRefused result (λ e. O.failures out.new ≡ O.failures out.old) }
-    ensures works { OnOk result (O.failures out.new ≡ O.failures out.old) }
-    ensures fails { IsErrOf result (DataError.Put PutError.CannotWrite) → (O.failures out.new ≢ O.failures out.old) ⊎ O.stuck out.new }
-    ensures memory { IsErrOf result (DataError.Put PutError.OutOfMemory) → O.failures out.new ≡ O.failures out.old }
+    ensures { DatumPut O.keeps O.failures O.stuck (schema_nodes plan.now.0) (option_map schema_nodes plan.now.1) datum_limits asked.now.form asked.now.skip bytes.now out.old out.new result }
 {
     match behind(bytes, asked.skip as usize) {
         Ok(rest) => {

@@ -1,14 +1,14 @@
-ghost use Rattle.std.specs.Prelude.{◌≡◌, ◌≢◌, ◌⊎◌, ℕ, List, IfOk, OnOk, IsErrOf};
-ghost use Rattle.std.specs.Result.{IfErr};
+ghost use Rattle.std.specs.Prelude.{◌≡◌, ℕ, List, IfOk, OnOk};
 ghost use Rattle.avro_schema.specs.SeenSchema.{schema_nodes};
 ghost use Rattle.avro_answer.specs.SchemaAnswer.{NodesAnswer};
+ghost use Rattle.avro_tool.specs.FailsOnlyFor.{FailsOnlyFor};
 ghost use Rattle.avro_tool.specs.FailureText.{IsPutFailure};
 ghost use Rattle.avro_tool.specs.FoundStatus.{finding_status};
-ghost use Rattle.avro_tool.specs.declared.failure.Failure.TheVariants.{CannotPrint, OutOfMemory};
 
 use crate::Finding;
 use crate::failure::Failure;
-use crate::files::schema::{MAX_TEXT, bytes_of};
+use crate::files::schema::{TEXT_READ, bytes_of};
+use crate::files::texts::Texts;
 use crate::printing::print_bytes;
 use avro_answer::{Shown, schema_refusal};
 use avro_device::Output;
@@ -17,26 +17,25 @@ use avro_schema_json::{SchemaError, read_schema};
 use avro_why::{Reason, Reasons, find_reasons};
 use std::alloc::{AllocError, Global};
 use std::io::Write;
-use std::rt::Files;
 
 /// The most places of faults that are reported.
 const MAX_REASONS: usize = 100;
 
 /// Reads the schema of a file, and prints its number of nodes, its canonical form or its fingerprint. If it is refused,
 /// and the words ask for that, the places of its faults are reported.
-pub(crate) fn show_schema<'a, R: Files + AllocGlobal, O: Output, E: Write>(
-    rt: &R,
+pub(crate) fn show_schema<'a, T: Texts, O: Output, E: Write>(
+    texts: &T,
     file: &'a str,
     shown: Shown,
     is_why: bool,
     out: &mut O,
     err: &mut E,
 ) -> Result<Finding, Failure<'a>> {
-    let text = bytes_of(rt, file, MAX_TEXT)?;
-    match read_schema(rt.alloc(), &text) {
-        Ok(schema) => tell_schema(rt.alloc(), &schema, shown, out),
+    let text = bytes_of(texts, file, TEXT_READ)?;
+    match read_schema(texts.alloc(), &text) {
+        Ok(schema) => tell_schema(texts.alloc(), &schema, shown, out),
         Err(error) if is_why && error != SchemaError::OutOfMemory => {
-            tell_reasons(rt.alloc(), file, &text, error, err)
+            tell_reasons(texts.alloc(), file, &text, error, err)
         }
         Err(error) => Err(Failure::of_schema(file, error)),
     }
@@ -51,10 +50,7 @@ fn tell_schema<'a, O: Output>(
 ) -> Result<Finding, Failure<'a>>
     ensures answered { OnOk result ((text : List ℕ) × NodesAnswer shown (schema_nodes schema.now) text × O.keeps out.old text out.new) }
     ensures good { IfOk result (λ f. finding_status f ≡ 0) }
-    ensures fails { IfErr result IsPutFailure }
-    ensures failed { IsErrOf result CannotPrint → (O.failures out.new ≢ O.failures out.old) ⊎ O.stuck out.new }
-    ensures memory { IsErrOf result OutOfMemory → O.failures out.new ≡ O.failures out.old }
-    ensures works { OnOk result (O.failures out.new ≡ O.failures out.old) }
+    ensures fails { FailsOnlyFor IsPutFailure O.failures O.stuck out.old out.new result }
 {
     let line = avro_answer::show_schema(alloc, schema, shown)?;
     print_bytes(out, &line)?;

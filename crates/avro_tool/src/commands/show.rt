@@ -16,6 +16,7 @@ use crate::Finding;
 use crate::failure::Failure;
 use crate::files::container::open_container;
 use crate::files::schema::read_reader;
+use crate::files::texts::Texts;
 use avro_device::{Input, Output};
 use avro_file::{CopyError, FileLimits};
 use avro_lines::show;
@@ -26,14 +27,15 @@ use std::rt::Files;
 
 /// Prints a line for each datum of the container in a file, resolved to a reader's schema if a file is
 /// named for it, and no more lines than the limit, if there is one.
-pub(crate) fn show_file<'a, R: Files + AllocGlobal, O: Output>(
+pub(crate) fn show_file<'a, T: Texts, R: Files + AllocGlobal, O: Output>(
+    texts: &T,
     rt: &R,
     word: &'a str,
     reader: Option<&'a str>,
     limit: Option<u64>,
     out: &mut O,
 ) -> Result<Finding, Failure<'a>> {
-    let reader = read_reader(rt, reader)?;
+    let reader = read_reader(texts, reader)?;
     show_for(rt, word, schema_of(&reader), limit, out)
 }
 

@@ -1,19 +1,28 @@
 //! Files of certificates.
 
+ghost use Rattle.std.specs.Prelude.{◌≡◌, true, IfOk};
+ghost use Rattle.std.specs.Option.{IfSome};
+ghost use Rattle.avro_certificate.specs.CertificateText.{CertText, are_small};
+ghost use Rattle.avro_certificate.specs.SeenCertificate.{dead_of, pairs_in};
+
 use crate::failure::Failure;
 use crate::files::schema::bytes_of;
+use crate::files::texts::Texts;
 use avro_history::HistoryCert;
 use avro_judge::{Approved, CertError, Certificate};
 use std::fs;
 use std::rt::Files;
 
 /// The certificate in a file.
-pub(crate) fn read_certificate_file<'a, R: Files + AllocGlobal>(
-    rt: &R,
+pub(crate) fn read_certificate_file<'a, T: Texts>(
+    texts: &T,
     word: &'a str,
-) -> Result<Certificate, Failure<'a>> {
-    let bytes = bytes_of_certificates(rt, word)?;
-    match Certificate::read(rt.alloc(), &bytes) {
+) -> Result<Certificate, Failure<'a>>
+    ensures found { IfOk result (λ c. IfSome (T.known texts.now word.now) (λ text. CertText (dead_of c) (pairs_in c) text)) }
+    ensures small { IfOk result (λ c. are_small (dead_of c) (pairs_in c) ≡ true) }
+{
+    let bytes = bytes_of_certificates(texts, word)?;
+    match Certificate::read(texts.alloc(), &bytes) {
         Ok(certificate) => Ok(certificate),
         Err(e) => Err(Failure::of_certificate(word, e)),
     }
@@ -34,12 +43,12 @@ pub(crate) fn write_certificate_file<'a, R: Files + AllocGlobal>(
 }
 
 /// The history in a file.
-pub(crate) fn read_history_file<'a, R: Files + AllocGlobal>(
-    rt: &R,
+pub(crate) fn read_history_file<'a, T: Texts>(
+    texts: &T,
     word: &'a str,
 ) -> Result<HistoryCert, Failure<'a>> {
-    let bytes = bytes_of_certificates(rt, word)?;
-    match HistoryCert::read(rt.alloc(), &bytes) {
+    let bytes = bytes_of_certificates(texts, word)?;
+    match HistoryCert::read(texts.alloc(), &bytes) {
         Ok(history) => Ok(history),
         Err(e) => Err(Failure::of_certificate(word, e)),
     }
@@ -60,11 +69,10 @@ pub(crate) fn write_history_file<'a, R: Files + AllocGlobal>(
 
 /// The bytes of a file of certificates. At most one byte more than a text may have is read, once; a
 /// longer text is refused.
-fn bytes_of_certificates<'a, R: Files + AllocGlobal>(
-    rt: &R,
-    word: &'a str,
-) -> Result<Vec<u8>, Failure<'a>> {
-    let bytes = bytes_of(rt, word, Certificate::MAX_LEN as u64)?;
+fn bytes_of_certificates<'a, T: Texts>(texts: &T, word: &'a str) -> Result<Vec<u8>, Failure<'a>>
+    ensures { IfOk result (λ bytes. IfSome (T.known texts.now word.now) (λ text. bytes.items ≡ text)) }
+{
+    let bytes = bytes_of(texts, word, Certificate::MAX_LEN as u64 + 1)?;
     if bytes.len() > Certificate::MAX_LEN {
         return Err(Failure::of_certificate(word, CertError::Malformed));
     }

@@ -2,7 +2,8 @@
 //! that hold a schema and are written.
 
 use crate::failure::Failure;
-use crate::files::schema::{MAX_TEXT, read_bytes};
+use crate::files::schema::TEXT_READ;
+use crate::files::texts::Texts;
 use crate::request::Request;
 use avro_schema_json::{SchemaError, read_schema};
 use std::fs::Metadata;
@@ -27,7 +28,8 @@ struct Streams {
 }
 
 /// Refuses a request by which a file of its words would be spoiled.
-pub(crate) fn refuse_files<'a, R: Files + AllocGlobal>(
+pub(crate) fn refuse_files<'a, T: Texts, R: Files + AllocGlobal>(
+    texts: &T,
     rt: &R,
     request: &Request<'a>,
 ) -> Result<(), Failure<'a>> {
@@ -37,8 +39,8 @@ pub(crate) fn refuse_files<'a, R: Files + AllocGlobal>(
     let [first, second] = request.files_written();
     refuse_read_file(rt, request, first, &read)?;
     refuse_read_file(rt, request, second, &read)?;
-    refuse_schema_file(rt, first)?;
-    refuse_schema_file(rt, second)
+    refuse_schema_file(texts, rt, first)?;
+    refuse_schema_file(texts, rt, second)
 }
 
 /// Refuses files that standard output is, or standard error where more than an error goes there.
@@ -125,7 +127,8 @@ fn refuse_read_file<'a, R: Files>(
 
 /// Refuses a file that is to be written if its text declares a schema. A file that is not regular or not
 /// readable is not checked.
-fn refuse_schema_file<'a, R: Files + AllocGlobal>(
+fn refuse_schema_file<'a, T: Texts, R: Files + AllocGlobal>(
+    texts: &T,
     rt: &R,
     output: Option<&'a str>,
 ) -> Result<(), Failure<'a>> {
@@ -135,7 +138,7 @@ fn refuse_schema_file<'a, R: Files + AllocGlobal>(
     if regular_file(rt, output)?.is_none() {
         return Ok(());
     }
-    let bytes = match read_bytes(rt, output, MAX_TEXT) {
+    let bytes = match texts.text(output, TEXT_READ) {
         Ok(bytes) => bytes,
         Err(e) if e.kind() == io::ErrorKind::PermissionDenied => return Ok(()),
         Err(e) => return Err(Failure::of_reading(output, &e)),
