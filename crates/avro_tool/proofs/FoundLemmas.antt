@@ -1,18 +1,19 @@
 -- What is read of a command's rows is what its getters answer.
-use Rattle.std.proofs.Common.{◌≡◌, ◌≢◌, ◌∙◌, ℕ, List, ◌∷◌, Option, Some, None, Result, Ok, Err, refl, sym, ap, ap₂, arith, codes, get_or, option_map, ◌<◌, ◌^◌, Box, IsSomeAnd, IsOkAnd, IsErrAnd, IfOk, IfErr, subst, true}
+use Rattle.std.proofs.Common.{◌≡◌, ◌≢◌, ◌∙◌, ℕ, List, ◌∷◌, Option, Some, None, Result, Ok, Err, refl, sym, ap, ap₂, arith, codes, [], drop, get_or, map, option_map, ◌<◌, ◌^◌, Box, IsSomeAnd, IsErrAnd, IfOk, IfErr, subst, true}
 use Rattle.std.proofs.lemmas.Option.{none-some}
+use Rattle.std.specs.Option.{option_map_or}
 use Rattle.std.specs.Box.{box_value}
 use Rattle.std.specs.Borrow.{Bor}
 use Rattle.std.specs.Str.Parse.{IsNumeral, ParsesUnsigned, digits_value, without_leading_plus}
 use Rattle.clap.specs.Matches.{ReadsOne, found_of, subcommand_name_of}
 use Rattle.clap.specs.Simple.{App, HasMatchesOf, is_simple, subcommand_of, subcommand_rows, subcommand_rows_of}
 use Rattle.clap.specs.Takes.{takes}
-use Rattle.clap.specs.Walk.{Row, rows_of}
+use Rattle.clap.specs.Walk.{Row, all_of, rows_of}
 use Rattle.clap.specs.declared.parser.matches.Found.{Found}
 use Rattle.clap.specs.declared.parser.matches.ArgMatches.{ArgMatches}
 use Rattle.clap.specs.declared.parser.matches.ArgMatches.TheViews.{out-ArgMatches, out-SubCommand}
 use Rattle.clap.specs.declared.parser.matches.SubCommand.{SubCommand}
-use Rattle.clap.proofs.WalkLemmas.{first_value-rows, one_text-rows}
+use Rattle.clap.proofs.WalkLemmas.{first_value-rows, one_text-rows, raw_values-rows}
 use Rattle.avro_tool.proofs.GrammarLemmas.{both}
 use Rattle.avro_tool.proofs.PlainLaws.{is_entered, taken}
 use Rattle.avro_tool.specs.PlainWords.{AreApart, HaveNoOption, PlainWords, files_of, name_of}
@@ -20,7 +21,11 @@ use Rattle.avro_tool.specs.declared.failure.Failure.{Failure}
 use Rattle.avro_tool.specs.declared.request.Request.{Request}
 use Rattle.avro_tool.specs.inside.Grammar.{app_with, command_app}
 use Rattle.avro_tool.specs.declared.number_options.NumberOption.{NumberOption}
-use Rattle.avro_tool.specs.inside.PlainFound.{FindsConfirm, FindsCopy, FindsExplain, FindsHeader, FindsJudge, FindsRead, FindsShow, GivesOk, IsEntered, default_digits, default_number, found_in, read_of}
+use Rattle.avro_tool.specs.inside.PlainFound.{FindsCheck, FindsConfirm, FindsCopy, FindsExplain, FindsHeader, FindsJudge, FindsRead, FindsShow, GivesOk, GivesOrMemory, IsEntered, default_digits, default_number, found_in, read_of}
+
+abbrev or_else : {X : Type 0} → X → Option X → X
+or_else x None = x
+or_else x (Some y) = y
 
 -- the item at a place of what is read
 at : {xs ys : List (Option (List ℕ))} → (k : ℕ) → xs ≡ ys → get_or xs k None ≡ get_or ys k None
@@ -56,6 +61,20 @@ finds_confirm a b c f e = record {
   json = one_text-rows f (codes "json") ∙ at 3 e;
 }
 
+-- one text is found
+one_found : (o : Option (List (List ℕ))) (a : List ℕ) → option_map_or (map Some) o [] ≡ Some a ∷ [] → o ≡ Some (a ∷ [])
+one_found None a e = absurd (cc)
+one_found (Some []) a e = absurd (cc)
+one_found (Some (x ∷ [])) a e = ap (λ (xs : List (Option (List ℕ))). Some (get_or (map (or_else []) xs) 0 [] ∷ [])) e
+one_found (Some (x ∷ y ∷ rest)) a e = absurd (cc)
+
+pub finds_check : (a : List ℕ) (f : Found) → read_of (PlainWords.check a) (rows_of f) ≡ found_in (PlainWords.check a) → FindsCheck a f
+finds_check a f e = record {
+  files_are = raw_values-rows f (codes "files") ∙ one_found (all_of (codes "files") (rows_of f)) a (ap (drop 2) e);
+  json = one_text-rows f (codes "json") ∙ at 0 e;
+  progress = one_text-rows f (codes "progress") ∙ at 1 e;
+}
+
 pub finds_show : (a : List ℕ) (f : Found) → read_of (PlainWords.show a) (rows_of f) ≡ found_in (PlainWords.show a) → FindsShow a f
 finds_show a f e = record {
   file_is = first_value-rows f (codes "file") ∙ at 0 e;
@@ -88,10 +107,6 @@ finds_copy a b f apart e = record {
   progress = one_text-rows f (codes "progress") ∙ at 4 e;
 }
 
-abbrev or_else : {X : Type 0} → X → Option X → X
-or_else x None = x
-or_else x (Some y) = y
-
 pub some_same : {X : Type 0} (x y : X) → Some x ≡ Some y → x ≡ y
 some_same x y h = ap (or_else x) h
 
@@ -118,23 +133,29 @@ entered_named plain m r name rows entered = go r (subst (IsEntered plain) (sym (
     go None h = absurd (none-some _ h)
     go (Some p) h = let same = some_same _ _ h in (ap (λ q. q.0) same, ap (λ q. q.1) same)
 
+ok_or_memory : (plain : PlainWords) (r : Result (Option Request) Failure) → GivesOk plain r → GivesOrMemory plain r
+ok_or_memory plain (Ok x) h = (h, tt)
+ok_or_memory plain (Err e) h = absurd h
+
 -- a command gives the request of plain words, if it does so by its name and what its getters find
 pub by_command : (result : Result (Option Request) Failure) (name : List ℕ) (f : Found)
     → (name ≡ codes "judge" → (a b : List ℕ) → FindsJudge a b f → GivesOk (PlainWords.judge a b) result)
     → (name ≡ codes "explain" → (a b : List ℕ) → FindsExplain a b f → GivesOk (PlainWords.explain a b) result)
     → (name ≡ codes "confirm" → (a b c : List ℕ) → FindsConfirm a b c f → GivesOk (PlainWords.confirm a b c) result)
+    → (name ≡ codes "check" → (a : List ℕ) → FindsCheck a f → GivesOrMemory (PlainWords.check a) result)
     → (name ≡ codes "show" → (a : List ℕ) → FindsShow a f → GivesOk (PlainWords.show a) result)
     → (name ≡ codes "header" → (a : List ℕ) → FindsHeader a f → GivesOk (PlainWords.header a) result)
     → (name ≡ codes "read" → (a b : List ℕ) → FindsRead a b f → GivesOk (PlainWords.read a b) result)
     → (name ≡ codes "copy" → (a b : List ℕ) → FindsCopy a b f → GivesOk (PlainWords.copy a b) result)
-    → (plain : PlainWords) → AreApart plain → name ≡ name_of plain → read_of plain (rows_of f) ≡ found_in plain → GivesOk plain result
-by_command result name f judge explain confirm show header read copy (PlainWords.judge a b) apart n given = judge n a b (finds_judge a b f given)
-by_command result name f judge explain confirm show header read copy (PlainWords.explain a b) apart n given = explain n a b (finds_explain a b f given)
-by_command result name f judge explain confirm show header read copy (PlainWords.confirm a b c) apart n given = confirm n a b c (finds_confirm a b c f given)
-by_command result name f judge explain confirm show header read copy (PlainWords.show a) apart n given = show n a (finds_show a f given)
-by_command result name f judge explain confirm show header read copy (PlainWords.header a) apart n given = header n a (finds_header a f given)
-by_command result name f judge explain confirm show header read copy (PlainWords.read a b) apart n given = read n a b (finds_read a b f given)
-by_command result name f judge explain confirm show header read copy (PlainWords.copy a b) apart n given = copy n a b (finds_copy a b f apart given)
+    → (plain : PlainWords) → AreApart plain → name ≡ name_of plain → read_of plain (rows_of f) ≡ found_in plain → GivesOrMemory plain result
+by_command result name f judge explain confirm check show header read copy (PlainWords.judge a b) apart n given = ok_or_memory (PlainWords.judge a b) result (judge n a b (finds_judge a b f given))
+by_command result name f judge explain confirm check show header read copy (PlainWords.explain a b) apart n given = ok_or_memory (PlainWords.explain a b) result (explain n a b (finds_explain a b f given))
+by_command result name f judge explain confirm check show header read copy (PlainWords.confirm a b c) apart n given = ok_or_memory (PlainWords.confirm a b c) result (confirm n a b c (finds_confirm a b c f given))
+by_command result name f judge explain confirm check show header read copy (PlainWords.check a) apart n given = check n a (finds_check a f given)
+by_command result name f judge explain confirm check show header read copy (PlainWords.show a) apart n given = ok_or_memory (PlainWords.show a) result (show n a (finds_show a f given))
+by_command result name f judge explain confirm check show header read copy (PlainWords.header a) apart n given = ok_or_memory (PlainWords.header a) result (header n a (finds_header a f given))
+by_command result name f judge explain confirm check show header read copy (PlainWords.read a b) apart n given = ok_or_memory (PlainWords.read a b) result (read n a b (finds_read a b f given))
+by_command result name f judge explain confirm check show header read copy (PlainWords.copy a b) apart n given = ok_or_memory (PlainWords.copy a b) result (copy n a b (finds_copy a b f apart given))
 
 -- a parse of plain words enters their command
 pub parsed_entered : (plain : PlainWords) (app : App) (words : List (List ℕ)) (m : ArgMatches) → app ≡ app_with (command_app plain)
@@ -147,10 +168,6 @@ parsed_entered plain app words m app_is words_are free has =
 pub parsed_taken : (plain : PlainWords) (app : App) (words : List (List ℕ)) → app ≡ app_with (command_app plain)
     → words ≡ name_of plain ∷ files_of plain → HaveNoOption (files_of plain) → takes app words ≡ true
 parsed_taken plain app words app_is words_are free = ap₂ takes app_is words_are ∙ taken plain free
-
-pub ok_and_both : {T E : Type 0} (r : Result T E) (P : T → Type 0) (Q : E → Type 0) → IsOkAnd r P → IfOk r P × IfErr r Q
-ok_and_both (Ok x) P Q h = (h, tt)
-ok_and_both (Err e) P Q h = absurd h
 
 pub err_and_both : {T E : Type 0} (r : Result T E) (P : T → Type 0) (Q : E → Type 0) → IsErrAnd r Q → IfOk r P × IfErr r Q
 err_and_both (Ok x) P Q h = absurd h

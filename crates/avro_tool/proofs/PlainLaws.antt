@@ -19,6 +19,7 @@ unfolding clap_on_literals
 enters (PlainWords.judge a b) = refl
 enters (PlainWords.explain a b) = refl
 enters (PlainWords.confirm a b c) = refl
+enters (PlainWords.check a) = refl
 enters (PlainWords.show a) = refl
 enters (PlainWords.header a) = refl
 enters (PlainWords.read a b) = refl
@@ -26,19 +27,21 @@ enters (PlainWords.copy a b) = refl
 
 reaches : (plain : PlainWords) → Reaches (leaf plain) nothing_held 1 (files_of plain)
 unfolding clap_on_literals
-reaches (PlainWords.judge a b) = (refl, refl, (refl, refl, tt))
-reaches (PlainWords.explain a b) = (refl, refl, (refl, refl, tt))
-reaches (PlainWords.confirm a b c) = (refl, refl, (refl, refl, (refl, refl, tt)))
-reaches (PlainWords.show a) = (refl, refl, tt)
-reaches (PlainWords.header a) = (refl, refl, tt)
-reaches (PlainWords.read a b) = (refl, refl, (refl, refl, tt))
-reaches (PlainWords.copy a b) = (refl, refl, (refl, refl, tt))
+reaches (PlainWords.judge a b) = (refl, refl, (tt, refl, tt))
+reaches (PlainWords.explain a b) = (refl, refl, (tt, refl, tt))
+reaches (PlainWords.confirm a b c) = (refl, refl, (refl, refl, (tt, refl, tt)))
+reaches (PlainWords.check a) = (tt, refl, tt)
+reaches (PlainWords.show a) = (tt, refl, tt)
+reaches (PlainWords.header a) = (tt, refl, tt)
+reaches (PlainWords.read a b) = (refl, refl, (tt, refl, tt))
+reaches (PlainWords.copy a b) = (refl, refl, (tt, refl, tt))
 
 finds : (plain : PlainWords) → read_of plain (finished (leaf plain).rules (end_after (leaf plain) nothing_held 1 (files_of plain))) ≡ found_in plain
 unfolding clap_on_literals
 finds (PlainWords.judge a b) = refl
 finds (PlainWords.explain a b) = refl
 finds (PlainWords.confirm a b c) = refl
+finds (PlainWords.check a) = refl
 finds (PlainWords.show a) = refl
 finds (PlainWords.header a) = refl
 finds (PlainWords.read a b) = refl
@@ -49,6 +52,7 @@ unfolding clap_on_literals
 ends_well (PlainWords.judge a b) = refl
 ends_well (PlainWords.explain a b) = refl
 ends_well (PlainWords.confirm a b c) = refl
+ends_well (PlainWords.check a) = refl
 ends_well (PlainWords.show a) = refl
 ends_well (PlainWords.header a) = refl
 ends_well (PlainWords.read a b) = refl
@@ -60,6 +64,7 @@ unfolding clap_on_literals
 takes_level (PlainWords.judge a b) = refl
 takes_level (PlainWords.explain a b) = refl
 takes_level (PlainWords.confirm a b c) = refl
+takes_level (PlainWords.check a) = refl
 takes_level (PlainWords.show a) = refl
 takes_level (PlainWords.header a) = refl
 takes_level (PlainWords.read a b) = refl

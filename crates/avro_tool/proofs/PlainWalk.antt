@@ -28,10 +28,15 @@ abbrev pub end_after : Shape → Held → ℕ → List Text → Held
 end_after s h p [] = h
 end_after s h p (word ∷ rest) = end_after s (held_after s h p word) (p + 1) rest
 
--- each word goes to a positional that takes one
+-- a claim that is made if more words follow
+abbrev pub IfMore : List Text → Type 0 → Type 0
+IfMore [] P = ⊤
+IfMore (word ∷ rest) P = P
+
+-- each word goes to a positional, and each but the last to one that takes no other
 abbrev pub Reaches : Shape → Held → ℕ → List Text → Type 0
 Reaches s h p [] = ⊤
-Reaches s h p (word ∷ rest) = (to_positional s.rules (arg_by_index s.rules p) word (between h p) h ≡ between (held_after s h p word) (p + 1))
+Reaches s h p (word ∷ rest) = IfMore rest (to_positional s.rules (arg_by_index s.rules p) word (between h p) h ≡ between (held_after s h p word) (p + 1))
     × (step_passes s p h Step.value ≡ true) × Reaches s (held_after s h p word) (p + 1) rest
 
 plain_met : (c : List Rule) (h : Held) (p : ℕ) (word : Text) → IsNoOption word → word_met c [] false Waiting.idle p word h ≡ (h, Step.value)
@@ -50,18 +55,29 @@ walked_plain c h p word free =
     let dashes = not_dashes word free in
     simp (free, dashes)
 
+-- a walk that goes on as another does
+walk_on : (s : Shape) (w u v : Walk) (rest : List Text) → w ≡ u → u.held ≡ v.held → IfMore rest (u ≡ v)
+    → (fold (walked s.rules []) w rest).held ≡ (fold (walked s.rules []) v rest).held
+walk_on s w u v [] e same more = ap (λ (x : Walk). x.held) e ∙ same
+walk_on s w u v (word ∷ rest) e same more = ap (λ (x : Walk). (fold (walked s.rules []) x (word ∷ rest)).held) (e ∙ more)
+
+pass_on : (s : Shape) (w u v : Walk) (rest : List Text) → w ≡ u → IfMore rest (u ≡ v) → walk_passes s [] w rest ≡ walk_passes s [] v rest
+unfolding walk_passes
+pass_on s w u v [] e more = refl
+pass_on s w u v (word ∷ rest) e more = ap (λ (x : Walk). walk_passes s [] x (word ∷ rest)) (e ∙ more)
+
 pub walk_plain : (s : Shape) (h : Held) (p : ℕ) (words : List Text) → HaveNoOption words → Reaches s h p words
     → (fold (walked s.rules []) (between h p) words).held ≡ end_after s h p words
 walk_plain s h p [] free r = refl
 walk_plain s h p (word ∷ rest) free r =
-    ap (λ (w : Walk). (fold (walked s.rules []) w rest).held) (walked_plain s.rules h p word free.0 ∙ r.0) ∙ walk_plain s (held_after s h p word) (p + 1) rest free.1 r.2
+    walk_on s _ _ (between (held_after s h p word) (p + 1)) rest (walked_plain s.rules h p word free.0) refl r.0 ∙ walk_plain s (held_after s h p word) (p + 1) rest free.1 r.2
 
 passes_plain : (s : Shape) (h : Held) (p : ℕ) (words : List Text) → HaveNoOption words → Reaches s h p words → walk_passes s [] (between h p) words ≡ true
 unfolding walk_passes
 passes_plain s h p [] free r = refl
 passes_plain s h p (word ∷ rest) free r =
     ap₂ (λ (a b : Bool). a && b) (turn_plain s h p word free.0 ∙ r.1)
-    (ap (λ (w : Walk). walk_passes s [] w rest) (walked_plain s.rules h p word free.0 ∙ r.0) ∙ passes_plain s (held_after s h p word) (p + 1) rest free.1 r.2)
+    (pass_on s _ _ (between (held_after s h p word) (p + 1)) rest (walked_plain s.rules h p word free.0) r.0 ∙ passes_plain s (held_after s h p word) (p + 1) rest free.1 r.2)
 
 -- what stands after the walk passes
 abbrev pub ends : Shape → Held → Bool

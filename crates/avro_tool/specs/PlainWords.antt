@@ -1,5 +1,5 @@
 -- What the words of a command line ask for, where they are a command and its files, and no option.
-use Rattle.std.specs.Prelude.{◌≡◌, ◌≢◌, ⊤, false, ℕ, List, [], ◌∷◌, Result, None, codes, IfOk, IfErr}
+use Rattle.std.specs.Prelude.{◌≡◌, ◌≢◌, ⊤, false, ℕ, List, [], ◌∷◌, Result, None, codes, map, IfOk, IfErr}
 use Rattle.clap.specs.Lexer.{strip_byte}
 use Rattle.avro_answer.specs.declared.form.Form.{Form}
 use Rattle.avro_judge.specs.JudgeRanges.{JudgeLimitValues}
@@ -15,6 +15,7 @@ pub data PlainWords : Type 0 where
   judge : (writer reader : List ℕ) → PlainWords
   explain : (writer reader : List ℕ) → PlainWords
   confirm : (writer reader certificate : List ℕ) → PlainWords
+  check : (file : List ℕ) → PlainWords
   show : (file : List ℕ) → PlainWords
   header : (file : List ℕ) → PlainWords
   read : (writer data_file : List ℕ) → PlainWords
@@ -25,6 +26,7 @@ abbrev pub name_of : PlainWords → List ℕ
 name_of (PlainWords.judge writer reader) = codes "judge"
 name_of (PlainWords.explain writer reader) = codes "explain"
 name_of (PlainWords.confirm writer reader certificate) = codes "confirm"
+name_of (PlainWords.check file) = codes "check"
 name_of (PlainWords.show file) = codes "show"
 name_of (PlainWords.header file) = codes "header"
 name_of (PlainWords.read writer data_file) = codes "read"
@@ -35,6 +37,7 @@ abbrev pub files_of : PlainWords → List (List ℕ)
 files_of (PlainWords.judge writer reader) = writer ∷ reader ∷ []
 files_of (PlainWords.explain writer reader) = writer ∷ reader ∷ []
 files_of (PlainWords.confirm writer reader certificate) = writer ∷ reader ∷ certificate ∷ []
+files_of (PlainWords.check file) = file ∷ []
 files_of (PlainWords.show file) = file ∷ []
 files_of (PlainWords.header file) = file ∷ []
 files_of (PlainWords.read writer data_file) = writer ∷ data_file ∷ []
@@ -62,6 +65,7 @@ AsksFor (PlainWords.explain writer reader) (Request.Explain asked) = (asked.writ
     × (asked.max_pairs ≡ 4194304) × (asked.form ≡ Form.Text)
 AsksFor (PlainWords.confirm writer reader certificate) (Request.Confirm w r c form) = (w.now ≡ writer) × (r.now ≡ reader)
     × (c.now ≡ certificate) × (form ≡ Form.Text)
+AsksFor (PlainWords.check file) (Request.Check files form is_watched) = (map (λ f. f.now) files.items ≡ file ∷ []) × (form ≡ Form.Text) × (is_watched ≡ false)
 AsksFor (PlainWords.show file) (Request.Show f reader limit) = (f.now ≡ file) × (reader ≡ None) × (limit ≡ None)
 AsksFor (PlainWords.header file) (Request.Header f is_metadata) = (f.now ≡ file) × (is_metadata ≡ false)
 AsksFor (PlainWords.read writer data_file) (Request.Read asked) = (asked.writer.now ≡ writer) × (asked.data.now ≡ data_file)

@@ -1,11 +1,11 @@
 //! From the words of a command line to a request.
-ghost use Rattle.std.specs.Prelude.{◌≡◌, ℕ, List, None, Some, Ok, codes, map, string_bytes, IfOk, IfErr, IsErrAnd, IsOkAnd, ◌∷◌};
+ghost use Rattle.std.specs.Prelude.{◌≡◌, ℕ, List, None, Some, Ok, codes, map, string_bytes, IfOk, IfErr, IsErrAnd, ◌∷◌, option_map};
 ghost use Rattle.avro_answer.specs.declared.form.Form.{Form};
-ghost use Rattle.clap.specs.Words.{app_of, found_of, kind_of, one_text, subcommand_rows_of};
+ghost use Rattle.clap.specs.Words.{app_of, found_of, kind_of, matched_of, one_text, raw_values, subcommand_rows_of};
 ghost use Rattle.clap.specs.declared.error.kind.ErrorKind.{ErrorKind};
 ghost use Rattle.avro_tool.specs.declared.failure.Failure.TheVariants.{OutOfMemory};
 ghost use Rattle.avro_tool.specs.inside.Grammar.{app_with, command_app};
-ghost use Rattle.avro_tool.specs.inside.PlainFound.{FindsConfirm, FindsCopy, FindsExplain, FindsHeader, FindsJudge, FindsRead, FindsShow, Gives, GivesOk, IsEntered};
+ghost use Rattle.avro_tool.specs.inside.PlainFound.{FindsCheck, FindsConfirm, FindsCopy, FindsExplain, FindsHeader, FindsJudge, FindsRead, FindsShow, Gives, GivesOk, GivesOrMemory, IsEntered};
 ghost use Rattle.avro_tool.specs.PlainWords.{default_judge_limits, files_of, name_of, AreApart, AsksFor, HaveNoOption, MakesPlainRequest, PlainWords};
 
 use crate::failure::Failure;
@@ -60,7 +60,8 @@ fn request_found<'a>(
     command: &mut Command<'_>,
     matches: &ArgMatches<'a>,
 ) -> Result<Request<'a>, Failure<'a>>
-    ensures { (plain : PlainWords) → IsEntered plain (subcommand_rows_of matches.now) → AreApart plain → IsOkAnd result (AsksFor plain) }
+    ensures { (plain : PlainWords) → IsEntered plain (subcommand_rows_of matches.now) → AreApart plain
+        → IfOk result (AsksFor plain) × IfErr result (λ failure. failure ≡ OutOfMemory) }
 {
     match request_in(alloc, matches) {
         Ok(None) => Err(no_command(command)?),
@@ -74,7 +75,7 @@ fn request_in<'a>(
     alloc: Global,
     matches: &ArgMatches<'a>,
 ) -> Result<Option<Request<'a>>, Failure<'a>>
-    ensures { (plain : PlainWords) → IsEntered plain (subcommand_rows_of matches.now) → AreApart plain → GivesOk plain result }
+    ensures { (plain : PlainWords) → IsEntered plain (subcommand_rows_of matches.now) → AreApart plain → GivesOrMemory plain result }
 {
     match matches.subcommand() {
         Some((name, given)) => request_named(alloc, name, given),
@@ -91,6 +92,7 @@ fn request_named<'a>(
     ensures judge { name.now ≡ codes "judge" → (a b : List ℕ) → FindsJudge a b (found_of given.now) → GivesOk (PlainWords.judge a b) result }
     ensures explain { name.now ≡ codes "explain" → (a b : List ℕ) → FindsExplain a b (found_of given.now) → GivesOk (PlainWords.explain a b) result }
     ensures confirm { name.now ≡ codes "confirm" → (a b c : List ℕ) → FindsConfirm a b c (found_of given.now) → GivesOk (PlainWords.confirm a b c) result }
+    ensures check { name.now ≡ codes "check" → (a : List ℕ) → FindsCheck a (found_of given.now) → GivesOrMemory (PlainWords.check a) result }
     ensures show { name.now ≡ codes "show" → (a : List ℕ) → FindsShow a (found_of given.now) → GivesOk (PlainWords.show a) result }
     ensures header { name.now ≡ codes "header" → (a : List ℕ) → FindsHeader a (found_of given.now) → GivesOk (PlainWords.header a) result }
     ensures read { name.now ≡ codes "read" → (a b : List ℕ) → FindsRead a b (found_of given.now) → GivesOk (PlainWords.read a b) result }
@@ -110,6 +112,7 @@ fn other_named<'a>(
     name: &str,
     given: &ArgMatches<'a>,
 ) -> Result<Option<Request<'a>>, Failure<'a>>
+    ensures check { name.now ≡ codes "check" → (a : List ℕ) → FindsCheck a (found_of given.now) → GivesOrMemory (PlainWords.check a) result }
     ensures show { name.now ≡ codes "show" → (a : List ℕ) → FindsShow a (found_of given.now) → GivesOk (PlainWords.show a) result }
     ensures header { name.now ≡ codes "header" → (a : List ℕ) → FindsHeader a (found_of given.now) → GivesOk (PlainWords.header a) result }
     ensures read { name.now ≡ codes "read" → (a b : List ℕ) → FindsRead a b (found_of given.now) → GivesOk (PlainWords.read a b) result }
@@ -326,7 +329,10 @@ fn reading_after<'a>(read: &ArgMatches<'a>, skip: u32) -> Option<Request<'a>>
 }
 
 /// The request of the words that check containers.
-fn checking_in<'a>(alloc: Global, check: &ArgMatches<'a>) -> Result<Request<'a>, Failure<'a>> {
+fn checking_in<'a>(alloc: Global, check: &ArgMatches<'a>) -> Result<Request<'a>, Failure<'a>>
+    ensures plain { (a : List ℕ) → FindsCheck a (found_of check.now) → IfOk result (AsksFor (PlainWords.check a)) }
+    ensures fails { IfErr result (λ failure. failure ≡ OutOfMemory) }
+{
     let files = words_in(alloc, check, "files")?;
     Ok(Request::Check {
         files,
@@ -383,14 +389,14 @@ fn words_in<'a>(
     alloc: Global,
     matches: &ArgMatches<'a>,
     id: &str,
-) -> Result<Vec<&'a str>, AllocError> {
-    let mut words = Vec::new(alloc);
-    if let Some(given) = matches.get_strs(id) {
-        for word in given {
-            words.push(*word)?;
-        }
+) -> Result<Vec<&'a str>, AllocError>
+    ensures { (words : List (List ℕ)) → option_map raw_values (matched_of (found_of matches.now) id.now) ≡ Some words
+        → IfOk result (λ found. map (λ w. w.now) found.items ≡ words) }
+{
+    match matches.get_strs(id) {
+        Some(given) => given.to_vec(alloc),
+        None => Ok(Vec::new(alloc)),
     }
-    Ok(words)
 }
 
 /// Which data are to be read in a history.

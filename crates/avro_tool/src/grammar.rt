@@ -2,7 +2,7 @@
 ghost use Rattle.std.specs.Prelude.{◌≡◌, ◌∷◌, ℕ, List, false, IfOk, IsSomeAnd, codes, is_some, map, string_bytes};
 ghost use Rattle.clap.specs.Words.{app_of, rule_of};
 ghost use Rattle.clap.specs.declared.builder.command.Command.TheViews.{out-Command};
-ghost use Rattle.avro_tool.specs.inside.Grammar.{app_in, app_with, bare_app, command_app, confirm_app, copy_app, explain_app, has_rival, header_app, judge_app, option_rule, read_app, rule_in, rule_taking, show_app};
+ghost use Rattle.avro_tool.specs.inside.Grammar.{app_in, app_with, bare_app, check_app, command_app, confirm_app, copy_app, explain_app, has_rival, header_app, judge_app, option_rule, read_app, rule_in, rule_taking, show_app};
 ghost use Rattle.avro_tool.specs.PlainWords.{name_of, PlainWords};
 
 use crate::commands::version::VERSION;
@@ -359,6 +359,7 @@ fn command_named(name: &str) -> Option<Words>
     ensures judge { name.now ≡ codes "judge" → IsSomeAnd result (λ words. app_in words ≡ judge_app) }
     ensures explain { name.now ≡ codes "explain" → IsSomeAnd result (λ words. app_in words ≡ explain_app) }
     ensures confirm { name.now ≡ codes "confirm" → IsSomeAnd result (λ words. app_in words ≡ confirm_app) }
+    ensures check { name.now ≡ codes "check" → IsSomeAnd result (λ words. app_in words ≡ check_app) }
     ensures show { name.now ≡ codes "show" → IsSomeAnd result (λ words. app_in words ≡ show_app) }
     ensures header { name.now ≡ codes "header" → IsSomeAnd result (λ words. app_in words ≡ header_app) }
     ensures read { name.now ≡ codes "read" → IsSomeAnd result (λ words. app_in words ≡ read_app) }
@@ -374,6 +375,7 @@ fn command_named(name: &str) -> Option<Words>
 
 /// The same for the commands that judge no pair.
 fn other_named(name: &str) -> Option<Words>
+    ensures check { name.now ≡ codes "check" → IsSomeAnd result (λ words. app_in words ≡ check_app) }
     ensures show { name.now ≡ codes "show" → IsSomeAnd result (λ words. app_in words ≡ show_app) }
     ensures header { name.now ≡ codes "header" → IsSomeAnd result (λ words. app_in words ≡ header_app) }
     ensures read { name.now ≡ codes "read" → IsSomeAnd result (λ words. app_in words ≡ read_app) }

@@ -1,5 +1,5 @@
 //! The program `avro`, as a function over its words, a reader and two writers. Of its own functions these are proved: that plain words,
-//! a command and its files, make the request for these files (`request_of`, for seven commands); the exit status of each `Failure` and
+//! a command and its files, make the request for these files (`request_of`, for eight commands); the exit status of each `Failure` and
 //! each `Finding`, and the line of each refusal; that the text and the status of `judge`, `explain`, `confirm`, `schema` and `read` are
 //! those of `avro_answer` for the schemas and the data that were read, in their order (`judge_pair`, `explain_pair`, `tell_confirmed`,
 //! `tell_schema`, `tell_datum`); that the lines of `history`, as text and as JSON, are those of its files, in their order, with the

@@ -43,9 +43,12 @@ rule_in argument = record (rule_taking (new_rule argument.0.now) argument.0.now 
 abbrev pub app_in : CommandWords → App
 app_in words = fold with_rule (new_app words.0.now) (map rule_in words.2.now)
 
--- a word that must be there, an option with a word, one with a number and its default, and one with nothing after it
+-- a word that must be there, one or more of them, an option with a word, one with a number and its default, and one with nothing after it
 abbrev pub word : List ℕ → Rule
 word id = record (new_rule id) { value_names = 1; required = true; action = Some Set }
+
+abbrev pub several : List ℕ → Rule
+several id = record (word id) { range = Some (record { start_inclusive = 1; end_inclusive = usize_max }); action = Some Append }
 
 abbrev pub option : List ℕ → Rule
 option id = option_rule (new_rule id) id
@@ -70,6 +73,9 @@ explain_app = command_with (codes "explain") (word (codes "writer") ∷ word (co
 abbrev pub confirm_app : App
 confirm_app = command_with (codes "confirm") (word (codes "writer") ∷ word (codes "reader") ∷ word (codes "certificate") ∷ flag (codes "json") ∷ [])
 
+abbrev pub check_app : App
+check_app = command_with (codes "check") (several (codes "files") ∷ flag (codes "json") ∷ flag (codes "progress") ∷ [])
+
 abbrev pub show_app : App
 show_app = command_with (codes "show") (word (codes "file") ∷ option (codes "reader") ∷ option (codes "limit") ∷ [])
 
@@ -87,6 +93,7 @@ abbrev pub command_app : PlainWords → App
 command_app (PlainWords.judge writer reader) = judge_app
 command_app (PlainWords.explain writer reader) = explain_app
 command_app (PlainWords.confirm writer reader certificate) = confirm_app
+command_app (PlainWords.check file) = check_app
 command_app (PlainWords.show file) = show_app
 command_app (PlainWords.header file) = header_app
 command_app (PlainWords.read writer data_file) = read_app

@@ -1,7 +1,8 @@
 -- What a parse finds in plain words.
-use Rattle.std.specs.Prelude.{◌≡◌, ◌≢◌, ℕ, List, [], ◌∷◌, Option, Result, Some, None, codes, option_map, IsOkAnd, IsSomeAnd}
-use Rattle.clap.specs.Walk.{Row, first_of, one_of}
-use Rattle.clap.specs.Matches.{first_value, one_text}
+use Rattle.std.specs.Prelude.{◌≡◌, ◌≢◌, ℕ, List, [], ◌∷◌, Option, Result, Some, None, codes, map, option_map, IfErr, IfOk, IsOkAnd, IsSomeAnd}
+use Rattle.std.specs.Option.{option_map_or}
+use Rattle.clap.specs.Walk.{Row, all_of, first_of, one_of}
+use Rattle.clap.specs.Matches.{first_value, matched_of, one_text, raw_values}
 use Rattle.clap.specs.declared.parser.matches.Found.{Found}
 use Rattle.avro_tool.specs.declared.failure.Failure.{Failure}
 use Rattle.avro_tool.specs.declared.request.Request.{Request}
@@ -35,6 +36,7 @@ read_of (PlainWords.explain writer reader) rows = first_of (codes "writer") rows
     ∷ one_of (codes "max-pairs") rows ∷ one_of (codes "json") rows ∷ []
 read_of (PlainWords.confirm writer reader certificate) rows = first_of (codes "writer") rows ∷ first_of (codes "reader") rows
     ∷ first_of (codes "certificate") rows ∷ one_of (codes "json") rows ∷ []
+read_of (PlainWords.check file) rows = one_of (codes "json") rows ∷ one_of (codes "progress") rows ∷ option_map_or (map Some) (all_of (codes "files") rows) []
 read_of (PlainWords.show file) rows = first_of (codes "file") rows ∷ first_of (codes "reader") rows ∷ first_of (codes "limit") rows ∷ []
 read_of (PlainWords.header file) rows = first_of (codes "file") rows ∷ one_of (codes "metadata") rows ∷ []
 read_of (PlainWords.read writer data_file) rows = first_of (codes "writer") rows ∷ first_of (codes "data") rows
@@ -47,6 +49,7 @@ abbrev pub found_in : PlainWords → List (Option (List ℕ))
 found_in (PlainWords.judge writer reader) = Some writer ∷ Some reader ∷ None ∷ None ∷ Some (codes "4194304") ∷ Some (codes "4096") ∷ Some (codes "128") ∷ Some (codes "false") ∷ []
 found_in (PlainWords.explain writer reader) = Some writer ∷ Some reader ∷ Some (codes "4194304") ∷ Some (codes "false") ∷ []
 found_in (PlainWords.confirm writer reader certificate) = Some writer ∷ Some reader ∷ Some certificate ∷ Some (codes "false") ∷ []
+found_in (PlainWords.check file) = Some (codes "false") ∷ Some (codes "false") ∷ Some file ∷ []
 found_in (PlainWords.show file) = Some file ∷ None ∷ None ∷ []
 found_in (PlainWords.header file) = Some file ∷ Some (codes "false") ∷ []
 found_in (PlainWords.read writer data_file) = Some writer ∷ Some data_file ∷ None ∷ None ∷ Some (codes "false") ∷ []
@@ -82,6 +85,11 @@ pub record FindsConfirm (writer reader certificate : List ℕ) (f : Found) : Typ
   pub certificate_is : first_value f (codes "certificate") ≡ Some certificate
   pub json : one_text f (codes "json") ≡ Some (codes "false")
 
+pub record FindsCheck (file : List ℕ) (f : Found) : Type 0 where
+  pub files_are : option_map raw_values (matched_of f (codes "files")) ≡ Some (file ∷ [])
+  pub json : one_text f (codes "json") ≡ Some (codes "false")
+  pub progress : one_text f (codes "progress") ≡ Some (codes "false")
+
 pub record FindsShow (file : List ℕ) (f : Found) : Type 0 where
   pub file_is : first_value f (codes "file") ≡ Some file
   pub reader : first_value f (codes "reader") ≡ None
@@ -112,3 +120,7 @@ Gives plain found = IsSomeAnd found (AsksFor plain)
 
 abbrev pub GivesOk : PlainWords → Result (Option Request) Failure → Type 0
 GivesOk plain result = IsOkAnd result (Gives plain)
+
+-- that request, unless memory runs out
+abbrev pub GivesOrMemory : PlainWords → Result (Option Request) Failure → Type 0
+GivesOrMemory plain result = IfOk result (Gives plain) × IfErr result (λ failure. failure ≡ Failure.OutOfMemory)
