@@ -1,6 +1,7 @@
 pub mod ContainerText
 pub mod DefaultLimits
 pub mod EachAnswer
+pub mod FailsOnlyFor
 pub mod FailureText
 pub mod FoundStatus
 pub mod HeaderText

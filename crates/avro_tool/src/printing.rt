@@ -1,8 +1,8 @@
 //! Answers, each printed by one write.
 
 ghost use Rattle.std.specs.Prelude.{◌≡◌, ◌≢◌, ◌⊎◌, OnOk, OnErr};
-ghost use Rattle.std.specs.Result.{IfErr};
 ghost use Rattle.avro_device.specs.PutFront.{PutsFrontOf};
+ghost use Rattle.avro_tool.specs.FailsOnlyFor.{FailsOnlyFor};
 ghost use Rattle.avro_tool.specs.declared.failure.Failure.TheVariants.{CannotPrint};
 
 use crate::failure::Failure;
@@ -13,9 +13,7 @@ pub(crate) fn print<'a, O: Output>(out: &mut O, answer: &str) -> Result<(), Fail
     ensures put { OnOk result (O.keeps out.old answer.now out.new) }
     ensures front { OnErr result (PutsFrontOf O.keeps out.old out.new answer.now) }
     ensures flushed { OnOk result (O.flushed out.new) }
-    ensures fails { IfErr result (λ f. f ≡ CannotPrint) }
-    ensures failed { OnErr result ((O.failures out.new ≢ O.failures out.old) ⊎ O.stuck out.new) }
-    ensures works { OnOk result (O.failures out.new ≡ O.failures out.old) }
+    ensures fails { FailsOnlyFor (λ f. f ≡ CannotPrint) O.failures O.stuck out.old out.new result }
 {
     print_bytes(out, answer.as_bytes())
 }
@@ -25,9 +23,7 @@ pub(crate) fn print_bytes<'a, O: Output>(out: &mut O, answer: &[u8]) -> Result<(
     ensures put { OnOk result (O.keeps out.old answer.now out.new) }
     ensures front { OnErr result (PutsFrontOf O.keeps out.old out.new answer.now) }
     ensures flushed { OnOk result (O.flushed out.new) }
-    ensures fails { IfErr result (λ f. f ≡ CannotPrint) }
-    ensures failed { OnErr result ((O.failures out.new ≢ O.failures out.old) ⊎ O.stuck out.new) }
-    ensures works { OnOk result (O.failures out.new ≡ O.failures out.old) }
+    ensures fails { FailsOnlyFor (λ f. f ≡ CannotPrint) O.failures O.stuck out.old out.new result }
 {
     match put_answer(out, answer) {
         Ok(()) => Ok(()),

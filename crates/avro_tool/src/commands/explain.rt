@@ -1,13 +1,12 @@
 //! All faults of two schemas, by name.
 
-ghost use Rattle.std.specs.Prelude.{◌≡◌, ◌≢◌, ◌⊎◌, ℕ, List, IfOk, OnOk, IsErrOf};
-ghost use Rattle.std.specs.Result.{IfErr};
+ghost use Rattle.std.specs.Prelude.{◌≡◌, ℕ, List, IfOk};
 ghost use Rattle.avro_schema.specs.SeenSchema.{schema_nodes};
 ghost use Rattle.avro_answer.specs.ExplainAnswer.{FaultsAnswer, FaultsJson, FaultsStatus};
 ghost use Rattle.avro_answer.specs.declared.form.Form.{Form};
+ghost use Rattle.avro_tool.specs.FailsOnlyFor.{FailsOnlyFor};
 ghost use Rattle.avro_tool.specs.FailureText.{IsPutFailure};
 ghost use Rattle.avro_tool.specs.FoundStatus.{finding_status};
-ghost use Rattle.avro_tool.specs.declared.failure.Failure.TheVariants.{CannotPrint, OutOfMemory};
 
 use crate::Finding;
 use crate::failure::Failure;
@@ -55,10 +54,7 @@ fn explain_pair<'a, O: Output>(
     ensures json { IfOk result (λ f. asked.now.form ≡ Form.Json → (line : List ℕ)
         × FaultsJson (schema_nodes writer.now) (schema_nodes reader.now) asked.now.max_pairs line (finding_status f) × O.keeps out.old line out.new) }
     ensures status { IfOk result (λ f. FaultsStatus (schema_nodes writer.now) (schema_nodes reader.now) asked.now.max_pairs (finding_status f)) }
-    ensures fails { IfErr result IsPutFailure }
-    ensures failed { IsErrOf result CannotPrint → (O.failures out.new ≢ O.failures out.old) ⊎ O.stuck out.new }
-    ensures memory { IsErrOf result OutOfMemory → O.failures out.new ≡ O.failures out.old }
-    ensures works { OnOk result (O.failures out.new ≡ O.failures out.old) }
+    ensures fails { FailsOnlyFor IsPutFailure O.failures O.stuck out.old out.new result }
 {
     match explain(alloc, writer, reader, asked.max_pairs as usize) {
         Ok(found) if found.faults.is_empty() => {

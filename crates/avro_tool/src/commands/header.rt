@@ -12,11 +12,12 @@ ghost use Rattle.avro_file.specs.HeaderTaken.{TakesHeaderFault};
 ghost use Rattle.avro_file.specs.Named.{IsNamed};
 ghost use Rattle.avro_file.specs.Parts.{properties_of};
 ghost use Rattle.avro_file.specs.declared.error.CopyError.{CopyError};
+ghost use Rattle.avro_tool.specs.FailsOnlyFor.{FailsOnlyFor};
 ghost use Rattle.avro_tool.specs.DefaultLimits.{default_limits};
 ghost use Rattle.avro_tool.specs.FailureText.{IsFileFailure};
 ghost use Rattle.avro_tool.specs.FoundStatus.{finding_status};
 ghost use Rattle.avro_tool.specs.HeaderText.{IsHeaderLine, IsHeaderTold, metadata_tree};
-ghost use Rattle.avro_tool.specs.declared.failure.Failure.TheVariants.{Container, CannotRead, CannotPrint, OutOfMemory};
+ghost use Rattle.avro_tool.specs.declared.failure.Failure.TheVariants.{Container, CannotRead};
 
 use crate::Finding;
 use crate::failure::Failure;
@@ -53,10 +54,7 @@ fn tell_header<'a, I: Input, O: Output>(
     ensures good { IfOk result (λ f. finding_status f ≡ 0) }
     ensures refused { (e : CopyError) (f : FileFault) → result ≡ Err (Container word.exit e) → file_fault e ≡ Some f
         → TakesHeaderFault I.gives I.ended input.old input.new default_limits.header f }
-    ensures fails { IfErr result (IsFileFailure word.exit) }
-    ensures failed { IsErrOf result CannotPrint → (O.failures out.new ≢ O.failures out.old) ⊎ O.stuck out.new }
-    ensures memory { IsErrOf result OutOfMemory → O.failures out.new ≡ O.failures out.old }
-    ensures works { OnOk result (O.failures out.new ≡ O.failures out.old) }
+    ensures fails { FailsOnlyFor (IsFileFailure word.exit) O.failures O.stuck out.old out.new result }
     ensures lost { IsErrOf result (CannotRead word.exit) → I.failures input.new ≢ I.failures input.old }
 {
     match header_line(alloc, input, is_metadata) {

@@ -1,5 +1,4 @@
-ghost use Rattle.std.specs.Prelude.{◌≡◌, ◌≢◌, ◌⊎◌, ◌≤◌, ◌++◌, ℕ, List, [], ◌∷◌, length, false, map, IfOk, OnOk, OnErr, IsErrOf, option_copied, string_bytes, Some, None, codes};
-ghost use Rattle.std.specs.Result.{IfErr};
+ghost use Rattle.std.specs.Prelude.{◌≡◌, ◌≤◌, ℕ, List, [], ◌∷◌, length, false, map, IfOk, OnOk, option_copied, string_bytes, Some, None};
 ghost use Rattle.avro_schema.specs.SeenSchema.{schema_nodes};
 ghost use Rattle.avro_judge.specs.Answered.{IfApproved};
 ghost use Rattle.avro_judge.specs.Headline.{IsRight};
@@ -8,12 +7,13 @@ ghost use Rattle.avro_answer.specs.HistoryAnswer.{LineAnswer};
 ghost use Rattle.avro_answer.specs.JsonAnswer.{IsHistoryLine};
 ghost use Rattle.avro_answer.specs.JudgeAnswer.{StatusAnswer};
 ghost use Rattle.avro_answer.specs.declared.form.Form.{Form};
+ghost use Rattle.avro_tool.specs.FailsOnlyFor.{FailsOnlyFor};
 ghost use Rattle.avro_tool.specs.EachAnswer.{later_of, EachAnswer};
 ghost use Rattle.avro_tool.specs.FailureText.{IsPutFailure};
 ghost use Rattle.avro_tool.specs.FoundStatus.{finding_status, IsVerdict};
 ghost use Rattle.avro_tool.specs.KeptCertificates.{AddsClosed};
 ghost use Rattle.avro_tool.specs.ModeAnswer.{line_word, FormAnswer, ModeAnswer};
-ghost use Rattle.avro_tool.specs.declared.failure.Failure.TheVariants.{CannotPrint, OutOfMemory};
+ghost use Rattle.avro_tool.specs.declared.failure.Failure.TheVariants.{CannotPrint};
 ghost use Rattle.avro_tool.specs.declared.request.Mode.{Mode};
 
 use crate::Finding;
@@ -119,10 +119,7 @@ fn tell_confirmed<'a, O: Output>(
     form: Form,
     out: &mut O,
 ) -> Result<Finding, Failure<'a>>
-    ensures fails { IfErr result IsPutFailure }
-    ensures failed { IsErrOf result CannotPrint → (O.failures out.new ≢ O.failures out.old) ⊎ O.stuck out.new }
-    ensures memory { IsErrOf result OutOfMemory → O.failures out.new ≡ O.failures out.old }
-    ensures works { OnOk result (O.failures out.new ≡ O.failures out.old) }
+    ensures fails { FailsOnlyFor IsPutFailure O.failures O.stuck out.old out.new result }
 {
     let answer = answer_confirmed(alloc, is_confirmed, form)?;
     print_bytes(out, &answer.text)?;
@@ -174,10 +171,7 @@ fn judge_each<'a, O: Output>(
         × EachAnswer history.now.form history.now.mode history.now.is_next (map (λ w. w.now) history.now.writers.items) schemas.now last.now history.now.limits text (finding_status f)
         × O.keeps out.old text out.new) }
     ensures verdict { IfOk result IsVerdict }
-    ensures fails { IfErr result IsPutFailure }
-    ensures failed { IsErrOf result CannotPrint → (O.failures out.new ≢ O.failures out.old) ⊎ O.stuck out.new }
-    ensures memory { IsErrOf result OutOfMemory → O.failures out.new ≡ O.failures out.old }
-    ensures works { OnOk result (O.failures out.new ≡ O.failures out.old) }
+    ensures fails { FailsOnlyFor IsPutFailure O.failures O.stuck out.old out.new result }
 {
     let files = history.writers.as_slice();
     let count = files.len().min(schemas.len());
@@ -224,10 +218,7 @@ fn judge_modes<'a, O: Output>(
     ensures answered { IfOk result (λ f. (text : List ℕ)
         × ModeAnswer history.now.form history.now.mode file.now earlier.now later.now history.now.limits text (finding_status f) × O.keeps out.old text out.new) }
     ensures verdict { IfOk result IsVerdict }
-    ensures fails { IfErr result IsPutFailure }
-    ensures failed { IsErrOf result CannotPrint → (O.failures out.new ≢ O.failures out.old) ⊎ O.stuck out.new }
-    ensures memory { IsErrOf result OutOfMemory → O.failures out.new ≡ O.failures out.old }
-    ensures works { OnOk result (O.failures out.new ≡ O.failures out.old) }
+    ensures fails { FailsOnlyFor IsPutFailure O.failures O.stuck out.old out.new result }
 {
     let line = Line { file, mode: None };
     match history.mode {
@@ -249,10 +240,7 @@ fn judge_both<'a, O: Output>(
     ensures answered { IfOk result (λ f. (text : List ℕ)
         × ModeAnswer history.now.form Mode.Full file.now earlier.now later.now history.now.limits text (finding_status f) × O.keeps out.old text out.new) }
     ensures verdict { IfOk result IsVerdict }
-    ensures fails { IfErr result IsPutFailure }
-    ensures failed { IsErrOf result CannotPrint → (O.failures out.new ≢ O.failures out.old) ⊎ O.stuck out.new }
-    ensures memory { IsErrOf result OutOfMemory → O.failures out.new ≡ O.failures out.old }
-    ensures works { OnOk result (O.failures out.new ≡ O.failures out.old) }
+    ensures fails { FailsOnlyFor IsPutFailure O.failures O.stuck out.old out.new result }
 {
     let line = Line {
         file,
@@ -281,10 +269,7 @@ fn judge_one<'a, O: Output>(
         × O.keeps out.old text out.new) }
     ensures status { IfOk result (λ f. StatusAnswer (schema_nodes writer.now) (schema_nodes reader.now) history.now.limits (finding_status f)) }
     ensures verdict { IfOk result IsVerdict }
-    ensures fails { IfErr result IsPutFailure }
-    ensures failed { IsErrOf result CannotPrint → (O.failures out.new ≢ O.failures out.old) ⊎ O.stuck out.new }
-    ensures memory { IsErrOf result OutOfMemory → O.failures out.new ≡ O.failures out.old }
-    ensures works { OnOk result (O.failures out.new ≡ O.failures out.old) }
+    ensures fails { FailsOnlyFor IsPutFailure O.failures O.stuck out.old out.new result }
 {
     let judged = judge_as(alloc, history, line, writer, reader)?;
     let finding = tell_judged(&judged, out)?;
@@ -330,10 +315,7 @@ fn certify_each<'a, O: Output>(
     // After a yes of all the certificates are those that confirm the schemas.
     ensures kept { IfOk result (λ f. length history.now.writers.items ≡ length writers.now → finding_status f ≡ 0
         → AddsClosed (nodes_of_all writers.now) (schema_nodes reader.now) certificates.old.items certificates.new.items) }
-    ensures fails { IfErr result IsPutFailure }
-    ensures failed { IsErrOf result CannotPrint → (O.failures out.new ≢ O.failures out.old) ⊎ O.stuck out.new }
-    ensures memory { IsErrOf result OutOfMemory → O.failures out.new ≡ O.failures out.old }
-    ensures works { OnOk result (O.failures out.new ≡ O.failures out.old) }
+    ensures fails { FailsOnlyFor IsPutFailure O.failures O.stuck out.old out.new result }
 {
     let files = history.writers.as_slice();
     let count = files.len().min(writers.len());
@@ -369,10 +351,7 @@ fn certify_one<'a, O: Output>(
     ensures verdict { IfOk result IsVerdict }
     ensures kept { IfOk result (λ f. finding_status f ≡ 0
         → AddsClosed (schema_nodes writer.now ∷ []) (schema_nodes reader.now) certificates.old.items certificates.new.items) }
-    ensures fails { IfErr result IsPutFailure }
-    ensures failed { IsErrOf result CannotPrint → (O.failures out.new ≢ O.failures out.old) ⊎ O.stuck out.new }
-    ensures memory { IsErrOf result OutOfMemory → O.failures out.new ≡ O.failures out.old }
-    ensures works { OnOk result (O.failures out.new ≡ O.failures out.old) }
+    ensures fails { FailsOnlyFor IsPutFailure O.failures O.stuck out.old out.new result }
 {
     let line = Line { file, mode: None };
     let judged = judge_as(alloc, history, line, writer, reader)?;
@@ -392,10 +371,7 @@ fn tell_certified<'a, O: Output>(
     ensures status { IfOk result (λ f. judged.now.answer.status ≤ 2 → finding_status f ≡ judged.now.answer.status) }
     ensures kept { OnOk result (IfApproved judged.now.verdict (λ a.
         AddsClosed (schema_nodes a.0 ∷ []) (schema_nodes a.1) certificates.old.items certificates.new.items)) }
-    ensures fails { IfErr result IsPutFailure }
-    ensures failed { IsErrOf result CannotPrint → (O.failures out.new ≢ O.failures out.old) ⊎ O.stuck out.new }
-    ensures memory { IsErrOf result OutOfMemory → O.failures out.new ≡ O.failures out.old }
-    ensures works { OnOk result (O.failures out.new ≡ O.failures out.old) }
+    ensures fails { FailsOnlyFor IsPutFailure O.failures O.stuck out.old out.new result }
 {
     let finding = tell_judged(judged, out)?;
     keep_certificate(alloc, &judged.verdict, certificates)?;
@@ -407,9 +383,7 @@ fn tell_judged<'a, O: Output>(judged: &Judged<'_>, out: &mut O) -> Result<Findin
     ensures put { OnOk result (O.keeps out.old judged.now.answer.text.items out.new) }
     ensures verdict { IfOk result IsVerdict }
     ensures status { IfOk result (λ f. judged.now.answer.status ≤ 2 → finding_status f ≡ judged.now.answer.status) }
-    ensures fails { IfErr result (λ f. f ≡ CannotPrint) }
-    ensures failed { OnErr result ((O.failures out.new ≢ O.failures out.old) ⊎ O.stuck out.new) }
-    ensures works { OnOk result (O.failures out.new ≡ O.failures out.old) }
+    ensures fails { FailsOnlyFor (λ f. f ≡ CannotPrint) O.failures O.stuck out.old out.new result }
 {
     print_bytes(out, &judged.answer.text)?;
     Ok(Finding::of_verdict(judged.answer.status))

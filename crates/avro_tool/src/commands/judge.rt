@@ -1,5 +1,4 @@
-ghost use Rattle.std.specs.Prelude.{◌≡◌, ◌≢◌, ◌⊎◌, ℕ, List, [], IfOk, OnOk, OnErr, IsErrOf};
-ghost use Rattle.std.specs.Result.{IfErr};
+ghost use Rattle.std.specs.Prelude.{◌≡◌, ◌⊎◌, ℕ, List, [], IfOk, OnErr};
 ghost use Rattle.avro_device.specs.PutFront.{PutsFrontOf};
 ghost use Rattle.avro_schema.specs.SeenSchema.{schema_nodes};
 ghost use Rattle.avro_judge.specs.Headline.{IsRight};
@@ -7,9 +6,9 @@ ghost use Rattle.avro_judge.specs.declared.verdict.Verdict.{Verdict};
 ghost use Rattle.avro_answer.specs.JudgeAnswer.{SchemasAnswer, StatusAnswer};
 ghost use Rattle.avro_answer.specs.JsonAnswer.{IsJudgedLine};
 ghost use Rattle.avro_answer.specs.declared.form.Form.{Form};
+ghost use Rattle.avro_tool.specs.FailsOnlyFor.{FailsOnlyFor};
 ghost use Rattle.avro_tool.specs.FailureText.{IsPutFailure};
 ghost use Rattle.avro_tool.specs.FoundStatus.{finding_status};
-ghost use Rattle.avro_tool.specs.declared.failure.Failure.TheVariants.{CannotPrint, OutOfMemory};
 
 use crate::Finding;
 use crate::failure::Failure;
@@ -89,10 +88,7 @@ fn tell_verdict<'a, 's, O: Output>(
     ensures front { form ≡ Form.Text → OnErr result (O.keeps out.old [] out.new ⊎ (text : List ℕ) × (status : ℕ)
         × SchemasAnswer (schema_nodes writer.now) (schema_nodes reader.now) limits.now text status × PutsFrontOf O.keeps out.old out.new text) }
     ensures status { IfOk result (λ v. StatusAnswer (schema_nodes writer.now) (schema_nodes reader.now) limits.now (finding_status v.1)) }
-    ensures fails { IfErr result IsPutFailure }
-    ensures failed { IsErrOf result CannotPrint → (O.failures out.new ≢ O.failures out.old) ⊎ O.stuck out.new }
-    ensures memory { IsErrOf result OutOfMemory → O.failures out.new ≡ O.failures out.old }
-    ensures works { OnOk result (O.failures out.new ≡ O.failures out.old) }
+    ensures fails { FailsOnlyFor IsPutFailure O.failures O.stuck out.old out.new result }
 {
     let (verdict, status) = judge_schemas(out, alloc, writer, reader, limits, form)?;
     Ok((verdict, Finding::of_verdict(status)))

@@ -1,10 +1,9 @@
-ghost use Rattle.std.specs.Prelude.{◌≡◌, ◌≢◌, ◌⊎◌, ℕ, List, IfOk, OnOk, IsErrOf};
-ghost use Rattle.std.specs.Result.{IfErr};
+ghost use Rattle.std.specs.Prelude.{◌≡◌, ℕ, List, IfOk, OnOk};
 ghost use Rattle.avro_schema.specs.SeenSchema.{schema_nodes};
 ghost use Rattle.avro_answer.specs.SchemaAnswer.{NodesAnswer};
+ghost use Rattle.avro_tool.specs.FailsOnlyFor.{FailsOnlyFor};
 ghost use Rattle.avro_tool.specs.FailureText.{IsPutFailure};
 ghost use Rattle.avro_tool.specs.FoundStatus.{finding_status};
-ghost use Rattle.avro_tool.specs.declared.failure.Failure.TheVariants.{CannotPrint, OutOfMemory};
 
 use crate::Finding;
 use crate::failure::Failure;
@@ -51,10 +50,7 @@ fn tell_schema<'a, O: Output>(
 ) -> Result<Finding, Failure<'a>>
     ensures answered { OnOk result ((text : List ℕ) × NodesAnswer shown (schema_nodes schema.now) text × O.keeps out.old text out.new) }
     ensures good { IfOk result (λ f. finding_status f ≡ 0) }
-    ensures fails { IfErr result IsPutFailure }
-    ensures failed { IsErrOf result CannotPrint → (O.failures out.new ≢ O.failures out.old) ⊎ O.stuck out.new }
-    ensures memory { IsErrOf result OutOfMemory → O.failures out.new ≡ O.failures out.old }
-    ensures works { OnOk result (O.failures out.new ≡ O.failures out.old) }
+    ensures fails { FailsOnlyFor IsPutFailure O.failures O.stuck out.old out.new result }
 {
     let line = avro_answer::show_schema(alloc, schema, shown)?;
     print_bytes(out, &line)?;

@@ -1,10 +1,10 @@
-ghost use Rattle.std.specs.Prelude.{◌≡◌, ◌≢◌, ◌⊎◌, IfOk, OnOk, OnErr, IsErrOf};
-ghost use Rattle.std.specs.Result.{IfErr};
+ghost use Rattle.std.specs.Prelude.{◌≡◌, IfOk, OnOk};
 ghost use Rattle.avro_answer.specs.JsonAnswer.{json_line, counts_tree};
 ghost use Rattle.avro_answer.specs.declared.form.Form.{Form};
+ghost use Rattle.avro_tool.specs.FailsOnlyFor.{FailsOnlyFor};
 ghost use Rattle.avro_tool.specs.FailureText.{IsPutFailure};
 ghost use Rattle.avro_tool.specs.FoundStatus.{finding_status};
-ghost use Rattle.avro_tool.specs.declared.failure.Failure.TheVariants.{CannotPrint, OutOfMemory};
+ghost use Rattle.avro_tool.specs.declared.failure.Failure.TheVariants.{CannotPrint};
 
 use crate::Finding;
 use crate::failure::Failure;
@@ -70,9 +70,7 @@ pub(crate) fn tell_counts<'a, O: Output>(
     counts: Counts,
 ) -> Result<Finding, Failure<'a>>
     ensures good { IfOk result (λ f. finding_status f ≡ 0) }
-    ensures fails { IfErr result (λ f. f ≡ CannotPrint) }
-    ensures failed { OnErr result ((O.failures out.new ≢ O.failures out.old) ⊎ O.stuck out.new) }
-    ensures works { OnOk result (O.failures out.new ≡ O.failures out.old) }
+    ensures fails { FailsOnlyFor (λ f. f ≡ CannotPrint) O.failures O.stuck out.old out.new result }
 {
     print_counts(out, counts)?;
     Ok(Finding::Good)
@@ -90,10 +88,7 @@ pub(crate) fn tell_file_counts<'a, O: Output>(
 ) -> Result<Finding, Failure<'a>>
     ensures json { form ≡ Form.Json → OnOk result (O.keeps out.old (json_line (counts_tree word.now counts.items counts.blocks)) out.new) }
     ensures good { IfOk result (λ f. finding_status f ≡ 0) }
-    ensures fails { IfErr result IsPutFailure }
-    ensures failed { IsErrOf result CannotPrint → (O.failures out.new ≢ O.failures out.old) ⊎ O.stuck out.new }
-    ensures memory { IsErrOf result OutOfMemory → O.failures out.new ≡ O.failures out.old }
-    ensures works { OnOk result (O.failures out.new ≡ O.failures out.old) }
+    ensures fails { FailsOnlyFor IsPutFailure O.failures O.stuck out.old out.new result }
 {
     let Counts { items, blocks } = counts;
     match form {
@@ -109,9 +104,7 @@ pub(crate) fn tell_file_counts<'a, O: Output>(
 
 /// Prints the line of two counts by one write.
 pub(crate) fn print_counts<'a, O: Output>(out: &mut O, counts: Counts) -> Result<(), Failure<'a>>
-    ensures fails { IfErr result (λ f. f ≡ CannotPrint) }
-    ensures failed { OnErr result ((O.failures out.new ≢ O.failures out.old) ⊎ O.stuck out.new) }
-    ensures works { OnOk result (O.failures out.new ≡ O.failures out.old) }
+    ensures fails { FailsOnlyFor (λ f. f ≡ CannotPrint) O.failures O.stuck out.old out.new result }
 {
     let Counts { items, blocks } = counts;
     let mut line = Cursor::new([0; ROOM_OF_COUNTS]);
