@@ -1,17 +1,19 @@
 -- What was put of the text of a datum.
-use Rattle.std.proofs.Common.{◌≡◌, ◌∙◌, ℕ, List, [], ◌++◌, Result, Ok, Err, refl, sym, ap, subst, append_assoc}
-use Rattle.std.specs.Prelude.{IfOk, IsErrOf, OnErr, OnOk}
+use Rattle.std.proofs.Common.{◌≡◌, ◌≢◌, ◌∙◌, ℕ, List, [], ◌++◌, Option, Result, Ok, Err, refl, sym, ap, subst, append_assoc}
+use Rattle.std.specs.Prelude.{◌⊎◌, IfOk, IsErrOf, OnErr, OnOk}
 use Rattle.std.specs.Result.{IfErr}
+use Rattle.avro_schema.specs.Fits.{LimitValues}
+use Rattle.avro_schema.specs.Node.{Node}
 use Rattle.avro_device.specs.PutFront.{PutsFrontOf}
 use Rattle.avro_display.specs.Pieces.{PutsText}
 use Rattle.avro_display.specs.declared.put_error.PutError.{PutError}
 use Rattle.avro_display.proofs.public.Fronts.{fronts_both, fronts_held, fronts_longer}
-use Rattle.avro_resolve.specs.declared.error.ReadResolveError.{ReadResolveError}
-use Rattle.avro_answer.specs.DataPut.{IfPutFails, IfRefused}
+use Rattle.avro_answer.specs.DataRead.{IsDatumTold}
 use Rattle.avro_answer.specs.declared.data_error.DataError.{DataError}
 use Rattle.avro_answer.specs.declared.form.Form.{Form}
 use Rattle.avro_answer.specs.inside.AtFront.{of_put}
 use Rattle.avro_answer.specs.inside.DatumParts.{head_of, tail_of, text_around}
+use Rattle.avro_answer.specs.inside.DatumPut.{DatumPut}
 
 pub if_ok : {A E : Type 0} {P Q : A → Type 0} → ((a : A) → P a → Q a) → (r : Result A E) → IfOk r P → IfOk r Q
 if_ok f (Ok a) h = f a h
@@ -23,35 +25,21 @@ if_err f (Err e) h = f e h
 
 -- ---- A result of putting, as one of data
 
-module _ {A : Type 0} where
-  ok_of : {P Q : Type 0} → (P → Q) → (r : Result A PutError) → OnOk r P → OnOk (of_put r) Q
-  ok_of f (Ok x) h = f h
-  ok_of f (Err e) h = tt
+module _ {O A : Type 0} (keeps : O → List ℕ → O → Type 0) (failures : O → ℕ) (stuck : O → Type 0) (writer : List Node) (reader : Option (List Node)) (limits : LimitValues) (form : Form) (bytes : List ℕ) (s t : O) (text : List ℕ)
+    (told : IsDatumTold writer reader limits form 0 bytes text) where
+  by_put : (r : Result A PutError) → OnOk r (keeps s text t) → OnErr r (PutsFrontOf keeps s t text) → OnOk r (failures t ≡ failures s)
+      → (IsErrOf r PutError.CannotWrite → (failures t ≢ failures s) ⊎ stuck t) → (IsErrOf r PutError.OutOfMemory → failures t ≡ failures s)
+      → DatumPut keeps failures stuck writer reader limits form bytes s t (of_put r)
+  by_put (Ok x) put front works fails memory =
+      record { put = (text, told, put); front = tt; refused = tt; works = works; fails = λ is. absurd cc; memory = λ is. absurd cc; unused = tt }
+  by_put (Err e) put front works fails memory =
+      record { put = tt; front = (text, told, front); refused = tt; works = tt; fails = λ is. fails cc; memory = λ is. memory cc; unused = tt }
 
-  err_of : {P Q : Type 0} → (P → Q) → (r : Result A PutError) → OnErr r P → IfPutFails (of_put r) Q
-  err_of f (Ok x) h = tt
-  err_of f (Err e) h = f h
-
-  accepted : (P : ReadResolveError → Type 0) (r : Result A PutError) → IfRefused (of_put r) P
-  accepted P (Ok x) = tt
-  accepted P (Err e) = tt
-
-  failed_with : (e : PutError) (r : Result A PutError) → of_put r ≡ Err (DataError.Put e) → r ≡ Err e
-  failed_with e (Ok x) is = absurd cc
-  failed_with e (Err other) is = cc
-
-  module _ (r : Result A PutError) (d : Result A DataError) (same : d ≡ of_put r) where
-    pub ok_as_data : {P Q : Type 0} → (P → Q) → OnOk r P → OnOk d Q
-    ok_as_data {P} {Q} f h = subst (λ (x : Result A DataError). OnOk x Q) (sym same) (ok_of f r h)
-
-    pub err_as_data : {P Q : Type 0} → (P → Q) → OnErr r P → IfPutFails d Q
-    err_as_data {P} {Q} f h = subst (λ (x : Result A DataError). IfPutFails x Q) (sym same) (err_of f r h)
-
-    pub not_refused : (P : ReadResolveError → Type 0) → IfRefused d P
-    not_refused P = subst (λ (x : Result A DataError). IfRefused x P) (sym same) (accepted P r)
-
-    pub error_as_data : (e : PutError) → IsErrOf d (DataError.Put e) → IsErrOf r e
-    error_as_data e is = failed_with e r (sym same ∙ is)
+  pub as_put : (r : Result A PutError) (d : Result A DataError) → d ≡ of_put r → OnOk r (keeps s text t) → OnErr r (PutsFrontOf keeps s t text) → OnOk r (failures t ≡ failures s)
+      → (IsErrOf r PutError.CannotWrite → (failures t ≢ failures s) ⊎ stuck t) → (IsErrOf r PutError.OutOfMemory → failures t ≡ failures s)
+      → DatumPut keeps failures stuck writer reader limits form bytes s t d
+  as_put r d same put front works fails memory =
+      subst (λ (x : Result A DataError). DatumPut keeps failures stuck writer reader limits form bytes s t x) (sym same) (by_put r put front works fails memory)
 
 -- ---- A text in parts
 

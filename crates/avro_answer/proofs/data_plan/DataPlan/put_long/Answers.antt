@@ -1,48 +1,25 @@
-use Rattle.std.proofs.Common.{◌≡◌, []}
+use Rattle.std.proofs.Common.{refl}
 use Rattle.std.specs.Prelude.{option_map}
-use Rattle.std.specs.Option.{IfSome}
 use Rattle.avro_schema.specs.Node.{root_of}
 use Rattle.avro_schema.specs.SeenSchema.{schema_nodes}
-use Rattle.avro_resolve.specs.declared.error.ReadResolveError.{ReadResolveError}
-use Rattle.avro_answer.specs.DataRead.{fault_found}
 use Rattle.avro_display.specs.DisplayTree.{display_text}
-use Rattle.avro_display.specs.declared.put_error.PutError.{PutError}
-use Rattle.avro_answer.specs.ReadAnswer.{IsAllFound, nodes_for}
+use Rattle.avro_answer.specs.ReadAnswer.{nodes_for}
 use Rattle.avro_answer.specs.inside.DatumParts.{text_around}
 use Rattle.avro_answer.proofs.DataFound.{found_told}
-use Rattle.avro_answer.proofs.DataPuts.{err_as_data, error_as_data, not_refused, ok_as_data}
+use Rattle.avro_answer.proofs.DataPuts.{as_put}
 use Rattle.avro_answer.proofs.data_plan.DataPlan.put_long.Goals as goal
 
-pub returns-in-Ok-clause-put : goal.returns-in-Ok-clause-put
-returns-in-Ok-clause-put g c =
+pub returns-in-Ok : goal.returns-in-Ok
+returns-in-Ok g c =
     let W = schema_nodes c.args.self.now.0 in
     let R = option_map schema_nodes c.args.self.now.1 in
+    let found = c.put_found.ensures in
     let (u, all) = c.in-Ok.ensures.found in
-    let told = found_told W R c.args.limits.now c.args.bytes.now c.args.form c.in-Ok.len u all in
-    ok_as_data c.put_found.result c.as_data.result c.as_data.ensures (λ put. (text_around c.args.form (display_text (nodes_for W R) (root_of (nodes_for W R)) u) c.in-Ok.len, told, put)) (c.put_found.ensures.put u all)
+    as_put g.O.Output.keeps g.O.Output.failures g.O.Output.stuck W R c.args.limits.now c.args.form c.args.bytes.now c.args.out.now c.put_found.new.out
+    (text_around c.args.form (display_text (nodes_for W R) (root_of (nodes_for W R)) u) c.in-Ok.len)
+    (found_told W R c.args.limits.now c.args.bytes.now c.args.form c.in-Ok.len u all) c.put_found.result c.as_data.result c.as_data.ensures
+    (found.put u all) (found.front u all) found.works found.fails found.memory
 
-pub returns-in-Ok-clause-front : goal.returns-in-Ok-clause-front
-returns-in-Ok-clause-front g c =
-    let W = schema_nodes c.args.self.now.0 in
-    let R = option_map schema_nodes c.args.self.now.1 in
-    let (u, all) = c.in-Ok.ensures.found in
-    let told = found_told W R c.args.limits.now c.args.bytes.now c.args.form c.in-Ok.len u all in
-    err_as_data c.put_found.result c.as_data.result c.as_data.ensures (λ put. (text_around c.args.form (display_text (nodes_for W R) (root_of (nodes_for W R)) u) c.in-Ok.len, told, put)) (c.put_found.ensures.front u all)
-
-pub returns-in-Ok-clause-refused : goal.returns-in-Ok-clause-refused
-returns-in-Ok-clause-refused g c =
-    not_refused c.put_found.result c.as_data.result c.as_data.ensures (λ (e : ReadResolveError). g.O.Output.keeps c.args.out.now [] c.put_found.new.out
-    × IfSome (fault_found e) (IsAllFound (schema_nodes c.args.self.now.0) (option_map schema_nodes c.args.self.now.1) c.args.limits.now 0 c.args.bytes.now))
-
-pub returns-in-Ok-clause-unused : goal.returns-in-Ok-clause-unused
-returns-in-Ok-clause-unused g c =
-    not_refused c.put_found.result c.as_data.result c.as_data.ensures (λ (e : ReadResolveError). g.O.Output.failures c.put_found.new.out ≡ g.O.Output.failures c.args.out.now)
-
-pub returns-in-Ok-clause-works : goal.returns-in-Ok-clause-works
-returns-in-Ok-clause-works g c = ok_as_data c.put_found.result c.as_data.result c.as_data.ensures (λ same. same) c.put_found.ensures.works
-
-pub returns-in-Ok-clause-fails : goal.returns-in-Ok-clause-fails
-returns-in-Ok-clause-fails g c = λ is. c.put_found.ensures.fails (error_as_data c.put_found.result c.as_data.result c.as_data.ensures PutError.CannotWrite is)
-
-pub returns-in-Ok-clause-memory : goal.returns-in-Ok-clause-memory
-returns-in-Ok-clause-memory g c = λ is. c.put_found.ensures.memory (error_as_data c.put_found.result c.as_data.result c.as_data.ensures PutError.OutOfMemory is)
+pub returns-in-Err : goal.returns-in-Err
+returns-in-Err g c =
+    record { put = tt; front = tt; refused = (g.met.O.Output.none c.args.out.now, c.in-Err.ensures.refused); works = tt; fails = λ is. absurd cc; memory = λ is. absurd cc; unused = refl }
