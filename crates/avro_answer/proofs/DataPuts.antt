@@ -8,12 +8,12 @@ use Rattle.avro_device.specs.PutFront.{PutsFrontOf}
 use Rattle.avro_display.specs.Pieces.{PutsText}
 use Rattle.avro_display.specs.declared.put_error.PutError.{PutError}
 use Rattle.avro_display.proofs.public.Fronts.{fronts_both, fronts_held, fronts_longer}
+use Rattle.avro_answer.specs.DataPut.{DatumPut}
 use Rattle.avro_answer.specs.DataRead.{IsDatumTold}
 use Rattle.avro_answer.specs.declared.data_error.DataError.{DataError}
 use Rattle.avro_answer.specs.declared.form.Form.{Form}
 use Rattle.avro_answer.specs.inside.AtFront.{of_put}
 use Rattle.avro_answer.specs.inside.DatumParts.{head_of, tail_of, text_around}
-use Rattle.avro_answer.specs.inside.DatumPut.{DatumPut}
 
 pub if_ok : {A E : Type 0} {P Q : A → Type 0} → ((a : A) → P a → Q a) → (r : Result A E) → IfOk r P → IfOk r Q
 if_ok f (Ok a) h = f a h
@@ -29,7 +29,7 @@ module _ {O A : Type 0} (keeps : O → List ℕ → O → Type 0) (failures : O 
     (told : IsDatumTold writer reader limits form 0 bytes text) where
   by_put : (r : Result A PutError) → OnOk r (keeps s text t) → OnErr r (PutsFrontOf keeps s t text) → OnOk r (failures t ≡ failures s)
       → (IsErrOf r PutError.CannotWrite → (failures t ≢ failures s) ⊎ stuck t) → (IsErrOf r PutError.OutOfMemory → failures t ≡ failures s)
-      → DatumPut keeps failures stuck writer reader limits form bytes s t (of_put r)
+      → DatumPut keeps failures stuck writer reader limits form 0 bytes s t (of_put r)
   by_put (Ok x) put front works fails memory =
       record { put = (text, told, put); front = tt; refused = tt; works = works; fails = λ is. absurd cc; memory = λ is. absurd cc; unused = tt }
   by_put (Err e) put front works fails memory =
@@ -37,9 +37,9 @@ module _ {O A : Type 0} (keeps : O → List ℕ → O → Type 0) (failures : O 
 
   pub as_put : (r : Result A PutError) (d : Result A DataError) → d ≡ of_put r → OnOk r (keeps s text t) → OnErr r (PutsFrontOf keeps s t text) → OnOk r (failures t ≡ failures s)
       → (IsErrOf r PutError.CannotWrite → (failures t ≢ failures s) ⊎ stuck t) → (IsErrOf r PutError.OutOfMemory → failures t ≡ failures s)
-      → DatumPut keeps failures stuck writer reader limits form bytes s t d
+      → DatumPut keeps failures stuck writer reader limits form 0 bytes s t d
   as_put r d same put front works fails memory =
-      subst (λ (x : Result A DataError). DatumPut keeps failures stuck writer reader limits form bytes s t x) (sym same) (by_put r put front works fails memory)
+      subst (λ (x : Result A DataError). DatumPut keeps failures stuck writer reader limits form 0 bytes s t x) (sym same) (by_put r put front works fails memory)
 
 -- ---- A text in parts
 

@@ -1,7 +1,6 @@
 -- What only proofs and private contracts need.
 pub mod AtFront
 pub mod DatumParts
-pub mod DatumPut
 pub mod FaultsAdded
 pub mod FrontKept
 pub mod JsonText

@@ -47,7 +47,7 @@ impl<'a> Model for DataPlan<'a> {
 }
 
 impl<'a> DataPlan<'a> {
-    ghost use Rattle.std.specs.Prelude.{◌≡◌, ◌≢◌, ◌⊎◌, ◌++◌, ℕ, [], List, Ok, IfOk, OnOk, OnErr, IsErrOf, option_map, option_copied};
+    ghost use Rattle.std.specs.Prelude.{◌≡◌, ◌≢◌, ◌⊎◌, ◌++◌, ℕ, List, Ok, IfOk, OnOk, OnErr, IsErrOf, option_map, option_copied};
     ghost use Rattle.std.specs.Option.{IfSome};
     ghost use Rattle.std.specs.Result.{IfErr};
     ghost use Rattle.avro_schema.specs.Node.{root_of};
@@ -59,12 +59,11 @@ impl<'a> DataPlan<'a> {
     ghost use Rattle.avro_display.specs.Pieces.{PutsText};
     ghost use Rattle.avro_display.specs.declared.put_error.PutError.{PutError};
     ghost use Rattle.avro_show.specs.Spans.{StandsIn};
-    ghost use Rattle.avro_answer.specs.DataPut.{IfPutFails, IfRefused};
+    ghost use Rattle.avro_answer.specs.DataPut.{DatumPut};
     ghost use Rattle.avro_answer.specs.DataRead.{fault_found, IsDatumTold};
     ghost use Rattle.avro_answer.specs.ReadAnswer.{datum, IsAllFound, nodes_for, read_as};
     ghost use Rattle.avro_answer.specs.inside.AtFront.{IsDisplayed};
     ghost use Rattle.avro_answer.specs.inside.DatumParts.{text_around};
-    ghost use Rattle.avro_answer.specs.inside.DatumPut.{DatumPut};
     ghost use Rattle.avro_answer.specs.declared.data_error.DataError.{DataError};
 
     /// The plan of a writer's schema, and of a reader's where there is one.
@@ -150,31 +149,7 @@ impl<'a> DataPlan<'a> {
         form: Form,
         scratch: &mut Scratch,
     ) -> Result<(), DataError>
-        ensures put { OnOk result ((text : List ℕ) × IsDatumTold (schema_nodes self.now.0) (option_map schema_nodes self.now.1) limits.now form 0 bytes.now text
-            × O.keeps out.old text out.new) }
-        ensures front { IfPutFails result ((text : List ℕ) × IsDatumTold (schema_nodes self.now.0) (option_map schema_nodes self.now.1) limits.now form 0 bytes.now text
-            × PutsFrontOf O.keeps out.old out.new text) }
-        ensures refused { IfRefused result (λ e. O.keeps out.old [] out.new
-            × IfSome (fault_found e) (IsAllFound (schema_nodes self.now.0) (option_map schema_nodes self.now.1) limits.now 0 bytes.now)) }
-        ensures works { OnOk result (O.failures out.new ≡ O.failures out.old) }
-        ensures fails { IsErrOf result (DataError.Put PutError.CannotWrite) → (O.failures out.new ≢ O.failures out.old) ⊎ O.stuck out.new }
-        ensures memory { IsErrOf result (DataError.Put PutError.OutOfMemory) → O.failures out.new ≡ O.failures out.old }
-        ensures unused { IfRefused result (λ e. O.failures out.new ≡ O.failures out.old) }
-    {
-        self.put_front(out, alloc, bytes, limits, form, scratch)
-    }
-
-    /// The same, with what [`DataPlan::put`] promises in one record.
-    fn put_front<O: Output>(
-        &self,
-        out: &mut O,
-        alloc: Global,
-        bytes: &[u8],
-        limits: &Limits,
-        form: Form,
-        scratch: &mut Scratch,
-    ) -> Result<(), DataError>
-        ensures { DatumPut O.keeps O.failures O.stuck (schema_nodes self.now.0) (option_map schema_nodes self.now.1) limits.now form bytes.now out.old out.new result }
+        ensures { DatumPut O.keeps O.failures O.stuck (schema_nodes self.now.0) (option_map schema_nodes self.now.1) limits.now form 0 bytes.now out.old out.new result }
     {
         match self.display(alloc, bytes, limits, &mut *scratch) {
             Ok(len) => as_data(put_shown(out, alloc, scratch, len, form)),
@@ -226,7 +201,7 @@ impl<'a> DataPlan<'a> {
         limits: &Limits,
         form: Form,
     ) -> Result<(), DataError>
-        ensures { DatumPut O.keeps O.failures O.stuck (schema_nodes self.now.0) (option_map schema_nodes self.now.1) limits.now form bytes.now out.old out.new result }
+        ensures { DatumPut O.keeps O.failures O.stuck (schema_nodes self.now.0) (option_map schema_nodes self.now.1) limits.now form 0 bytes.now out.old out.new result }
     {
         match self.pass(alloc, bytes, limits) {
             Ok(len) => as_data(self.put_found(out, alloc, bytes, limits, len, form)),

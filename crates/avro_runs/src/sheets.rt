@@ -7,7 +7,8 @@ use crate::told::{
     about_step, any_step, json_step, pointer_step, size_step, told_step, writes_step,
 };
 use anyhow::{Error, Result, anyhow};
-use std::rt::{Clock, Files};
+use avro_tool::Texts;
+use std::rt::Clock;
 
 /// What the program reads in later runs.
 fn input_step<R: AllocGlobal>(rt: &R, sheet: &mut Sheet, text: &str) -> Result<bool> {
@@ -16,7 +17,7 @@ fn input_step<R: AllocGlobal>(rt: &R, sheet: &mut Sheet, text: &str) -> Result<b
 }
 
 /// A run. All that the one before wrote must be told.
-fn next_step<R: Files + Clock + AllocGlobal>(
+fn next_step<R: Texts + Clock>(
     rt: &R,
     sheet: &mut Sheet,
     word: &str,
@@ -34,7 +35,7 @@ fn next_step<R: Files + Clock + AllocGlobal>(
 }
 
 /// Takes a step, and tells whether it holds.
-fn step<R: Files + Clock + AllocGlobal>(
+fn step<R: Texts + Clock>(
     rt: &R,
     sheet: &mut Sheet,
     word: &str,
@@ -89,7 +90,7 @@ fn fault(line: &str, sheet: &Sheet) -> Error {
 /// # Errors
 ///
 /// A line does not hold, a run wrote what no line tells, or memory ran out.
-pub(crate) fn check_sheet<R: Files + Clock + AllocGlobal>(rt: &R, lines: &str) -> Result<usize> {
+pub(crate) fn check_sheet<R: Texts + Clock>(rt: &R, lines: &str) -> Result<usize> {
     let mut sheet = Sheet::new(rt.alloc());
     for line in lines.lines() {
         let (word, text) = halves(line);

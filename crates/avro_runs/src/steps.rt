@@ -3,9 +3,9 @@
 use crate::devices::{Given, Kept};
 use crate::escapes::{halves, text_of};
 use anyhow::Result;
-use avro_tool::run;
+use avro_tool::{Texts, run};
 use std::alloc::{AllocError, Global};
-use std::rt::{Clock, Files};
+use std::rt::Clock;
 
 /// What a run of the program did.
 #[derive(Drop)]
@@ -84,7 +84,7 @@ fn words_of(alloc: Global, line: &str) -> Result<Vec<String>, AllocError> {
 /// # Errors
 ///
 /// Memory ran out before the run.
-pub(crate) fn outcome_from<R: Files + Clock + AllocGlobal>(
+pub(crate) fn outcome_from<R: Texts + Clock>(
     rt: &R,
     line: &str,
     input: &mut Given<'_>,
@@ -98,7 +98,7 @@ pub(crate) fn outcome_from<R: Files + Clock + AllocGlobal>(
 }
 
 /// A run of a line of a sheet, where the output and the error take these numbers of bytes.
-fn run_line<R: Files + Clock + AllocGlobal>(
+fn run_line<R: Texts + Clock>(
     rt: &R,
     sheet: &mut Sheet,
     line: &str,
@@ -116,7 +116,7 @@ fn run_line<R: Files + Clock + AllocGlobal>(
 }
 
 /// A run, `STATUS WORDS`.
-pub(crate) fn run_step<R: Files + Clock + AllocGlobal>(
+pub(crate) fn run_step<R: Texts + Clock>(
     rt: &R,
     sheet: &mut Sheet,
     text: &str,
@@ -127,7 +127,7 @@ pub(crate) fn run_step<R: Files + Clock + AllocGlobal>(
 }
 
 /// A run whose output takes only some bytes, `ROOM STATUS WORDS`. The status is the same where the error takes none.
-pub(crate) fn room_step<R: Files + Clock + AllocGlobal>(
+pub(crate) fn room_step<R: Texts + Clock>(
     rt: &R,
     sheet: &mut Sheet,
     text: &str,
@@ -146,7 +146,7 @@ pub(crate) fn room_step<R: Files + Clock + AllocGlobal>(
 
 /// A run whose words are usage: the status is 64, nothing goes to the output, the errors are none of the program's own
 /// lines, and no input is read.
-pub(crate) fn usage_step<R: Files + Clock + AllocGlobal>(
+pub(crate) fn usage_step<R: Texts + Clock>(
     rt: &R,
     sheet: &mut Sheet,
     line: &str,

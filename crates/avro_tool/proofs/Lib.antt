@@ -3,7 +3,9 @@ pub mod EachLines
 mod FoundLemmas
 mod GrammarLemmas
 pub mod Headers
+mod PlainAsked
 pub mod Kept
+mod KnownTexts
 mod PlainLaws
 mod PlainWalk
 pub mod Verdicts

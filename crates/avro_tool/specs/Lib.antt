@@ -8,4 +8,5 @@ pub mod HeaderText
 pub mod KeptCertificates
 pub mod ModeAnswer
 pub mod PlainWords
+pub mod PlainAnswers
 pub mod inside

@@ -6,3 +6,4 @@ pub(crate) mod kept;
 pub(crate) mod late;
 pub(crate) mod refutation;
 pub(crate) mod schema;
+pub(crate) mod texts;

@@ -14,9 +14,16 @@
 //! `run` makes an `Output` of the writer for the answers, and the commands put into that. No failed call of it is retried.
 #![tactic(auto)]
 
-ghost use Rattle.std.specs.Prelude.{◌≡◌, ◌⊎◌, ◌≤◌};
+ghost use Rattle.std.specs.Borrow.{Bor};
+ghost use Rattle.std.specs.Prelude.{◌≡◌, ◌⊎◌, ◌≤◌, ◌∷◌, ℕ, List, map, string_bytes, IfOk};
+ghost use Rattle.avro_answer.specs.declared.form.Form.{Form};
 ghost use Rattle.avro_tool.specs.FailureText.{exit_status};
 ghost use Rattle.avro_tool.specs.FoundStatus.{finding_status, first_failed, IsVerdict, worse};
+ghost use Rattle.avro_tool.specs.PlainAnswers.{AnswersConfirm, AnswersExplain, AnswersJudge, AnswersPlain};
+ghost use Rattle.avro_tool.specs.PlainWords.{files_of, name_of, AreApart, HaveNoOption, PlainWords};
+ghost use Rattle.avro_tool.specs.declared.request.Explaining.{Explaining};
+ghost use Rattle.avro_tool.specs.declared.request.Judging.{Judging};
+ghost use Rattle.avro_tool.specs.declared.request.Request.{Request as Asked};
 
 mod command_line;
 mod commands;
@@ -29,18 +36,19 @@ mod printing;
 mod progress;
 mod request;
 
-use avro_device::{Output, WriteOutput};
+use avro_device::{Output, WriteOutput, put_all};
 use command_line::request_of;
 use commands::{
     check, confirm, copy, explain, header, history, judge, pipe, read, schema, show, version,
 };
 use failure::Failure;
 use files::kept::refuse_files;
+pub use files::texts::Texts;
 use request::Request;
 use std::alloc::Global;
 use std::io;
 use std::io::{Read, Write};
-use std::rt::{Clock, Files};
+use std::rt::Clock;
 
 /// What a command found, which gives the exit status.
 #[derive(Clone, Copy, PartialEq, Eq)]
@@ -113,29 +121,43 @@ pub fn refuse_words<E: Write>(error: &io::Error, err: &mut E) -> u8 {
 /// no, 2 undecided, 3 refused input, 4 a file's fault, 5 out of memory, 64 usage. Answers go to
 /// `out`, errors and usage texts to `err`; that a file is standard error goes to `out`, since it would stand in the
 /// file. Only the command that copies `input` reads it.
-pub fn run<R: Files + Clock + AllocGlobal, I: Read, O: Write, E: Write>(
+pub fn run<R: Texts + Clock, I: Read, O: Write, E: Write>(
     rt: &R,
     words: &[String],
     input: &mut I,
     out: &mut O,
     err: &mut E,
 ) -> u8 {
+    run_over(rt, words, input, &mut WriteOutput::new(out), err)
+}
+
+/// Runs the program on its words, as [`run`] does, over an output.
+pub fn run_over<R: Texts + Clock, I: Read, O: Output, E: Write>(
+    rt: &R,
+    words: &[String],
+    input: &mut I,
+    out: &mut O,
+    err: &mut E,
+) -> u8
+    ensures { (plain : PlainWords) → map string_bytes words.now ≡ name_of plain ∷ files_of plain → HaveNoOption (files_of plain) → AreApart plain
+        → result ≤ 2 → AnswersPlain (R.known rt.now) (λ text. O.keeps out.old text out.new) result plain }
+{
     match answer(rt, words, input, out, err) {
         Ok(finding) => finding.status(),
         Err(failure) if matches!(failure, Failure::IsError(_)) => report(rt.alloc(), &failure, out),
-        Err(failure) => report(rt.alloc(), &failure, err),
+        Err(failure) => report(rt.alloc(), &failure, &mut WriteOutput::new(err)),
     }
 }
 
 /// Reports a failure by one write, and returns its status. If standard error fails too, the
 /// status is all that can be reported; if memory runs out for the line, that is reported in its
 /// place.
-fn report<E: Write>(alloc: Global, failure: &Failure<'_>, err: &mut E) -> u8
+fn report<E: Output>(alloc: Global, failure: &Failure<'_>, err: &mut E) -> u8
     ensures { (result ≡ exit_status failure.now) ⊎ (result ≡ 5) }
 {
     match failure.line(alloc) {
         Ok(line) => {
-            let _ = err.write_all(&line);
+            let _ = put_all(err, &line);
             failure.status()
         }
         Err(_) => report_memory(err),
@@ -143,35 +165,45 @@ fn report<E: Write>(alloc: Global, failure: &Failure<'_>, err: &mut E) -> u8
 }
 
 /// Reports that memory ran out, without allocating.
-fn report_memory<E: Write>(err: &mut E) -> u8
+fn report_memory<E: Output>(err: &mut E) -> u8
     ensures { result ≡ 5 }
 {
     let failure = Failure::OutOfMemory;
-    let _ = err.write_all(failure.fixed_line().as_bytes());
+    let _ = put_all(err, failure.fixed_line().as_bytes());
     failure.status()
 }
 
 /// Does what the words ask for.
-fn answer<'a, R: Files + Clock + AllocGlobal, I: Read, O: Write, E: Write>(
+fn answer<'a, R: Texts + Clock, I: Read, O: Output, E: Write>(
     rt: &R,
     words: &'a [String],
     input: &mut I,
     out: &mut O,
     err: &mut E,
-) -> Result<Finding, Failure<'a>> {
+) -> Result<Finding, Failure<'a>>
+    ensures { (plain : PlainWords) → map string_bytes words.entry.now ≡ name_of plain ∷ files_of plain → HaveNoOption (files_of plain) → AreApart plain
+        → IfOk result (λ f. AnswersPlain (R.known rt.now) (λ text. O.keeps out.old text out.new) (finding_status f) plain) }
+{
     let request = request_of(rt.alloc(), words)?;
     refuse_files(rt, &request)?;
-    answer_request(rt, &request, input, &mut WriteOutput::new(out), err)
+    answer_request(rt, &request, input, out, err)
 }
 
 /// Does what is asked for.
-fn answer_request<'a, R: Files + Clock + AllocGlobal, I: Read, O: Output, E: Write>(
+fn answer_request<'a, R: Texts + Clock, I: Read, O: Output, E: Write>(
     rt: &R,
     request: &Request<'a>,
     input: &mut I,
     out: &mut O,
     err: &mut E,
-) -> Result<Finding, Failure<'a>> {
+) -> Result<Finding, Failure<'a>>
+    ensures judge { (asked : Judging) → request.now ≡ Asked.Judge asked → asked.form ≡ Form.Text
+        → IfOk result (λ f. AnswersJudge (R.known rt.now) (λ text. O.keeps out.old text out.new) (finding_status f) asked.writer.now asked.reader.now asked.limits) }
+    ensures explain { (asked : Explaining) → request.now ≡ Asked.Explain asked → asked.form ≡ Form.Text
+        → IfOk result (λ f. AnswersExplain (R.known rt.now) (λ text. O.keeps out.old text out.new) (finding_status f) asked.writer.now asked.reader.now asked.max_pairs) }
+    ensures confirm { (writer reader certificate : Bor (List ℕ)) → request.now ≡ Asked.Confirm writer reader certificate Form.Text
+        → IfOk result (λ f. AnswersConfirm (R.known rt.now) (λ text. O.keeps out.old text out.new) (finding_status f) writer.now reader.now certificate.now) }
+{
     match request {
         Request::Judge(asked) => judge::judge_files(rt, asked, out),
         Request::Explain(asked) => explain::explain_files(rt, asked, out),

@@ -6,17 +6,11 @@ use Rattle.avro_schema.specs.Fits.{LimitValues}
 use Rattle.avro_cursor.specs.Fault.{end_of_input}
 use Rattle.avro_cursor.specs.declared.error.ReadError.{ReadError}
 use Rattle.avro_resolve.specs.declared.error.ReadResolveError.{ReadResolveError}
-use Rattle.avro_answer.specs.DataPut.{IfRefused}
+use Rattle.avro_answer.specs.DataPut.{DatumPut}
 use Rattle.avro_answer.specs.DataRead.{fault_found, IsDatumTold}
 use Rattle.avro_answer.specs.ReadAnswer.{Found, broken, datum, IsAtFront, IsFound, IsAllFound}
 use Rattle.avro_answer.specs.declared.data_error.DataError.{DataError}
 use Rattle.avro_answer.specs.declared.form.Form.{Form}
-
--- what follows for data that are refused
-pub refused_weaker : {A : Type 0} {P Q : ReadResolveError → Type 0} → ((e : ReadResolveError) → P e → Q e) → (r : Result A DataError) → IfRefused r P → IfRefused r Q
-refused_weaker f (Ok x) h = tt
-refused_weaker f (Err (DataError.Refused e)) h = f e h
-refused_weaker f (Err (DataError.Put e)) h = tt
 
 module _ (writer : List Node) (reader : Option (List Node)) (limits : LimitValues) (skip : ℕ) (bytes : List ℕ) where
   -- where bytes are fewer than those that are skipped
@@ -54,3 +48,12 @@ module _ (writer : List Node) (reader : Option (List Node)) (limits : LimitValue
 
     pub told_behind : (form : Form) (text : List ℕ) → IsDatumTold writer reader limits form 0 rest text → IsDatumTold writer reader limits form skip bytes text
     told_behind form text h = record { value = h.value; len = h.len; is_found = all_behind (datum h.value h.len) h.is_found; told = h.told }
+
+    pub put_behind : {O A : Type 0} (keeps : O → List ℕ → O → Type 0) (failures : O → ℕ) (stuck : O → Type 0) (form : Form) (s t : O) (r : Result A DataError)
+        → DatumPut keeps failures stuck writer reader limits form 0 rest s t r → DatumPut keeps failures stuck writer reader limits form skip bytes s t r
+    put_behind keeps failures stuck form s t (Ok x) h =
+        record { put = (h.put.0, told_behind form h.put.0 h.put.1, h.put.2); front = tt; refused = tt; works = h.works; fails = λ is. absurd cc; memory = λ is. absurd cc; unused = tt }
+    put_behind keeps failures stuck form s t (Err (DataError.Refused e)) h =
+        record { put = tt; front = tt; refused = (h.refused.0, some_behind (fault_found e) h.refused.1); works = tt; fails = λ is. absurd cc; memory = λ is. absurd cc; unused = h.unused }
+    put_behind keeps failures stuck form s t (Err (DataError.Put e)) h =
+        record { put = tt; front = (h.front.0, told_behind form h.front.0 h.front.1, h.front.2); refused = tt; works = tt; fails = h.fails; memory = h.memory; unused = tt }

@@ -13,7 +13,7 @@ use crate::files::container::{open_container, open_watched, tell_file_counts};
 use crate::{Finding, report};
 use avro_answer::Form;
 use avro_container::{Counts, check};
-use avro_device::{Input, Output};
+use avro_device::{Input, Output, WriteOutput};
 use avro_file::FileLimits;
 use std::alloc::Global;
 use std::io::Write;
@@ -40,7 +40,7 @@ pub(crate) fn check_files<'a, R: Files + Clock + AllocGlobal, O: Output, E: Writ
         let Err(failure) = tell_file(rt.alloc(), word, counts, is_named, form, out) else {
             continue;
         };
-        let status = report(rt.alloc(), &failure, err);
+        let status = report(rt.alloc(), &failure, &mut WriteOutput::new(&mut *err));
         finding = finding.or_failed(status);
         if matches!(failure, Failure::CannotPrint) {
             break;

@@ -1,59 +1,69 @@
-ghost use Rattle.std.specs.Prelude.{◌≡◌, ℕ, List, IfOk};
+ghost use Rattle.std.specs.Prelude.{◌≡◌, ℕ, List, Some, IfOk};
 ghost use Rattle.avro_schema.specs.SeenSchema.{schema_nodes};
 ghost use Rattle.avro_certificate.specs.SeenCertificate.{dead_of, pairs_in};
-ghost use Rattle.avro_answer.specs.ConfirmAnswer.{SetsAnswer, SetsJson, SetsStatus};
+ghost use Rattle.avro_answer.specs.ConfirmAnswer.{ConfirmAnswer, SetsAnswer, SetsJson, SetsStatus};
+ghost use Rattle.avro_answer.specs.ReadText.{IsReadAs};
 ghost use Rattle.avro_answer.specs.declared.form.Form.{Form};
 ghost use Rattle.avro_tool.specs.FailsOnlyFor.{FailsOnlyFor};
 ghost use Rattle.avro_tool.specs.FailureText.{IsPutFailure};
 ghost use Rattle.avro_tool.specs.FoundStatus.{finding_status};
+ghost use Rattle.avro_tool.specs.PlainAnswers.{AnswersConfirm};
 
 use crate::Finding;
 use crate::failure::Failure;
 use crate::files::certificate::read_certificate_file;
 use crate::files::schema::read_schema_file;
 use crate::printing::print_bytes;
+use crate::files::texts::Texts;
 use avro_answer::{Form, confirm_schemas};
 use avro_device::Output;
 use avro_judge::Certificate;
 use avro_schema::Schema;
 use std::alloc::Global;
-use std::rt::Files;
 
 /// Prints whether the certificate in a file confirms the schemas of two files.
-pub(crate) fn confirm_files<'a, R: Files + AllocGlobal, O: Output>(
+pub(crate) fn confirm_files<'a, R: Texts, O: Output>(
     rt: &R,
     writer: &'a str,
     reader: &'a str,
     certificate: &'a str,
     form: Form,
     out: &mut O,
-) -> Result<Finding, Failure<'a>> {
+) -> Result<Finding, Failure<'a>>
+    ensures { form ≡ Form.Text → IfOk result (λ f. AnswersConfirm (R.known rt.now) (λ text. O.keeps out.old text out.new) (finding_status f) writer.now reader.now certificate.now) }
+{
     let writer = read_schema_file(rt, writer)?;
     confirm_written(rt, &writer, reader, certificate, form, out)
 }
 
 /// The same for a writer's schema.
-fn confirm_written<'a, R: Files + AllocGlobal, O: Output>(
+fn confirm_written<'a, R: Texts, O: Output>(
     rt: &R,
     writer: &Schema,
     reader: &'a str,
     certificate: &'a str,
     form: Form,
     out: &mut O,
-) -> Result<Finding, Failure<'a>> {
+) -> Result<Finding, Failure<'a>>
+    ensures { (w r c : List ℕ) → form ≡ Form.Text → IsReadAs w (schema_nodes writer.now) → R.known rt.now reader.now ≡ Some r → R.known rt.now certificate.now ≡ Some c
+        → IfOk result (λ f. (text : List ℕ) × ConfirmAnswer w r c text (finding_status f) × O.keeps out.old text out.new) }
+{
     let reader = read_schema_file(rt, reader)?;
     confirm_pair(rt, writer, &reader, certificate, form, out)
 }
 
 /// The same for two schemas.
-fn confirm_pair<'a, R: Files + AllocGlobal, O: Output>(
+fn confirm_pair<'a, R: Texts, O: Output>(
     rt: &R,
     writer: &Schema,
     reader: &Schema,
     certificate: &'a str,
     form: Form,
     out: &mut O,
-) -> Result<Finding, Failure<'a>> {
+) -> Result<Finding, Failure<'a>>
+    ensures { (w r c : List ℕ) → form ≡ Form.Text → IsReadAs w (schema_nodes writer.now) → IsReadAs r (schema_nodes reader.now) → R.known rt.now certificate.now ≡ Some c
+        → IfOk result (λ f. (text : List ℕ) × ConfirmAnswer w r c text (finding_status f) × O.keeps out.old text out.new) }
+{
     let certificate = read_certificate_file(rt, certificate)?;
     tell_confirmed(rt.alloc(), writer, reader, &certificate, form, out)
 }

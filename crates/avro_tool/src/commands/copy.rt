@@ -4,17 +4,18 @@ use crate::files::container::{open_container, open_watched, tell_counts};
 use crate::files::late::LateFile;
 use crate::files::schema::read_reader;
 use crate::request::Copying;
+use crate::files::texts::Texts;
 use avro_container::{Counts, copy};
 use avro_device::{Input, Output, WriteOutput};
 use avro_file::{CopyError, FileLimits};
 use avro_schema_json::ReaderText;
 use std::alloc::Global;
 use std::io::Write;
-use std::rt::{Clock, Files};
+use std::rt::Clock;
 
 /// Copies the container in a file into another one, and prints how many data and blocks it has. The other
 /// file is created, or truncated, once the header was read.
-pub(crate) fn copy_file<'a, R: Files + Clock + AllocGlobal, O: Output, E: Write>(
+pub(crate) fn copy_file<'a, R: Texts + Clock, O: Output, E: Write>(
     rt: &R,
     asked: &Copying<'a>,
     out: &mut O,
@@ -30,7 +31,7 @@ pub(crate) fn copy_file<'a, R: Files + Clock + AllocGlobal, O: Output, E: Write>
 }
 
 /// Copies the container in a file for a reader's schema, where there is one.
-fn copy_for<'a, R: Files + AllocGlobal>(
+fn copy_for<'a, R: Texts>(
     rt: &R,
     asked: &Copying<'a>,
     reader: Option<&ReaderText>,
@@ -40,7 +41,7 @@ fn copy_for<'a, R: Files + AllocGlobal>(
 }
 
 /// The same, with its progress reported.
-fn copy_watched<'a, R: Files + Clock + AllocGlobal, E: Write>(
+fn copy_watched<'a, R: Texts + Clock, E: Write>(
     rt: &R,
     asked: &Copying<'a>,
     reader: Option<&ReaderText>,
@@ -53,7 +54,7 @@ fn copy_watched<'a, R: Files + Clock + AllocGlobal, E: Write>(
 }
 
 /// Copies a container into a file, which is closed before the counts are printed.
-fn copy_from<'a, R: Files + AllocGlobal, I: Input>(
+fn copy_from<'a, R: Texts, I: Input>(
     rt: &R,
     source: &mut I,
     asked: &Copying<'a>,

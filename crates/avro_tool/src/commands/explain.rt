@@ -1,42 +1,50 @@
 //! All faults of two schemas, by name.
 
-ghost use Rattle.std.specs.Prelude.{◌≡◌, ℕ, List, IfOk};
+ghost use Rattle.std.specs.Prelude.{◌≡◌, ℕ, List, Some, IfOk};
 ghost use Rattle.avro_schema.specs.SeenSchema.{schema_nodes};
-ghost use Rattle.avro_answer.specs.ExplainAnswer.{FaultsAnswer, FaultsJson, FaultsStatus};
+ghost use Rattle.avro_answer.specs.ExplainAnswer.{ExplainAnswer, FaultsAnswer, FaultsJson, FaultsStatus};
+ghost use Rattle.avro_answer.specs.ReadText.{IsReadAs};
 ghost use Rattle.avro_answer.specs.declared.form.Form.{Form};
 ghost use Rattle.avro_tool.specs.FailsOnlyFor.{FailsOnlyFor};
 ghost use Rattle.avro_tool.specs.FailureText.{IsPutFailure};
 ghost use Rattle.avro_tool.specs.FoundStatus.{finding_status};
+ghost use Rattle.avro_tool.specs.PlainAnswers.{AnswersExplain};
 
 use crate::Finding;
 use crate::failure::Failure;
 use crate::files::schema::read_schema_file;
 use crate::printing::print;
 use crate::request::Explaining;
+use crate::files::texts::Texts;
 use avro_answer::{no_fault, over_pairs, put_faults};
 use avro_device::Output;
 use avro_explain::{ExplainError, explain};
 use avro_schema::Schema;
 use std::alloc::Global;
-use std::rt::Files;
 
 /// Finds all faults of the schemas of two files, and prints them.
-pub(crate) fn explain_files<'a, R: Files + AllocGlobal, O: Output>(
+pub(crate) fn explain_files<'a, R: Texts, O: Output>(
     rt: &R,
     asked: &Explaining<'a>,
     out: &mut O,
-) -> Result<Finding, Failure<'a>> {
+) -> Result<Finding, Failure<'a>>
+    ensures { asked.now.form ≡ Form.Text
+        → IfOk result (λ f. AnswersExplain (R.known rt.now) (λ text. O.keeps out.old text out.new) (finding_status f) asked.now.writer.now asked.now.reader.now asked.now.max_pairs) }
+{
     let writer = read_schema_file(rt, asked.writer)?;
     explain_written(rt, asked, &writer, out)
 }
 
 /// The same for a writer's schema.
-fn explain_written<'a, R: Files + AllocGlobal, O: Output>(
+fn explain_written<'a, R: Texts, O: Output>(
     rt: &R,
     asked: &Explaining<'a>,
     writer: &Schema,
     out: &mut O,
-) -> Result<Finding, Failure<'a>> {
+) -> Result<Finding, Failure<'a>>
+    ensures { (w r : List ℕ) → asked.now.form ≡ Form.Text → IsReadAs w (schema_nodes writer.now) → R.known rt.now asked.now.reader.now ≡ Some r
+        → IfOk result (λ f. (text : List ℕ) × ExplainAnswer w r asked.now.max_pairs text (finding_status f) × O.keeps out.old text out.new) }
+{
     let reader = read_schema_file(rt, asked.reader)?;
     explain_pair(rt.alloc(), asked, writer, &reader, out)
 }

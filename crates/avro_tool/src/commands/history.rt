@@ -22,13 +22,13 @@ use crate::files::certificate::{read_history_file, write_history_file};
 use crate::files::schema::read_schema_file;
 use crate::printing::print_bytes;
 use crate::request::{Evidence, History, Mode};
+use crate::files::texts::Texts;
 use avro_answer::{Form, Judged, answer_confirmed, judge_json_line, judge_line};
 use avro_device::Output;
 use avro_history::{HistoryCert, confirm_history};
 use avro_judge::{Approved, Certificate, Verdict};
 use avro_schema::{Memory, Schema};
 use std::alloc::{AllocError, Global};
-use std::rt::Files;
 
 /// What a line of a history is about: the file of an earlier schema, and the mode if there are two.
 #[derive(Clone, Copy)]
@@ -53,7 +53,7 @@ impl Line<'_> {
 
 /// Prints whether the schemas of several files read each other's data as the mode asks: by judging them, or by
 /// the certificates of a file.
-pub(crate) fn history_of_files<'a, R: Files + AllocGlobal, O: Output>(
+pub(crate) fn history_of_files<'a, R: Texts, O: Output>(
     rt: &R,
     history: &History<'a>,
     out: &mut O,
@@ -63,7 +63,7 @@ pub(crate) fn history_of_files<'a, R: Files + AllocGlobal, O: Output>(
 }
 
 /// The answer for the earlier schemas; the last one is read first.
-fn history_of_earlier<'a, R: Files + AllocGlobal, O: Output>(
+fn history_of_earlier<'a, R: Texts, O: Output>(
     rt: &R,
     history: &History<'a>,
     earlier: &[Schema],
@@ -74,7 +74,7 @@ fn history_of_earlier<'a, R: Files + AllocGlobal, O: Output>(
 }
 
 /// The answer for the earlier schemas and the last one.
-fn history_of_schemas<'a, R: Files + AllocGlobal, O: Output>(
+fn history_of_schemas<'a, R: Texts, O: Output>(
     rt: &R,
     history: &History<'a>,
     earlier: &[Schema],
@@ -89,7 +89,7 @@ fn history_of_schemas<'a, R: Files + AllocGlobal, O: Output>(
 }
 
 /// Prints whether the certificates of a file confirm schemas with the last one.
-fn confirm_given<'a, R: Files + AllocGlobal, O: Output>(
+fn confirm_given<'a, R: Texts, O: Output>(
     rt: &R,
     word: &'a str,
     form: Form,
@@ -127,7 +127,7 @@ fn tell_confirmed<'a, O: Output>(
 }
 
 /// Judges each earlier schema with the last one, and writes the certificates into a file where all are approved.
-fn certify_into<'a, R: Files + AllocGlobal, O: Output>(
+fn certify_into<'a, R: Texts, O: Output>(
     rt: &R,
     word: &'a str,
     history: &History<'a>,
@@ -144,7 +144,7 @@ fn certify_into<'a, R: Files + AllocGlobal, O: Output>(
 }
 
 /// The schemas of files, in order.
-fn read_schema_files<'a, R: Files + AllocGlobal>(
+fn read_schema_files<'a, R: Texts>(
     rt: &R,
     words: &[&'a str],
 ) -> Result<Vec<Schema>, Failure<'a>> {

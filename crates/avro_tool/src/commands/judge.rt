@@ -1,14 +1,16 @@
-ghost use Rattle.std.specs.Prelude.{◌≡◌, ◌⊎◌, ℕ, List, [], IfOk, OnErr};
+ghost use Rattle.std.specs.Prelude.{◌≡◌, ◌⊎◌, ℕ, List, [], Some, IfOk, OnErr};
 ghost use Rattle.avro_device.specs.PutFront.{PutsFrontOf};
 ghost use Rattle.avro_schema.specs.SeenSchema.{schema_nodes};
 ghost use Rattle.avro_judge.specs.Headline.{IsRight};
 ghost use Rattle.avro_judge.specs.declared.verdict.Verdict.{Verdict};
-ghost use Rattle.avro_answer.specs.JudgeAnswer.{SchemasAnswer, StatusAnswer};
+ghost use Rattle.avro_answer.specs.JudgeAnswer.{JudgeAnswer, SchemasAnswer, StatusAnswer};
 ghost use Rattle.avro_answer.specs.JsonAnswer.{IsJudgedLine};
+ghost use Rattle.avro_answer.specs.ReadText.{IsReadAs};
 ghost use Rattle.avro_answer.specs.declared.form.Form.{Form};
 ghost use Rattle.avro_tool.specs.FailsOnlyFor.{FailsOnlyFor};
 ghost use Rattle.avro_tool.specs.FailureText.{IsPutFailure};
 ghost use Rattle.avro_tool.specs.FoundStatus.{finding_status};
+ghost use Rattle.avro_tool.specs.PlainAnswers.{AnswersJudge};
 
 use crate::Finding;
 use crate::failure::Failure;
@@ -16,38 +18,44 @@ use crate::files::certificate::write_certificate_file;
 use crate::files::refutation::write_refutation_file;
 use crate::files::schema::{read_schema_file, read_text_file};
 use crate::request::Judging;
+use crate::files::texts::Texts;
 use avro_answer::{Form, judge_schemas};
 use avro_device::Output;
 use avro_judge::{JudgeLimits, Verdict};
 use avro_schema::Schema;
 use avro_schema_json::ReaderText;
 use std::alloc::Global;
-use std::rt::Files;
 
 /// Judges the schemas of two files, and prints the verdict. After a yes the certificate is written
 /// where a file is named for it, and after a no the refutation.
-pub(crate) fn judge_files<'a, R: Files + AllocGlobal, O: Output>(
+pub(crate) fn judge_files<'a, R: Texts, O: Output>(
     rt: &R,
     asked: &Judging<'a>,
     out: &mut O,
-) -> Result<Finding, Failure<'a>> {
+) -> Result<Finding, Failure<'a>>
+    ensures { asked.now.form ≡ Form.Text
+        → IfOk result (λ f. AnswersJudge (R.known rt.now) (λ text. O.keeps out.old text out.new) (finding_status f) asked.now.writer.now asked.now.reader.now asked.now.limits) }
+{
     let writer = read_text_file(rt, asked.writer)?;
     judge_written(rt, asked, &writer, out)
 }
 
 /// Judges a writer's schema and the reader's, which is read first.
-fn judge_written<'a, R: Files + AllocGlobal, O: Output>(
+fn judge_written<'a, R: Texts, O: Output>(
     rt: &R,
     asked: &Judging<'a>,
     writer: &ReaderText,
     out: &mut O,
-) -> Result<Finding, Failure<'a>> {
+) -> Result<Finding, Failure<'a>>
+    ensures { (w r : List ℕ) → asked.now.form ≡ Form.Text → IsReadAs w (schema_nodes writer.now.1) → R.known rt.now asked.now.reader.now ≡ Some r
+        → IfOk result (λ f. (text : List ℕ) × JudgeAnswer w r asked.now.limits text (finding_status f) × O.keeps out.old text out.new) }
+{
     let reader = read_schema_file(rt, asked.reader)?;
     judge_pair(rt, asked, writer, &reader, out)
 }
 
 /// Judges two schemas, prints the verdict, and writes its evidence where a file is named for it.
-fn judge_pair<'a, R: Files + AllocGlobal, O: Output>(
+fn judge_pair<'a, R: Texts, O: Output>(
     rt: &R,
     asked: &Judging<'a>,
     writer: &ReaderText,
@@ -95,7 +103,7 @@ fn tell_verdict<'a, 's, O: Output>(
 }
 
 /// Writes the certificate of a yes, or the datum of a no, where a file is named for it.
-fn write_evidence<'a, R: Files + AllocGlobal>(
+fn write_evidence<'a, R: Texts>(
     rt: &R,
     asked: &Judging<'a>,
     writer: &ReaderText,

@@ -19,20 +19,21 @@ use crate::files::kept::STANDARD_INPUT;
 use crate::files::schema::read_reader;
 use crate::progress::Watched;
 use crate::request::Piping;
+use crate::files::texts::Texts;
 use avro_container::{Counts, copy};
 use avro_device::{Input, Output, ReadInput, WriteOutput};
 use avro_file::{CopyError, FileLimits};
 use avro_schema_json::ReaderText;
 use std::alloc::Global;
 use std::io::{BufReader, Read, Write};
-use std::rt::{Clock, Files};
+use std::rt::Clock;
 
 /// The word for standard input.
 const INPUT: &str = "-";
 
 /// Copies a container from a reader to a writer, and, if asked for, reports how many data and blocks a whole copy
 /// has.
-pub(crate) fn pipe_streams<'a, R: Files + Clock + AllocGlobal, I: Read, O: Output, E: Write>(
+pub(crate) fn pipe_streams<'a, R: Texts + Clock, I: Read, O: Output, E: Write>(
     rt: &R,
     asked: &Piping<'a>,
     input: &mut I,
@@ -68,7 +69,7 @@ fn pipe_for<'a, I: Read, O: Output>(
 }
 
 /// The same, with its progress reported.
-fn pipe_watched<'a, R: Files + Clock + AllocGlobal, I: Read, O: Output, E: Write>(
+fn pipe_watched<'a, R: Texts + Clock, I: Read, O: Output, E: Write>(
     rt: &R,
     reader: Option<&ReaderText>,
     sync: Option<[u8; 16]>,
@@ -83,7 +84,7 @@ fn pipe_watched<'a, R: Files + Clock + AllocGlobal, I: Read, O: Output, E: Write
 }
 
 /// The same for an input, and reports its progress.
-fn pipe_told<'a, R: Files + Clock + AllocGlobal, I: Input + Drop, O: Output, E: Write>(
+fn pipe_told<'a, R: Texts + Clock, I: Input + Drop, O: Output, E: Write>(
     rt: &R,
     input: I,
     reader: Option<&ReaderText>,

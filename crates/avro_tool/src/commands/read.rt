@@ -1,15 +1,13 @@
 //! The first datum of encoded data.
 
-ghost use Rattle.std.specs.Prelude.{◌≡◌, ◌≢◌, ◌⊎◌, ℕ, [], List, OnOk, IfOk, IsErrOf, Err, option_copied, option_map};
-ghost use Rattle.std.specs.Option.{IfSome};
+ghost use Rattle.std.specs.Prelude.{◌≡◌, ◌≢◌, ◌⊎◌, ℕ, [], List, OnErr, OnOk, IfOk, IsErrOf, Err, option_copied, option_map};
 ghost use Rattle.std.specs.Result.{IfErr};
 ghost use Rattle.avro_schema.specs.SeenSchema.{schema_nodes};
+ghost use Rattle.avro_device.specs.PutFront.{PutsFrontOf};
 ghost use Rattle.avro_resolve.specs.declared.error.ReadResolveError.{ReadResolveError};
-ghost use Rattle.avro_display.specs.declared.put_error.PutError.{PutError};
-ghost use Rattle.avro_answer.specs.DataPut.{IfRefused};
-ghost use Rattle.avro_answer.specs.DataRead.{IsDatumTold, fault_found};
+ghost use Rattle.avro_answer.specs.DataPut.{DatumPut};
+ghost use Rattle.avro_answer.specs.DataRead.{IsDatumTold};
 ghost use Rattle.avro_answer.specs.ReadAnswer.{IsAllFound};
-ghost use Rattle.avro_answer.specs.declared.data_error.DataError.{DataError};
 ghost use Rattle.avro_tool.specs.DefaultLimits.{datum_limits};
 ghost use Rattle.avro_tool.specs.FailureText.{data_failure, told_error, IsDataFailure};
 ghost use Rattle.avro_tool.specs.FoundStatus.{finding_status};
@@ -20,6 +18,7 @@ use crate::failure::Failure;
 use crate::files::container::open_file;
 use crate::files::schema::{read_reader, read_schema_file};
 use crate::request::Reading;
+use crate::files::texts::Texts;
 use avro_answer::{DataError, DataPlan, behind};
 use avro_binary::{Nothing, ReadError, read_own};
 use avro_device::Output;
@@ -30,7 +29,6 @@ use avro_show::Scratch;
 use std::alloc::Global;
 use std::io;
 use std::io::BufRead;
-use std::rt::Files;
 
 /// The most bytes that one datum may take, as in a block of a container.
 const MAX_DATUM: usize = 16_777_216;
@@ -40,7 +38,7 @@ const FREE: usize = 1_048_576;
 
 /// Prints the first datum of the data in a file, after the bytes that are skipped, and its length in bytes; what follows
 /// it is ignored.
-pub(crate) fn read_file<'a, R: Files + AllocGlobal, O: Output>(
+pub(crate) fn read_file<'a, R: Texts, O: Output>(
     rt: &R,
     asked: &Reading<'a>,
     out: &mut O,
@@ -50,7 +48,7 @@ pub(crate) fn read_file<'a, R: Files + AllocGlobal, O: Output>(
 }
 
 /// Reads the data of a writer's schema, for the reader's, which is read first.
-fn read_written<'a, R: Files + AllocGlobal, O: Output>(
+fn read_written<'a, R: Texts, O: Output>(
     rt: &R,
     asked: &Reading<'a>,
     writer: &Schema,
@@ -61,7 +59,7 @@ fn read_written<'a, R: Files + AllocGlobal, O: Output>(
 }
 
 /// Reads the data of a writer's schema for a reader's, where there is one.
-fn read_for<'a, R: Files + AllocGlobal, O: Output>(
+fn read_for<'a, R: Texts, O: Output>(
     rt: &R,
     asked: &Reading<'a>,
     writer: &Schema,
@@ -87,6 +85,8 @@ fn tell_datum<'a, O: Output>(
 ) -> Result<Finding, Failure<'a>>
     ensures told { OnOk result ((text : List ℕ) × IsDatumTold (schema_nodes writer.now) (option_map (λ t. schema_nodes t.1) (option_copied reader.entry)) datum_limits
         asked.now.form asked.now.skip bytes.now text × O.keeps out.old text out.new) }
+    ensures front { OnErr result (O.keeps out.old [] out.new ⊎ (text : List ℕ) × IsDatumTold (schema_nodes writer.now) (option_map (λ t. schema_nodes t.1) (option_copied reader.entry)) datum_limits
+        asked.now.form asked.now.skip bytes.now text × PutsFrontOf O.keeps out.old out.new text) }
     ensures good { IfOk result (λ f. finding_status f ≡ 0) }
     ensures fails { IfErr result (IsDataFailure asked.now.data is_cut (IsAllFound (schema_nodes writer.now)
         (option_map (λ t. schema_nodes t.1) (option_copied reader.entry)) datum_limits asked.now.skip bytes.now)) }
@@ -119,7 +119,7 @@ fn plan_of<'a>(
 
 /// The bytes of a file up to the end of its datum at least, or up to its end, or more than some. They are walked over after each
 /// read, but for reads that would make the time of it more than proportional to their number.
-fn take_datum<'a, R: Files + AllocGlobal>(
+fn take_datum<'a, R: Texts>(
     rt: &R,
     asked: &Reading<'a>,
     writer: &Schema,
@@ -188,14 +188,7 @@ fn put_datum<O: Output>(
     bytes: &[u8],
     out: &mut O,
 ) -> Result<(), DataError>
-    ensures put { OnOk result ((text : List ℕ) × IsDatumTold (schema_nodes plan.now.0) (option_map schema_nodes plan.now.1) datum_limits
-        asked.now.form asked.now.skip bytes.now text × O.keeps out.old text out.new) }
-    ensures refused { IfRefused result (λ e. O.keeps out.old [] out.new × IfSome (fault_found e) (IsAllFound (schema_nodes plan.now.0) (option_map schema_nodes plan.now.1)
-        datum_limits asked.now.skip bytes.now)) }
-    ensures unused { IfRefused result (λ e. O.failures out.new ≡ O.failures out.old) }
-    ensures works { OnOk result (O.failures out.new ≡ O.failures out.old) }
-    ensures fails { IsErrOf result (DataError.Put PutError.CannotWrite) → (O.failures out.new ≢ O.failures out.old) ⊎ O.stuck out.new }
-    ensures memory { IsErrOf result (DataError.Put PutError.OutOfMemory) → O.failures out.new ≡ O.failures out.old }
+    ensures { DatumPut O.keeps O.failures O.stuck (schema_nodes plan.now.0) (option_map schema_nodes plan.now.1) datum_limits asked.now.form asked.now.skip bytes.now out.old out.new result }
 {
     match behind(bytes, asked.skip as usize) {
         Ok(rest) => {

@@ -7,8 +7,9 @@ ghost use Rattle.avro_tool.specs.FoundStatus.{finding_status};
 
 use crate::Finding;
 use crate::failure::Failure;
-use crate::files::schema::{MAX_TEXT, bytes_of};
+use crate::files::schema::{TEXT_READ, bytes_of};
 use crate::printing::print_bytes;
+use crate::files::texts::Texts;
 use avro_answer::{Shown, schema_refusal};
 use avro_device::Output;
 use avro_schema::Schema;
@@ -16,14 +17,13 @@ use avro_schema_json::{SchemaError, read_schema};
 use avro_why::{Reason, Reasons, find_reasons};
 use std::alloc::{AllocError, Global};
 use std::io::Write;
-use std::rt::Files;
 
 /// The most places of faults that are reported.
 const MAX_REASONS: usize = 100;
 
 /// Reads the schema of a file, and prints its number of nodes, its canonical form or its fingerprint. If it is refused,
 /// and the words ask for that, the places of its faults are reported.
-pub(crate) fn show_schema<'a, R: Files + AllocGlobal, O: Output, E: Write>(
+pub(crate) fn show_schema<'a, R: Texts, O: Output, E: Write>(
     rt: &R,
     file: &'a str,
     shown: Shown,
@@ -31,7 +31,7 @@ pub(crate) fn show_schema<'a, R: Files + AllocGlobal, O: Output, E: Write>(
     out: &mut O,
     err: &mut E,
 ) -> Result<Finding, Failure<'a>> {
-    let text = bytes_of(rt, file, MAX_TEXT)?;
+    let text = bytes_of(rt, file, TEXT_READ)?;
     match read_schema(rt.alloc(), &text) {
         Ok(schema) => tell_schema(rt.alloc(), &schema, shown, out),
         Err(error) if is_why && error != SchemaError::OutOfMemory => {

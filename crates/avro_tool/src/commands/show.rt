@@ -16,17 +16,17 @@ use crate::Finding;
 use crate::failure::Failure;
 use crate::files::container::open_container;
 use crate::files::schema::read_reader;
+use crate::files::texts::Texts;
 use avro_device::{Input, Output};
 use avro_file::{CopyError, FileLimits};
 use avro_lines::show;
 use avro_schema::Schema;
 use avro_schema_json::ReaderText;
 use std::alloc::Global;
-use std::rt::Files;
 
 /// Prints a line for each datum of the container in a file, resolved to a reader's schema if a file is
 /// named for it, and no more lines than the limit, if there is one.
-pub(crate) fn show_file<'a, R: Files + AllocGlobal, O: Output>(
+pub(crate) fn show_file<'a, R: Texts, O: Output>(
     rt: &R,
     word: &'a str,
     reader: Option<&'a str>,
@@ -46,7 +46,7 @@ fn schema_of(reader: &Option<ReaderText>) -> Option<&Schema> {
 }
 
 /// Prints the data of the container in a file for a reader's schema, where there is one.
-fn show_for<'a, R: Files + AllocGlobal, O: Output>(
+fn show_for<'a, R: Texts, O: Output>(
     rt: &R,
     word: &'a str,
     reader: Option<&Schema>,

@@ -1,17 +1,25 @@
 //! Files of certificates.
 
+ghost use Rattle.std.specs.Prelude.{◌≡◌, true, IfOk};
+ghost use Rattle.std.specs.Option.{IfSome};
+ghost use Rattle.avro_certificate.specs.CertificateText.{CertText, are_small};
+ghost use Rattle.avro_certificate.specs.SeenCertificate.{dead_of, pairs_in};
+
 use crate::failure::Failure;
 use crate::files::schema::bytes_of;
+use crate::files::texts::Texts;
 use avro_history::HistoryCert;
 use avro_judge::{Approved, CertError, Certificate};
 use std::fs;
-use std::rt::Files;
 
 /// The certificate in a file.
-pub(crate) fn read_certificate_file<'a, R: Files + AllocGlobal>(
+pub(crate) fn read_certificate_file<'a, R: Texts>(
     rt: &R,
     word: &'a str,
-) -> Result<Certificate, Failure<'a>> {
+) -> Result<Certificate, Failure<'a>>
+    ensures found { IfOk result (λ c. IfSome (R.known rt.now word.now) (λ text. CertText (dead_of c) (pairs_in c) text)) }
+    ensures small { IfOk result (λ c. are_small (dead_of c) (pairs_in c) ≡ true) }
+{
     let bytes = bytes_of_certificates(rt, word)?;
     match Certificate::read(rt.alloc(), &bytes) {
         Ok(certificate) => Ok(certificate),
@@ -20,7 +28,7 @@ pub(crate) fn read_certificate_file<'a, R: Files + AllocGlobal>(
 }
 
 /// Writes the certificate of an approval into a file.
-pub(crate) fn write_certificate_file<'a, R: Files + AllocGlobal>(
+pub(crate) fn write_certificate_file<'a, R: Texts>(
     rt: &R,
     approved: &Approved<'_>,
     word: &'a str,
@@ -34,7 +42,7 @@ pub(crate) fn write_certificate_file<'a, R: Files + AllocGlobal>(
 }
 
 /// The history in a file.
-pub(crate) fn read_history_file<'a, R: Files + AllocGlobal>(
+pub(crate) fn read_history_file<'a, R: Texts>(
     rt: &R,
     word: &'a str,
 ) -> Result<HistoryCert, Failure<'a>> {
@@ -46,7 +54,7 @@ pub(crate) fn read_history_file<'a, R: Files + AllocGlobal>(
 }
 
 /// Writes certificates into a file, in order.
-pub(crate) fn write_history_file<'a, R: Files + AllocGlobal>(
+pub(crate) fn write_history_file<'a, R: Texts>(
     rt: &R,
     certificates: Vec<Certificate>,
     word: &'a str,
@@ -60,11 +68,13 @@ pub(crate) fn write_history_file<'a, R: Files + AllocGlobal>(
 
 /// The bytes of a file of certificates. At most one byte more than a text may have is read, once; a
 /// longer text is refused.
-fn bytes_of_certificates<'a, R: Files + AllocGlobal>(
+fn bytes_of_certificates<'a, R: Texts>(
     rt: &R,
     word: &'a str,
-) -> Result<Vec<u8>, Failure<'a>> {
-    let bytes = bytes_of(rt, word, Certificate::MAX_LEN as u64)?;
+) -> Result<Vec<u8>, Failure<'a>>
+    ensures { IfOk result (λ bytes. IfSome (R.known rt.now word.now) (λ text. bytes.items ≡ text)) }
+{
+    let bytes = bytes_of(rt, word, Certificate::MAX_LEN as u64 + 1)?;
     if bytes.len() > Certificate::MAX_LEN {
         return Err(Failure::of_certificate(word, CertError::Malformed));
     }

@@ -2,8 +2,9 @@
 //! that hold a schema and are written.
 
 use crate::failure::Failure;
-use crate::files::schema::{MAX_TEXT, read_bytes};
+use crate::files::schema::TEXT_READ;
 use crate::request::Request;
+use crate::files::texts::Texts;
 use avro_schema_json::{SchemaError, read_schema};
 use std::fs::Metadata;
 use std::os::unix::fs::{FileTypeExt, MetadataExt};
@@ -27,7 +28,7 @@ struct Streams {
 }
 
 /// Refuses a request by which a file of its words would be spoiled.
-pub(crate) fn refuse_files<'a, R: Files + AllocGlobal>(
+pub(crate) fn refuse_files<'a, R: Texts>(
     rt: &R,
     request: &Request<'a>,
 ) -> Result<(), Failure<'a>> {
@@ -125,7 +126,7 @@ fn refuse_read_file<'a, R: Files>(
 
 /// Refuses a file that is to be written if its text declares a schema. A file that is not regular or not
 /// readable is not checked.
-fn refuse_schema_file<'a, R: Files + AllocGlobal>(
+fn refuse_schema_file<'a, R: Texts>(
     rt: &R,
     output: Option<&'a str>,
 ) -> Result<(), Failure<'a>> {
@@ -135,7 +136,7 @@ fn refuse_schema_file<'a, R: Files + AllocGlobal>(
     if regular_file(rt, output)?.is_none() {
         return Ok(());
     }
-    let bytes = match read_bytes(rt, output, MAX_TEXT) {
+    let bytes = match rt.text(output, TEXT_READ) {
         Ok(bytes) => bytes,
         Err(e) if e.kind() == io::ErrorKind::PermissionDenied => return Ok(()),
         Err(e) => return Err(Failure::of_reading(output, &e)),

@@ -1,19 +1,24 @@
+ghost use Rattle.std.specs.Prelude.{◌≡◌, IfOk, take};
+ghost use Rattle.std.specs.Option.{IfSome};
+ghost use Rattle.avro_schema.specs.SeenSchema.{schema_nodes};
+ghost use Rattle.avro_answer.specs.ReadText.{IsReadAs};
+
 use crate::failure::Failure;
+use crate::files::texts::Texts;
 use avro_schema::Schema;
 use avro_schema_json::{ReaderText, read_schema};
-use std::io::Read;
-use std::rt::Files;
-use std::{fs, io};
 
-/// The greatest length of a schema's text.
-pub(crate) const MAX_TEXT: u64 = 1_048_576;
+/// So many bytes of a schema's text are read: one more than it may have.
+pub(crate) const TEXT_READ: u64 = 1_048_577;
 
 /// The schema in a file. At most one byte more than a text may have is read, once.
-pub(crate) fn read_schema_file<'a, R: Files + AllocGlobal>(
+pub(crate) fn read_schema_file<'a, R: Texts>(
     rt: &R,
     word: &'a str,
-) -> Result<Schema, Failure<'a>> {
-    let bytes = bytes_of(rt, word, MAX_TEXT)?;
+) -> Result<Schema, Failure<'a>>
+    ensures { IfOk result (λ schema. IfSome (R.known rt.now word.now) (λ text. IsReadAs text (schema_nodes schema))) }
+{
+    let bytes = bytes_of(rt, word, TEXT_READ)?;
     match read_schema(rt.alloc(), &bytes) {
         Ok(schema) => Ok(schema),
         Err(e) => Err(Failure::of_schema(word, e)),
@@ -21,11 +26,13 @@ pub(crate) fn read_schema_file<'a, R: Files + AllocGlobal>(
 }
 
 /// The schema in a file, with its text.
-pub(crate) fn read_text_file<'a, R: Files + AllocGlobal>(
+pub(crate) fn read_text_file<'a, R: Texts>(
     rt: &R,
     word: &'a str,
-) -> Result<ReaderText, Failure<'a>> {
-    let bytes = bytes_of(rt, word, MAX_TEXT)?;
+) -> Result<ReaderText, Failure<'a>>
+    ensures { IfOk result (λ reader. IfSome (R.known rt.now word.now) (λ text. IsReadAs text (schema_nodes reader.1))) }
+{
+    let bytes = bytes_of(rt, word, TEXT_READ)?;
     match ReaderText::read(rt.alloc(), &bytes) {
         Ok(text) => Ok(text),
         Err(e) => Err(Failure::of_schema(word, e)),
@@ -33,7 +40,7 @@ pub(crate) fn read_text_file<'a, R: Files + AllocGlobal>(
 }
 
 /// The schema of a reader, if a file is named for it.
-pub(crate) fn read_reader<'a, R: Files + AllocGlobal>(
+pub(crate) fn read_reader<'a, R: Texts>(
     rt: &R,
     word: Option<&'a str>,
 ) -> Result<Option<ReaderText>, Failure<'a>> {
@@ -43,27 +50,16 @@ pub(crate) fn read_reader<'a, R: Files + AllocGlobal>(
     }
 }
 
-/// The bytes of a file, up to one more than a text may have.
-pub(crate) fn bytes_of<'a, R: Files + AllocGlobal>(
+/// The first bytes of a file: so many, or all where it has fewer.
+pub(crate) fn bytes_of<'a, R: Texts>(
     rt: &R,
     word: &'a str,
-    limit: u64,
-) -> Result<Vec<u8>, Failure<'a>> {
-    match read_bytes(rt, word, limit) {
+    most: u64,
+) -> Result<Vec<u8>, Failure<'a>>
+    ensures { IfOk result (λ bytes. IfSome (R.known rt.now word.now) (λ all. bytes.items ≡ take most all)) }
+{
+    match rt.text(word, most) {
         Ok(bytes) => Ok(bytes),
         Err(e) => Err(Failure::of_reading(word, &e)),
     }
-}
-
-/// The bytes of a file, up to one more than a limit.
-pub(crate) fn read_bytes<R: Files + AllocGlobal>(
-    rt: &R,
-    path: &str,
-    limit: u64,
-) -> io::Result<Vec<u8>> {
-    let mut bytes = Vec::new(rt.alloc());
-    fs::open(rt, path)?
-        .take(limit.saturating_add(1))
-        .read_to_end(&mut bytes)?;
-    Ok(bytes)
 }

@@ -3,7 +3,7 @@ use Rattle.avro_schema.specs.SeenSchema.{schema_nodes}
 use Rattle.avro_answer.specs.inside.DatumParts.{text_around}
 use Rattle.avro_answer.proofs.DataFound.{displayed_text}
 use Rattle.avro_answer.proofs.DataPuts.{as_put}
-use Rattle.avro_answer.proofs.data_plan.DataPlan.put_front.Goals as goal
+use Rattle.avro_answer.proofs.data_plan.DataPlan.put.Goals as goal
 
 pub returns-in-Ok : goal.returns-in-Ok
 returns-in-Ok g c =

@@ -1,0 +1,10 @@
+use Rattle.std.proofs.Common.{ℕ, List}
+use Rattle.avro_certificate.specs.CertificateText.{CertText}
+use Rattle.avro_certificate.specs.SeenCertificate.{dead_of, pairs_in}
+use Rattle.avro_tool.proofs.KnownTexts.{so_of_known}
+use Rattle.avro_tool.proofs.files.certificate.read_certificate_file.Goals as goal
+
+pub returns-in-Ok-clause-found : goal.returns-in-Ok-clause-found
+returns-in-Ok-clause-found g c =
+    let read = c.in-Ok.certificate in
+    so_of_known (λ (text : List ℕ). CertText (dead_of read) (pairs_in read) text) (g.R.Texts.known c.args.rt.now c.args.word.now) c.in_ok-bytes.bytes.items c.in_ok-bytes.ensures c.in-Ok.ensures.found
