@@ -1,8 +1,12 @@
--- Reasons whose lines and columns are those of places in a text.
-use Rattle.std.specs.Prelude.{ℕ, List, All, IfSome}
+-- Reasons at places of a text, in the order of the text.
+use Rattle.std.specs.Prelude.{⊤, ◌≤◌, ℕ, List, [], ◌∷◌, IfSome}
 use Rattle.avro_why.specs.Position.{IsPosition}
 use Rattle.avro_why.specs.declared.reasons.Reason.{Reason}
 
--- each that has a pointer has the line and the column of a place in the text
+-- each stands at an offset, at none before that of the reason in front of it; one that has a pointer has the line and the column of the place there
+abbrev pub ArePlacedFrom : List ℕ → ℕ → List Reason → Type 0
+ArePlacedFrom text from [] = ⊤
+ArePlacedFrom text from (r ∷ rs) = (offset : ℕ) × (from ≤ offset) × IfSome r.pointer (λ _. IsPosition text offset r.line r.column) × ArePlacedFrom text offset rs
+
 abbrev pub ArePlaced : List ℕ → List Reason → Type 0
-ArePlaced text reasons = All (λ (reason : Reason). IfSome reason.pointer (λ _. IsPosition text reason.line reason.column)) reasons
+ArePlaced text reasons = ArePlacedFrom text 0 reasons

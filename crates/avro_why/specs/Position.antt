@@ -1,5 +1,5 @@
 -- Where a byte of a text is: its line, and its column in bytes, both counted from 1.
-use Rattle.std.specs.Prelude.{◌≡◌, ◌≢◌, ◌+◌, ℕ, List, [], ◌∷◌, ◌++◌, length, All}
+use Rattle.std.specs.Prelude.{◌≡◌, ◌≢◌, ◌+◌, ◌≤◌, ℕ, List, [], ◌∷◌, ◌++◌, length, take, All}
 
 -- bytes of one line
 abbrev pub AreInLine : List ℕ → Type 0
@@ -21,9 +21,7 @@ pub record EndsAt (text : List ℕ) (line column : ℕ) : Type 0 where
   pub line_is : line ≡ number + 1
   pub column_is : column ≡ length bytes + 1
 
--- a place in a text has this line and column: what stands before it ends there
-pub record IsPosition (text : List ℕ) (line column : ℕ) : Type 0 where
-  pub before : List ℕ
-  pub after : List ℕ
-  pub parted : text ≡ before ++ after
-  pub ends : EndsAt before line column
+-- the place at an offset of a text has this line and column: what stands before it ends there
+pub record IsPosition (text : List ℕ) (offset line column : ℕ) : Type 0 where
+  pub inside : offset ≤ length text
+  pub ends : EndsAt (take offset text) line column

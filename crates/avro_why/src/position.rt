@@ -1,4 +1,4 @@
-ghost use Rattle.std.specs.Prelude.{◌≤◌, length};
+ghost use Rattle.std.specs.Prelude.{◌≤◌, length, min};
 ghost use Rattle.avro_why.specs.Position.{EndsAt, IsPosition};
 
 /// A position in a text.
@@ -18,7 +18,7 @@ impl Position {
 /// The position of an offset; of one past the end, that of the end.
 pub(crate) fn position_at(text: &[u8], offset: usize) -> Position
     requires small { length text.now ≤ 1048576 }
-    ensures { IsPosition text.now result.line result.column }
+    ensures { IsPosition text.now (min offset (length text.now)) result.line result.column }
 {
     let (before, _) = text.split_at(offset.min(text.len()));
     end_of(before)

@@ -1,4 +1,5 @@
-ghost use Rattle.std.specs.Prelude.{◌≤◌, ℕ, List, IfOk, length, max};
+ghost use Rattle.std.specs.Prelude.{◌≤◌, ℕ, List, IfOk, length, max, min};
+ghost use Rattle.std.specs.List.Sorted.{IsNonDecreasingBy};
 ghost use Rattle.avro_why.specs.Placed.{ArePlaced};
 ghost use Rattle.avro_why.specs.Position.{IsPosition};
 
@@ -110,11 +111,9 @@ fn reasons_in_tree(
 }
 
 /// The faults of a walk, by the offsets of their places.
-fn by_offset(
-    alloc: Global,
-    text: &[u8],
-    walk: &Walk<'_>,
-) -> Result<Vec<(usize, usize)>, AllocError> {
+fn by_offset(alloc: Global, text: &[u8], walk: &Walk<'_>) -> Result<Vec<(usize, usize)>, AllocError>
+    ensures { IfOk result (λ order. IsNonDecreasingBy (λ (fault : ℕ × ℕ). fault.0) order.items) }
+{
     let offsets = offsets_of(alloc, text, &walk.places)?;
     let mut order = Vec::new(alloc);
     for (index, (place, _)) in walk.faults.iter().enumerate() {
@@ -158,7 +157,7 @@ fn reason_of(
     fault: Fault<'_>,
 ) -> Result<Reason, AllocError>
     requires small { length text.now ≤ 1048576 }
-    ensures { IfOk result (λ reason. IsPosition text.now reason.line reason.column) }
+    ensures { IfOk result (λ reason. IsPosition text.now (min offset (length text.now)) reason.line reason.column) }
 {
     let Position { line, column } = position_at(text, offset);
     let words = words_of(alloc, text, &walk.places, offset, fault)?;

@@ -1,11 +1,8 @@
-use Rattle.std.proofs.Common.{sym}
-use Rattle.std.proofs.lemmas.List.{take-append-drop}
+use Rattle.std.proofs.Common.{sym, arith}
 use Rattle.avro_why.proofs.position.position_at.Goals as goal
 
 pub returns : goal.returns
-returns c = record {
-  before = c.split_at.result.0.now;
-  after = c.split_at.result.1.now;
-  parted = rw (c.split_at.ensures.front, c.split_at.ensures.back) (sym (take-append-drop c.min.result c.args.text.now));
-  ends = c.end_of.ensures;
-}
+returns c = rw (sym c.min.ensures) (record {
+  inside = omega arith;
+  ends = rw (sym c.split_at.ensures.front) c.end_of.ensures;
+})
