@@ -4,9 +4,8 @@
 //! [`put_resolved`] puts the display of what a writer's datum is for a reader (Avro 1.11, "Schema Resolution") in pieces, however long. It
 //! goes through the writer's datum by pairs of nodes, so that no datum of the reader's is made.
 //!
-//! A record's fields are displayed in another order than they are encoded, so their texts are made first and then put together, except
-//! where all fields are leaves, which are displayed from their encodings in any order. If the display and those of its parts turn out to
-//! have more than 64 KiB, all is given up, and the datum is read and printed in pieces.
+//! A record's fields are displayed in another order than they are encoded, so their texts are made first and then put together. If the
+//! display and those of its parts turn out to have more than 64 KiB, all is given up, and the datum is read and printed in pieces.
 #![tactic(auto)]
 
 mod composing;
