@@ -131,7 +131,12 @@ const TEXTS: [(&str, &[u8]); 2] = [("long", b"\"long\""), ("int", b"\"int\"")];
 /// The words of a run over these texts, its status, and what is put on the output and the error.
 const RUNS: [(&str, u8, &[u8], &[u8]); 3] = [
     ("judge int long", 0, b"yes\n", b""),
-    ("judge long int", 1, b"no\nfault NoMatch at /\nnodes 1\ndatum 0\n", b""),
+    (
+        "judge long int",
+        1,
+        b"no\nfault NoMatch at /\nnodes 1\ndatum 0\n",
+        b"",
+    ),
     ("judge int none", 4, b"", b"avro: none: cannot read\n"),
 ];
 

@@ -17,12 +17,7 @@ fn input_step<R: AllocGlobal>(rt: &R, sheet: &mut Sheet, text: &str) -> Result<b
 }
 
 /// A run. All that the one before wrote must be told.
-fn next_step<R: Texts + Clock>(
-    rt: &R,
-    sheet: &mut Sheet,
-    word: &str,
-    text: &str,
-) -> Result<bool> {
+fn next_step<R: Texts + Clock>(rt: &R, sheet: &mut Sheet, word: &str, text: &str) -> Result<bool> {
     if !sheet.is_told() {
         return Ok(false);
     }
@@ -35,12 +30,7 @@ fn next_step<R: Texts + Clock>(
 }
 
 /// Takes a step, and tells whether it holds.
-fn step<R: Texts + Clock>(
-    rt: &R,
-    sheet: &mut Sheet,
-    word: &str,
-    text: &str,
-) -> Result<bool> {
+fn step<R: Texts + Clock>(rt: &R, sheet: &mut Sheet, word: &str, text: &str) -> Result<bool> {
     match word {
         "" | "#" => Ok(true),
         "run" | "room" | "usage" => next_step(rt, sheet, word, text),

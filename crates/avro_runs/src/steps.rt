@@ -116,22 +116,14 @@ fn run_line<R: Texts + Clock>(
 }
 
 /// A run, `STATUS WORDS`.
-pub(crate) fn run_step<R: Texts + Clock>(
-    rt: &R,
-    sheet: &mut Sheet,
-    text: &str,
-) -> Result<bool> {
+pub(crate) fn run_step<R: Texts + Clock>(rt: &R, sheet: &mut Sheet, text: &str) -> Result<bool> {
     let (status, line) = halves(text);
     run_line(rt, sheet, line, (usize::MAX, usize::MAX))?;
     Ok(status.parse::<u8>().ok() == Some(sheet.ran.status))
 }
 
 /// A run whose output takes only some bytes, `ROOM STATUS WORDS`. The status is the same where the error takes none.
-pub(crate) fn room_step<R: Texts + Clock>(
-    rt: &R,
-    sheet: &mut Sheet,
-    text: &str,
-) -> Result<bool> {
+pub(crate) fn room_step<R: Texts + Clock>(rt: &R, sheet: &mut Sheet, text: &str) -> Result<bool> {
     let (room, rest) = halves(text);
     let (status, line) = halves(rest);
     let Ok(room) = room.parse::<usize>() else {
@@ -146,11 +138,7 @@ pub(crate) fn room_step<R: Texts + Clock>(
 
 /// A run whose words are usage: the status is 64, nothing goes to the output, the errors are none of the program's own
 /// lines, and no input is read.
-pub(crate) fn usage_step<R: Texts + Clock>(
-    rt: &R,
-    sheet: &mut Sheet,
-    line: &str,
-) -> Result<bool> {
+pub(crate) fn usage_step<R: Texts + Clock>(rt: &R, sheet: &mut Sheet, line: &str) -> Result<bool> {
     run_line(rt, sheet, line, (usize::MAX, usize::MAX))?;
     let err = sheet.ran.err.bytes.as_slice();
     let told = !err.is_empty() && !err.starts_with(b"avro: ");

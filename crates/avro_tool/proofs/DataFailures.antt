@@ -6,7 +6,7 @@ use Rattle.std.specs.Option.{IfSome}
 use Rattle.avro_cursor.specs.declared.error.ReadError.{ReadError}
 use Rattle.avro_display.specs.declared.put_error.PutError.{PutError}
 use Rattle.avro_resolve.specs.declared.error.ReadResolveError.{ReadResolveError}
-use Rattle.avro_answer.specs.DataPut.{IfRefused}
+use Rattle.avro_answer.specs.DataPut.{IfPutFails, IfRefused}
 use Rattle.avro_answer.specs.DataRead.{fault_found}
 use Rattle.avro_answer.specs.ReadAnswer.{Found}
 use Rattle.avro_answer.specs.declared.data_error.DataError.{DataError}
@@ -68,3 +68,8 @@ module _ (word : Bor (List ℕ)) (is_cut : Bool) where
   data_refused P w told (DataError.Refused e) h is = (e, h)
   data_refused P w told (DataError.Put PutError.CannotWrite) h is = absurd (cc)
   data_refused P w told (DataError.Put PutError.OutOfMemory) h is = absurd (cc)
+
+-- where data are not told, nothing was put, or a prefix
+pub front_or_none : {None Front : Type 0} {P : ReadResolveError → Type 0} (error : DataError) → IfRefused {A = Unit {0}} (Err error) (λ e. None × P e) → IfPutFails {A = Unit {0}} (Err error) Front → None ⊎ Front
+front_or_none (DataError.Refused e) refused failed = inl refused.0
+front_or_none (DataError.Put e) refused failed = inr failed

@@ -20,9 +20,9 @@ use crate::Finding;
 use crate::failure::Failure;
 use crate::files::certificate::{read_history_file, write_history_file};
 use crate::files::schema::read_schema_file;
+use crate::files::texts::Texts;
 use crate::printing::print_bytes;
 use crate::request::{Evidence, History, Mode};
-use crate::files::texts::Texts;
 use avro_answer::{Form, Judged, answer_confirmed, judge_json_line, judge_line};
 use avro_device::Output;
 use avro_history::{HistoryCert, confirm_history};
@@ -144,10 +144,7 @@ fn certify_into<'a, R: Texts, O: Output>(
 }
 
 /// The schemas of files, in order.
-fn read_schema_files<'a, R: Texts>(
-    rt: &R,
-    words: &[&'a str],
-) -> Result<Vec<Schema>, Failure<'a>> {
+fn read_schema_files<'a, R: Texts>(rt: &R, words: &[&'a str]) -> Result<Vec<Schema>, Failure<'a>> {
     let mut schemas = Vec::new(rt.alloc());
     for word in words {
         let schema = read_schema_file(rt, word)?;

@@ -1,7 +1,6 @@
 //! The first datum of encoded data.
 
-ghost use Rattle.std.specs.Prelude.{◌≡◌, ◌≢◌, ◌⊎◌, ℕ, [], List, OnErr, OnOk, IfOk, IsErrOf, Err, option_copied, option_map};
-ghost use Rattle.std.specs.Result.{IfErr};
+ghost use Rattle.std.specs.Prelude.{◌≡◌, ◌⊎◌, ℕ, [], List, OnErr, OnOk, IfOk, Err, option_copied, option_map};
 ghost use Rattle.avro_schema.specs.SeenSchema.{schema_nodes};
 ghost use Rattle.avro_device.specs.PutFront.{PutsFrontOf};
 ghost use Rattle.avro_resolve.specs.declared.error.ReadResolveError.{ReadResolveError};
@@ -9,16 +8,17 @@ ghost use Rattle.avro_answer.specs.DataPut.{DatumPut};
 ghost use Rattle.avro_answer.specs.DataRead.{IsDatumTold};
 ghost use Rattle.avro_answer.specs.ReadAnswer.{IsAllFound};
 ghost use Rattle.avro_tool.specs.DefaultLimits.{datum_limits};
+ghost use Rattle.avro_tool.specs.FailsOnlyFor.{FailsOnlyFor};
 ghost use Rattle.avro_tool.specs.FailureText.{data_failure, told_error, IsDataFailure};
 ghost use Rattle.avro_tool.specs.FoundStatus.{finding_status};
-ghost use Rattle.avro_tool.specs.declared.failure.Failure.TheVariants.{Data, CannotPrint, OutOfMemory};
+ghost use Rattle.avro_tool.specs.declared.failure.Failure.TheVariants.{Data};
 
 use crate::Finding;
 use crate::failure::Failure;
 use crate::files::container::open_file;
 use crate::files::schema::{read_reader, read_schema_file};
-use crate::request::Reading;
 use crate::files::texts::Texts;
+use crate::request::Reading;
 use avro_answer::{DataError, DataPlan, behind};
 use avro_binary::{Nothing, ReadError, read_own};
 use avro_device::Output;
@@ -88,12 +88,9 @@ fn tell_datum<'a, O: Output>(
     ensures front { OnErr result (O.keeps out.old [] out.new ⊎ (text : List ℕ) × IsDatumTold (schema_nodes writer.now) (option_map (λ t. schema_nodes t.1) (option_copied reader.entry)) datum_limits
         asked.now.form asked.now.skip bytes.now text × PutsFrontOf O.keeps out.old out.new text) }
     ensures good { IfOk result (λ f. finding_status f ≡ 0) }
-    ensures fails { IfErr result (IsDataFailure asked.now.data is_cut (IsAllFound (schema_nodes writer.now)
-        (option_map (λ t. schema_nodes t.1) (option_copied reader.entry)) datum_limits asked.now.skip bytes.now)) }
+    ensures fails { FailsOnlyFor (IsDataFailure asked.now.data is_cut (IsAllFound (schema_nodes writer.now)
+        (option_map (λ t. schema_nodes t.1) (option_copied reader.entry)) datum_limits asked.now.skip bytes.now)) O.failures O.stuck out.old out.new result }
     ensures refused { (e : ReadResolveError) → result ≡ Err (Data asked.now.data e) → O.keeps out.old [] out.new × (O.failures out.new ≡ O.failures out.old) }
-    ensures failed { IsErrOf result CannotPrint → (O.failures out.new ≢ O.failures out.old) ⊎ O.stuck out.new }
-    ensures memory { IsErrOf result OutOfMemory → O.failures out.new ≡ O.failures out.old }
-    ensures works { OnOk result (O.failures out.new ≡ O.failures out.old) }
 {
     let plan = plan_of(alloc, writer, reader)?;
     match put_datum(alloc, asked, &plan, bytes, out) {

@@ -68,10 +68,7 @@ pub(crate) fn write_history_file<'a, R: Texts>(
 
 /// The bytes of a file of certificates. At most one byte more than a text may have is read, once; a
 /// longer text is refused.
-fn bytes_of_certificates<'a, R: Texts>(
-    rt: &R,
-    word: &'a str,
-) -> Result<Vec<u8>, Failure<'a>>
+fn bytes_of_certificates<'a, R: Texts>(rt: &R, word: &'a str) -> Result<Vec<u8>, Failure<'a>>
     ensures { IfOk result (λ bytes. IfSome (R.known rt.now word.now) (λ text. bytes.items ≡ text)) }
 {
     let bytes = bytes_of(rt, word, Certificate::MAX_LEN as u64 + 1)?;

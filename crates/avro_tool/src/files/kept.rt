@@ -3,8 +3,8 @@
 
 use crate::failure::Failure;
 use crate::files::schema::TEXT_READ;
-use crate::request::Request;
 use crate::files::texts::Texts;
+use crate::request::Request;
 use avro_schema_json::{SchemaError, read_schema};
 use std::fs::Metadata;
 use std::os::unix::fs::{FileTypeExt, MetadataExt};
@@ -28,10 +28,7 @@ struct Streams {
 }
 
 /// Refuses a request by which a file of its words would be spoiled.
-pub(crate) fn refuse_files<'a, R: Texts>(
-    rt: &R,
-    request: &Request<'a>,
-) -> Result<(), Failure<'a>> {
+pub(crate) fn refuse_files<'a, R: Texts>(rt: &R, request: &Request<'a>) -> Result<(), Failure<'a>> {
     let read = request.files_read(rt.alloc())?;
     refuse_streams(rt, request, &read)?;
     refuse_pipe(rt, request)?;
@@ -126,10 +123,7 @@ fn refuse_read_file<'a, R: Files>(
 
 /// Refuses a file that is to be written if its text declares a schema. A file that is not regular or not
 /// readable is not checked.
-fn refuse_schema_file<'a, R: Texts>(
-    rt: &R,
-    output: Option<&'a str>,
-) -> Result<(), Failure<'a>> {
+fn refuse_schema_file<'a, R: Texts>(rt: &R, output: Option<&'a str>) -> Result<(), Failure<'a>> {
     let Some(output) = output else {
         return Ok(());
     };

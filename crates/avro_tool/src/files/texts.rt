@@ -1,9 +1,8 @@
 //! Where the texts that words name come from.
 
-use std::fs;
-use std::io;
 use std::io::Read;
 use std::rt::{Files, HostRuntime};
+use std::{fs, io};
 
 /// Files of which the program reads texts by the words that name them.
 pub trait Texts: Files + AllocGlobal {

@@ -40,7 +40,7 @@ loop-index-preserved g c =
           adds_next schemas (schema_nodes c.args.reader.now) c.loop-index.index c.index-writers-index.result
           c.args.certificates.now.items c.loop-index.certificates.items c.certify_one.new.certificates.items
           here c.index-writers-index.is (c.loop-index.invariant.1 both.0) (c.in_ok-certified.ensures.kept both.1),
-      c.in_ok-certified.ensures.works ∙ c.loop-index.invariant.2,
+      c.in_ok-certified.ensures.fails.works ∙ c.loop-index.invariant.2,
     )
 
 pub returns-clause-answered : goal.returns-clause-answered
@@ -58,8 +58,8 @@ returns-clause-answered g c =
 pub returns-clause-verdict : goal.returns-clause-verdict
 returns-clause-verdict g c = c.loop-index.invariant.0.verdict
 
-pub returns-clause-works : goal.returns-clause-works
-returns-clause-works g c = c.loop-index.invariant.2
+pub returns-clause-fails : goal.returns-clause-fails
+returns-clause-fails g c = record { only = tt; blamed = λ is. absurd cc; memory = λ is. absurd cc; works = c.loop-index.invariant.2 }
 
 pub returns-clause-kept : goal.returns-clause-kept
 returns-clause-kept g c = λ same good.

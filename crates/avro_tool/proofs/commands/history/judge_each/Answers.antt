@@ -30,7 +30,7 @@ loop-index-preserved g c =
           before told.2 (c.and-finding.ensures.verdict before.verdict c.in_ok-found.ensures.verdict) (c.and-finding.ensures.status before.verdict c.in_ok-found.ensures.verdict)
           (each_more history.form history.mode history.is_next c.args.last.now history.limits files schemas c.loop-index.index _ c.index-schemas-index.result c.later_of-later.result.now c.split_at.result.1.now told.0 (finding_status found)
           named here c.index-schemas-index.is c.split_at.ensures.back c.later_of-later.ensures told.1),
-      c.in_ok-found.ensures.works ∙ c.loop-index.invariant.1,
+      c.in_ok-found.ensures.fails.works ∙ c.loop-index.invariant.1,
     )
 
 pub returns-clause-answered : goal.returns-clause-answered
@@ -48,5 +48,5 @@ returns-clause-answered g c =
 pub returns-clause-verdict : goal.returns-clause-verdict
 returns-clause-verdict g c = c.loop-index.invariant.0.verdict
 
-pub returns-clause-works : goal.returns-clause-works
-returns-clause-works g c = c.loop-index.invariant.1
+pub returns-clause-fails : goal.returns-clause-fails
+returns-clause-fails g c = record { only = tt; blamed = λ is. absurd cc; memory = λ is. absurd cc; works = c.loop-index.invariant.1 }
