@@ -1,8 +1,8 @@
-//! The program `avro`, as a function over its words, a reader and two writers. Of its own functions these are proved: that plain words,
-//! a command and its files, make the request for these files (`request_of`, for eight commands); the exit status of each `Failure` and
-//! each `Finding`, and the line of each refusal; that the text and the status of `judge`, `explain`, `confirm`, `schema` and `read` are
-//! those of `avro_answer` for the schemas and the data that were read, in their order (`judge_pair`, `explain_pair`, `tell_confirmed`,
-//! `tell_schema`, `tell_datum`); that the lines of `history`, as text and as JSON, are those of its files, in their order, with the
+//! The program `avro`, as a function over its words, its files, an input, an output and a writer for errors. Of its own functions these
+//! are proved: that a command and its files make the request for these files (`request_of`, for eight commands); that `judge`, `explain`
+//! and `confirm` of files of which it is known what they hold put the answer for these texts, with its status (`run_over`); the exit
+//! status of each `Failure` and each `Finding`, and the line of each refusal; that the text and the status of `schema` and `read` are
+//! those of `avro_answer` for the schemas and the data that were read (`tell_schema`, `tell_datum`); that the lines of `history`, as text and as JSON, are those of its files, in their order, with the
 //! worst status, and that the certificates that are kept confirm their schemas (`judge_each`, `certify_each`); that `pipe` is a copy of
 //! what it takes (`pipe_from`); the counts of `check` (`counts_of`), and their line of JSON (`tell_file_counts`); that `header` prints
 //! the text of the schema of the header that it takes, or the line of all its metadata (`tell_header`); that `show` prints what
@@ -12,6 +12,7 @@
 //! takes, ends and counts as the other does. The rest is safe, and returns.
 //!
 //! `run` makes an `Output` of the writer for the answers, and the commands put into that. No failed call of it is retried.
+//! `Texts` are files of which it may be known what they hold; nothing is known of the system's.
 #![tactic(auto)]
 
 ghost use Rattle.std.specs.Borrow.{Bor};
