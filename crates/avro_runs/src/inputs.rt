@@ -7,7 +7,7 @@ use avro_samples::{NULL_HEADER, NULLS, file_of};
 use std::alloc::{AllocError, Global};
 
 /// An output and an error that take all.
-pub(crate) const ALL: (usize, usize) = (usize::MAX, usize::MAX);
+const ALL: (usize, usize) = (usize::MAX, usize::MAX);
 
 /// What a pipe of the front of a file of three nulls returns.
 fn of_front(len: usize) -> (u8, &'static [u8], &'static [u8]) {

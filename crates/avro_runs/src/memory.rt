@@ -1,31 +1,21 @@
-//! Files in memory, in front of the system's.
+//! Texts in memory, in the place of the system's files.
 
 ghost use Rattle.std.specs.Prelude.{◌≡◌, IfOk, option_copied, take};
 ghost use Rattle.avro_runs.specs.KnownTexts.{known_in};
 
-use crate::devices::Given;
-use crate::inputs::ALL;
-use crate::steps::outcome_from;
+use crate::devices::{Given, Kept};
+use crate::steps::{Outcome, words_of};
 use anyhow::{Result, ensure};
-use avro_tool::Texts;
-use std::alloc::{AllocError, Allocator, Global};
-use std::fs::{Metadata, OpenOptions};
+use avro_device::WriteOutput;
+use avro_tool::{Texts, run_over};
+use std::alloc::{AllocError, Global};
 use std::io;
-use std::rt::{Clock, Files};
-use std::time::Duration;
 
-/// Files whose texts are in memory, by their names. All else is the system's.
+/// Texts in memory, by their names.
 #[derive(Drop)]
-pub(crate) struct InMemory<'r, R> {
-    rt: &'r R,
-    texts: &'r [(&'r str, &'r [u8])],
-}
-
-impl<'r, R> InMemory<'r, R> {
-    /// These texts, by their names.
-    pub(crate) fn new(rt: &'r R, texts: &'r [(&'r str, &'r [u8])]) -> InMemory<'r, R> {
-        InMemory { rt, texts }
-    }
+struct InMemory<'t> {
+    alloc: Global,
+    texts: &'t [(&'t str, &'t [u8])],
 }
 
 /// The first text that has this name.
@@ -48,80 +38,24 @@ fn front_of(alloc: Global, text: &[u8], most: u64) -> Result<Vec<u8>, AllocError
     Vec::from_slice(alloc, &text[..end])
 }
 
-impl<R: Files + AllocGlobal> Texts for InMemory<'_, R> {
+impl Alloc for InMemory<'_> {
+    type A = Global;
+
+    fn alloc(&self) -> Global {
+        self.alloc
+    }
+}
+
+impl Texts for InMemory<'_> {
     ghost use Rattle.avro_runs.specs.KnownTexts.{known_in};
 
     ghost known = { λ m word. known_in m.texts.now word };
 
     fn text(&self, word: &str, most: u64) -> io::Result<Vec<u8>> {
         match known_text(self.texts, word) {
-            Some(text) => Ok(front_of(self.rt.alloc(), text, most)?),
+            Some(text) => Ok(front_of(self.alloc, text, most)?),
             None => Err(io::Error::from(io::ErrorKind::NotFound)),
         }
-    }
-}
-
-impl<R: Alloc> Alloc for InMemory<'_, R> {
-    type A = R::A;
-
-    fn alloc(&self) -> R::A {
-        self.rt.alloc()
-    }
-}
-
-impl<R: Clock> Clock for InMemory<'_, R> {
-    fn monotonic(&self) -> io::Result<Duration> {
-        self.rt.monotonic()
-    }
-
-    fn since_1970(&self) -> io::Result<Duration> {
-        self.rt.since_1970()
-    }
-}
-
-impl<R: Files> Files for InMemory<'_, R> {
-    type File = R::File;
-
-    type Dir = R::Dir;
-
-    fn open_file(&self, how: &OpenOptions, path: &str) -> io::Result<R::File> {
-        self.rt.open_file(how, path)
-    }
-
-    fn open_dir(&self, path: &str) -> io::Result<R::Dir> {
-        self.rt.open_dir(path)
-    }
-
-    fn metadata(&self, path: &str) -> io::Result<Metadata> {
-        self.rt.metadata(path)
-    }
-
-    fn symlink_metadata(&self, path: &str) -> io::Result<Metadata> {
-        self.rt.symlink_metadata(path)
-    }
-
-    fn copy(&self, from: &str, to: &str) -> io::Result<u64> {
-        self.rt.copy(from, to)
-    }
-
-    fn rename(&self, from: &str, to: &str) -> io::Result<()> {
-        self.rt.rename(from, to)
-    }
-
-    fn remove_file(&self, path: &str) -> io::Result<()> {
-        self.rt.remove_file(path)
-    }
-
-    fn create_dir(&self, path: &str) -> io::Result<()> {
-        self.rt.create_dir(path)
-    }
-
-    fn remove_dir(&self, path: &str) -> io::Result<()> {
-        self.rt.remove_dir(path)
-    }
-
-    fn remove_dir_all<B: Allocator>(&self, alloc: B, path: &str) -> io::Result<()> {
-        self.rt.remove_dir_all(alloc, path)
     }
 }
 
@@ -129,7 +63,7 @@ impl<R: Files> Files for InMemory<'_, R> {
 const TEXTS: [(&str, &[u8]); 2] = [("long", b"\"long\""), ("int", b"\"int\"")];
 
 /// The words of a run over these texts, its status, and what is put on the output and the error.
-const RUNS: [(&str, u8, &[u8], &[u8]); 3] = [
+const RUNS: [(&str, u8, &[u8], &[u8]); 5] = [
     ("judge int long", 0, b"yes\n", b""),
     (
         "judge long int",
@@ -137,17 +71,42 @@ const RUNS: [(&str, u8, &[u8], &[u8]); 3] = [
         b"no\nfault NoMatch at /\nnodes 1\ndatum 0\n",
         b"",
     ),
+    ("explain int long", 0, b"yes\n", b""),
+    (
+        "explain long int",
+        1,
+        b"no 1\n$: NoMatch: long cannot be read as int (writer's $)\n",
+        b"",
+    ),
     ("judge int none", 4, b"", b"avro: none: cannot read\n"),
 ];
 
+/// A run of the words of a line over texts in memory.
+fn outcome_of(
+    rt: &HostRuntime,
+    texts: &InMemory<'_>,
+    line: &str,
+) -> Result<Outcome, AllocError> {
+    let words = words_of(rt.alloc(), line)?;
+    let mut input = Given::all(b"");
+    let mut out = WriteOutput::new(Kept::with_room(rt.alloc(), usize::MAX));
+    let mut err = Kept::with_room(rt.alloc(), usize::MAX);
+    let status = run_over(texts, rt, &words, &mut input, &mut out, &mut err);
+    Ok(Outcome {
+        status,
+        out: out.into_inner(),
+        err,
+    })
+}
+
 /// The words of the first of these runs, if any, that ends otherwise.
 fn wrong_run(
-    files: &InMemory<'_, HostRuntime>,
+    rt: &HostRuntime,
+    texts: &InMemory<'_>,
     rows: &[(&'static str, u8, &'static [u8], &'static [u8])],
 ) -> Result<Option<&'static str>, AllocError> {
     for (line, status, out, err) in rows {
-        let ran = outcome_from(files, line, &mut Given::all(b""), ALL)?;
-        if !ran.is(*status, out, err) {
+        if !outcome_of(rt, texts, line)?.is(*status, out, err) {
             return Ok(Some(line));
         }
     }
@@ -160,8 +119,12 @@ fn wrong_run(
 ///
 /// A run ends otherwise, or memory ran out.
 pub(crate) fn check_texts(rt: &HostRuntime) -> Result<()> {
-    let files = InMemory::new(rt, &TEXTS);
-    ensure!(wrong_run(&files, &RUNS)?.is_none(), "texts in memory");
+    let texts = InMemory {
+        alloc: rt.alloc(),
+        texts: &TEXTS,
+    };
+    let wrong = wrong_run(rt, &texts, &RUNS)?;
+    ensure!(wrong.is_none(), "texts in memory: {}", wrong.unwrap_or(""));
     println!(rt; "texts")?;
     Ok(())
 }

@@ -7,8 +7,7 @@ use crate::told::{
     about_step, any_step, json_step, pointer_step, size_step, told_step, writes_step,
 };
 use anyhow::{Error, Result, anyhow};
-use avro_tool::Texts;
-use std::rt::Clock;
+use std::rt::{Clock, Files};
 
 /// What the program reads in later runs.
 fn input_step<R: AllocGlobal>(rt: &R, sheet: &mut Sheet, text: &str) -> Result<bool> {
@@ -17,7 +16,12 @@ fn input_step<R: AllocGlobal>(rt: &R, sheet: &mut Sheet, text: &str) -> Result<b
 }
 
 /// A run. All that the one before wrote must be told.
-fn next_step<R: Texts + Clock>(rt: &R, sheet: &mut Sheet, word: &str, text: &str) -> Result<bool> {
+fn next_step<R: Files + Clock + AllocGlobal>(
+    rt: &R,
+    sheet: &mut Sheet,
+    word: &str,
+    text: &str,
+) -> Result<bool> {
     if !sheet.is_told() {
         return Ok(false);
     }
@@ -30,7 +34,12 @@ fn next_step<R: Texts + Clock>(rt: &R, sheet: &mut Sheet, word: &str, text: &str
 }
 
 /// Takes a step, and tells whether it holds.
-fn step<R: Texts + Clock>(rt: &R, sheet: &mut Sheet, word: &str, text: &str) -> Result<bool> {
+fn step<R: Files + Clock + AllocGlobal>(
+    rt: &R,
+    sheet: &mut Sheet,
+    word: &str,
+    text: &str,
+) -> Result<bool> {
     match word {
         "" | "#" => Ok(true),
         "run" | "room" | "usage" => next_step(rt, sheet, word, text),
@@ -80,7 +89,7 @@ fn fault(line: &str, sheet: &Sheet) -> Error {
 /// # Errors
 ///
 /// A line does not hold, a run wrote what no line tells, or memory ran out.
-pub(crate) fn check_sheet<R: Texts + Clock>(rt: &R, lines: &str) -> Result<usize> {
+pub(crate) fn check_sheet<R: Files + Clock + AllocGlobal>(rt: &R, lines: &str) -> Result<usize> {
     let mut sheet = Sheet::new(rt.alloc());
     for line in lines.lines() {
         let (word, text) = halves(line);

@@ -3,9 +3,9 @@
 use crate::devices::{Given, Kept};
 use crate::escapes::{halves, text_of};
 use anyhow::Result;
-use avro_tool::{Texts, run};
+use avro_tool::run;
 use std::alloc::{AllocError, Global};
-use std::rt::Clock;
+use std::rt::{Clock, Files};
 
 /// What a run of the program did.
 #[derive(Drop)]
@@ -71,7 +71,7 @@ impl Sheet {
 /// # Errors
 ///
 /// Memory ran out.
-fn words_of(alloc: Global, line: &str) -> Result<Vec<String>, AllocError> {
+pub(crate) fn words_of(alloc: Global, line: &str) -> Result<Vec<String>, AllocError> {
     let mut list = Vec::new(alloc);
     for word in line.split_whitespace() {
         list.push(String::from_str(alloc, word)?)?;
@@ -84,7 +84,7 @@ fn words_of(alloc: Global, line: &str) -> Result<Vec<String>, AllocError> {
 /// # Errors
 ///
 /// Memory ran out before the run.
-pub(crate) fn outcome_from<R: Texts + Clock>(
+pub(crate) fn outcome_from<R: Files + Clock + AllocGlobal>(
     rt: &R,
     line: &str,
     input: &mut Given<'_>,
@@ -98,7 +98,7 @@ pub(crate) fn outcome_from<R: Texts + Clock>(
 }
 
 /// A run of a line of a sheet, where the output and the error take these numbers of bytes.
-fn run_line<R: Texts + Clock>(
+fn run_line<R: Files + Clock + AllocGlobal>(
     rt: &R,
     sheet: &mut Sheet,
     line: &str,
@@ -116,14 +116,22 @@ fn run_line<R: Texts + Clock>(
 }
 
 /// A run, `STATUS WORDS`.
-pub(crate) fn run_step<R: Texts + Clock>(rt: &R, sheet: &mut Sheet, text: &str) -> Result<bool> {
+pub(crate) fn run_step<R: Files + Clock + AllocGlobal>(
+    rt: &R,
+    sheet: &mut Sheet,
+    text: &str,
+) -> Result<bool> {
     let (status, line) = halves(text);
     run_line(rt, sheet, line, (usize::MAX, usize::MAX))?;
     Ok(status.parse::<u8>().ok() == Some(sheet.ran.status))
 }
 
 /// A run whose output takes only some bytes, `ROOM STATUS WORDS`. The status is the same where the error takes none.
-pub(crate) fn room_step<R: Texts + Clock>(rt: &R, sheet: &mut Sheet, text: &str) -> Result<bool> {
+pub(crate) fn room_step<R: Files + Clock + AllocGlobal>(
+    rt: &R,
+    sheet: &mut Sheet,
+    text: &str,
+) -> Result<bool> {
     let (room, rest) = halves(text);
     let (status, line) = halves(rest);
     let Ok(room) = room.parse::<usize>() else {
@@ -138,7 +146,11 @@ pub(crate) fn room_step<R: Texts + Clock>(rt: &R, sheet: &mut Sheet, text: &str)
 
 /// A run whose words are usage: the status is 64, nothing goes to the output, the errors are none of the program's own
 /// lines, and no input is read.
-pub(crate) fn usage_step<R: Texts + Clock>(rt: &R, sheet: &mut Sheet, line: &str) -> Result<bool> {
+pub(crate) fn usage_step<R: Files + Clock + AllocGlobal>(
+    rt: &R,
+    sheet: &mut Sheet,
+    line: &str,
+) -> Result<bool> {
     run_line(rt, sheet, line, (usize::MAX, usize::MAX))?;
     let err = sheet.ran.err.bytes.as_slice();
     let told = !err.is_empty() && !err.starts_with(b"avro: ");

@@ -44,12 +44,13 @@ use commands::{
 };
 use failure::Failure;
 use files::kept::refuse_files;
+use files::texts::SystemTexts;
 pub use files::texts::Texts;
 use request::Request;
 use std::alloc::Global;
 use std::io;
 use std::io::{Read, Write};
-use std::rt::Clock;
+use std::rt::{Clock, Files};
 
 /// What a command found, which gives the exit status.
 #[derive(Clone, Copy, PartialEq, Eq)]
@@ -122,28 +123,28 @@ pub fn refuse_words<E: Write>(error: &io::Error, err: &mut E) -> u8 {
 /// no, 2 undecided, 3 refused input, 4 a file's fault, 5 out of memory, 64 usage. Answers go to
 /// `out`, errors and usage texts to `err`; that a file is standard error goes to `out`, since it would stand in the
 /// file. Only the command that copies `input` reads it.
-pub fn run<R: Texts + Clock, I: Read, O: Write, E: Write>(
+pub fn run<R: Files + Clock + AllocGlobal, I: Read, O: Write, E: Write>(
     rt: &R,
     words: &[String],
     input: &mut I,
     out: &mut O,
     err: &mut E,
 ) -> u8 {
-    run_over(rt, words, input, &mut WriteOutput::new(out), err)
+    run_over(&SystemTexts { rt }, rt, words, input, &mut WriteOutput::new(out), err)
 }
 
 /// Runs the program on its words, as [`run`] does, over an output.
-pub fn run_over<R: Texts + Clock, I: Read, O: Output, E: Write>(
-    rt: &R,
+pub fn run_over<T: Texts, R: Files + Clock + AllocGlobal, I: Read, O: Output, E: Write>(
+    texts: &T, rt: &R,
     words: &[String],
     input: &mut I,
     out: &mut O,
     err: &mut E,
 ) -> u8
     ensures { (plain : PlainWords) → map string_bytes words.now ≡ name_of plain ∷ files_of plain → HaveNoOption (files_of plain) → AreApart plain
-        → result ≤ 2 → AnswersPlain (R.known rt.now) (λ text. O.keeps out.old text out.new) result plain }
+        → result ≤ 2 → AnswersPlain (T.known texts.now) (λ text. O.keeps out.old text out.new) result plain }
 {
-    match answer(rt, words, input, out, err) {
+    match answer(texts, rt, words, input, out, err) {
         Ok(finding) => finding.status(),
         Err(failure) if matches!(failure, Failure::IsError(_)) => report(rt.alloc(), &failure, out),
         Err(failure) => report(rt.alloc(), &failure, &mut WriteOutput::new(err)),
@@ -175,51 +176,51 @@ fn report_memory<E: Output>(err: &mut E) -> u8
 }
 
 /// Does what the words ask for.
-fn answer<'a, R: Texts + Clock, I: Read, O: Output, E: Write>(
-    rt: &R,
+fn answer<'a, T: Texts, R: Files + Clock + AllocGlobal, I: Read, O: Output, E: Write>(
+    texts: &T, rt: &R,
     words: &'a [String],
     input: &mut I,
     out: &mut O,
     err: &mut E,
 ) -> Result<Finding, Failure<'a>>
     ensures { (plain : PlainWords) → map string_bytes words.entry.now ≡ name_of plain ∷ files_of plain → HaveNoOption (files_of plain) → AreApart plain
-        → IfOk result (λ f. AnswersPlain (R.known rt.now) (λ text. O.keeps out.old text out.new) (finding_status f) plain) }
+        → IfOk result (λ f. AnswersPlain (T.known texts.now) (λ text. O.keeps out.old text out.new) (finding_status f) plain) }
 {
     let request = request_of(rt.alloc(), words)?;
-    refuse_files(rt, &request)?;
-    answer_request(rt, &request, input, out, err)
+    refuse_files(texts, rt, &request)?;
+    answer_request(texts, rt, &request, input, out, err)
 }
 
 /// Does what is asked for.
-fn answer_request<'a, R: Texts + Clock, I: Read, O: Output, E: Write>(
-    rt: &R,
+fn answer_request<'a, T: Texts, R: Files + Clock + AllocGlobal, I: Read, O: Output, E: Write>(
+    texts: &T, rt: &R,
     request: &Request<'a>,
     input: &mut I,
     out: &mut O,
     err: &mut E,
 ) -> Result<Finding, Failure<'a>>
     ensures judge { (asked : Judging) → request.now ≡ Asked.Judge asked → asked.form ≡ Form.Text
-        → IfOk result (λ f. AnswersJudge (R.known rt.now) (λ text. O.keeps out.old text out.new) (finding_status f) asked.writer.now asked.reader.now asked.limits) }
+        → IfOk result (λ f. AnswersJudge (T.known texts.now) (λ text. O.keeps out.old text out.new) (finding_status f) asked.writer.now asked.reader.now asked.limits) }
     ensures explain { (asked : Explaining) → request.now ≡ Asked.Explain asked → asked.form ≡ Form.Text
-        → IfOk result (λ f. AnswersExplain (R.known rt.now) (λ text. O.keeps out.old text out.new) (finding_status f) asked.writer.now asked.reader.now asked.max_pairs) }
+        → IfOk result (λ f. AnswersExplain (T.known texts.now) (λ text. O.keeps out.old text out.new) (finding_status f) asked.writer.now asked.reader.now asked.max_pairs) }
     ensures confirm { (writer reader certificate : Bor (List ℕ)) → request.now ≡ Asked.Confirm writer reader certificate Form.Text
-        → IfOk result (λ f. AnswersConfirm (R.known rt.now) (λ text. O.keeps out.old text out.new) (finding_status f) writer.now reader.now certificate.now) }
+        → IfOk result (λ f. AnswersConfirm (T.known texts.now) (λ text. O.keeps out.old text out.new) (finding_status f) writer.now reader.now certificate.now) }
 {
     match request {
-        Request::Judge(asked) => judge::judge_files(rt, asked, out),
-        Request::Explain(asked) => explain::explain_files(rt, asked, out),
+        Request::Judge(asked) => judge::judge_files(texts, rt, asked, out),
+        Request::Explain(asked) => explain::explain_files(texts, asked, out),
         Request::Confirm {
             writer,
             reader,
             certificate,
             form,
-        } => confirm::confirm_files(rt, writer, reader, certificate, *form, out),
-        Request::History(history) => history::history_of_files(rt, history, out),
+        } => confirm::confirm_files(texts, writer, reader, certificate, *form, out),
+        Request::History(history) => history::history_of_files(texts, rt, history, out),
         Request::Schema {
             file,
             shown,
             is_why,
-        } => schema::show_schema(rt, file, *shown, *is_why, out, err),
+        } => schema::show_schema(texts, file, *shown, *is_why, out, err),
         Request::Check {
             files,
             form,
@@ -229,11 +230,11 @@ fn answer_request<'a, R: Texts + Clock, I: Read, O: Output, E: Write>(
             file,
             reader,
             limit,
-        } => show::show_file(rt, file, *reader, *limit, out),
-        Request::Copy(asked) => copy::copy_file(rt, asked, out, err),
-        Request::Pipe(asked) => pipe::pipe_streams(rt, asked, input, out, err),
+        } => show::show_file(texts, rt, file, *reader, *limit, out),
+        Request::Copy(asked) => copy::copy_file(texts, rt, asked, out, err),
+        Request::Pipe(asked) => pipe::pipe_streams(texts, rt, asked, input, out, err),
         Request::Header { file, is_metadata } => header::show_header(rt, file, *is_metadata, out),
-        Request::Read(asked) => read::read_file(rt, asked, out),
+        Request::Read(asked) => read::read_file(texts, rt, asked, out),
         Request::Version => version::tell_version(rt.alloc(), out),
     }
 }

@@ -22,50 +22,50 @@ use avro_schema::Schema;
 use std::alloc::Global;
 
 /// Prints whether the certificate in a file confirms the schemas of two files.
-pub(crate) fn confirm_files<'a, R: Texts, O: Output>(
-    rt: &R,
+pub(crate) fn confirm_files<'a, T: Texts, O: Output>(
+    texts: &T,
     writer: &'a str,
     reader: &'a str,
     certificate: &'a str,
     form: Form,
     out: &mut O,
 ) -> Result<Finding, Failure<'a>>
-    ensures { form ≡ Form.Text → IfOk result (λ f. AnswersConfirm (R.known rt.now) (λ text. O.keeps out.old text out.new) (finding_status f) writer.now reader.now certificate.now) }
+    ensures { form ≡ Form.Text → IfOk result (λ f. AnswersConfirm (T.known texts.now) (λ text. O.keeps out.old text out.new) (finding_status f) writer.now reader.now certificate.now) }
 {
-    let writer = read_schema_file(rt, writer)?;
-    confirm_written(rt, &writer, reader, certificate, form, out)
+    let writer = read_schema_file(texts, writer)?;
+    confirm_written(texts, &writer, reader, certificate, form, out)
 }
 
 /// The same for a writer's schema.
-fn confirm_written<'a, R: Texts, O: Output>(
-    rt: &R,
+fn confirm_written<'a, T: Texts, O: Output>(
+    texts: &T,
     writer: &Schema,
     reader: &'a str,
     certificate: &'a str,
     form: Form,
     out: &mut O,
 ) -> Result<Finding, Failure<'a>>
-    ensures { (w r c : List ℕ) → form ≡ Form.Text → IsReadAs w (schema_nodes writer.now) → R.known rt.now reader.now ≡ Some r → R.known rt.now certificate.now ≡ Some c
+    ensures { (w r c : List ℕ) → form ≡ Form.Text → IsReadAs w (schema_nodes writer.now) → T.known texts.now reader.now ≡ Some r → T.known texts.now certificate.now ≡ Some c
         → IfOk result (λ f. (text : List ℕ) × ConfirmAnswer w r c text (finding_status f) × O.keeps out.old text out.new) }
 {
-    let reader = read_schema_file(rt, reader)?;
-    confirm_pair(rt, writer, &reader, certificate, form, out)
+    let reader = read_schema_file(texts, reader)?;
+    confirm_pair(texts, writer, &reader, certificate, form, out)
 }
 
 /// The same for two schemas.
-fn confirm_pair<'a, R: Texts, O: Output>(
-    rt: &R,
+fn confirm_pair<'a, T: Texts, O: Output>(
+    texts: &T,
     writer: &Schema,
     reader: &Schema,
     certificate: &'a str,
     form: Form,
     out: &mut O,
 ) -> Result<Finding, Failure<'a>>
-    ensures { (w r c : List ℕ) → form ≡ Form.Text → IsReadAs w (schema_nodes writer.now) → IsReadAs r (schema_nodes reader.now) → R.known rt.now certificate.now ≡ Some c
+    ensures { (w r c : List ℕ) → form ≡ Form.Text → IsReadAs w (schema_nodes writer.now) → IsReadAs r (schema_nodes reader.now) → T.known texts.now certificate.now ≡ Some c
         → IfOk result (λ f. (text : List ℕ) × ConfirmAnswer w r c text (finding_status f) × O.keeps out.old text out.new) }
 {
-    let certificate = read_certificate_file(rt, certificate)?;
-    tell_confirmed(rt.alloc(), writer, reader, &certificate, form, out)
+    let certificate = read_certificate_file(texts, certificate)?;
+    tell_confirmed(texts.alloc(), writer, reader, &certificate, form, out)
 }
 
 /// Prints whether a certificate confirms two schemas.

@@ -11,17 +11,17 @@ use avro_file::{CopyError, FileLimits};
 use avro_schema_json::ReaderText;
 use std::alloc::Global;
 use std::io::Write;
-use std::rt::Clock;
+use std::rt::{Clock, Files};
 
 /// Copies the container in a file into another one, and prints how many data and blocks it has. The other
 /// file is created, or truncated, once the header was read.
-pub(crate) fn copy_file<'a, R: Texts + Clock, O: Output, E: Write>(
-    rt: &R,
+pub(crate) fn copy_file<'a, T: Texts, R: Files + Clock + AllocGlobal, O: Output, E: Write>(
+    texts: &T, rt: &R,
     asked: &Copying<'a>,
     out: &mut O,
     err: &mut E,
 ) -> Result<Finding, Failure<'a>> {
-    let reader = read_reader(rt, asked.reader)?;
+    let reader = read_reader(texts, asked.reader)?;
     let counts = if asked.is_watched {
         copy_watched(rt, asked, reader.as_ref(), err)?
     } else {
@@ -31,7 +31,7 @@ pub(crate) fn copy_file<'a, R: Texts + Clock, O: Output, E: Write>(
 }
 
 /// Copies the container in a file for a reader's schema, where there is one.
-fn copy_for<'a, R: Texts>(
+fn copy_for<'a, R: Files + AllocGlobal>(
     rt: &R,
     asked: &Copying<'a>,
     reader: Option<&ReaderText>,
@@ -41,7 +41,7 @@ fn copy_for<'a, R: Texts>(
 }
 
 /// The same, with its progress reported.
-fn copy_watched<'a, R: Texts + Clock, E: Write>(
+fn copy_watched<'a, R: Files + Clock + AllocGlobal, E: Write>(
     rt: &R,
     asked: &Copying<'a>,
     reader: Option<&ReaderText>,
@@ -54,7 +54,7 @@ fn copy_watched<'a, R: Texts + Clock, E: Write>(
 }
 
 /// Copies a container into a file, which is closed before the counts are printed.
-fn copy_from<'a, R: Texts, I: Input>(
+fn copy_from<'a, R: Files + AllocGlobal, I: Input>(
     rt: &R,
     source: &mut I,
     asked: &Copying<'a>,

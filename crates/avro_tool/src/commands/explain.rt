@@ -23,30 +23,30 @@ use avro_schema::Schema;
 use std::alloc::Global;
 
 /// Finds all faults of the schemas of two files, and prints them.
-pub(crate) fn explain_files<'a, R: Texts, O: Output>(
-    rt: &R,
+pub(crate) fn explain_files<'a, T: Texts, O: Output>(
+    texts: &T,
     asked: &Explaining<'a>,
     out: &mut O,
 ) -> Result<Finding, Failure<'a>>
     ensures { asked.now.form ≡ Form.Text
-        → IfOk result (λ f. AnswersExplain (R.known rt.now) (λ text. O.keeps out.old text out.new) (finding_status f) asked.now.writer.now asked.now.reader.now asked.now.max_pairs) }
+        → IfOk result (λ f. AnswersExplain (T.known texts.now) (λ text. O.keeps out.old text out.new) (finding_status f) asked.now.writer.now asked.now.reader.now asked.now.max_pairs) }
 {
-    let writer = read_schema_file(rt, asked.writer)?;
-    explain_written(rt, asked, &writer, out)
+    let writer = read_schema_file(texts, asked.writer)?;
+    explain_written(texts, asked, &writer, out)
 }
 
 /// The same for a writer's schema.
-fn explain_written<'a, R: Texts, O: Output>(
-    rt: &R,
+fn explain_written<'a, T: Texts, O: Output>(
+    texts: &T,
     asked: &Explaining<'a>,
     writer: &Schema,
     out: &mut O,
 ) -> Result<Finding, Failure<'a>>
-    ensures { (w r : List ℕ) → asked.now.form ≡ Form.Text → IsReadAs w (schema_nodes writer.now) → R.known rt.now asked.now.reader.now ≡ Some r
+    ensures { (w r : List ℕ) → asked.now.form ≡ Form.Text → IsReadAs w (schema_nodes writer.now) → T.known texts.now asked.now.reader.now ≡ Some r
         → IfOk result (λ f. (text : List ℕ) × ExplainAnswer w r asked.now.max_pairs text (finding_status f) × O.keeps out.old text out.new) }
 {
-    let reader = read_schema_file(rt, asked.reader)?;
-    explain_pair(rt.alloc(), asked, writer, &reader, out)
+    let reader = read_schema_file(texts, asked.reader)?;
+    explain_pair(texts.alloc(), asked, writer, &reader, out)
 }
 
 /// Finds all faults of two schemas, and prints them.

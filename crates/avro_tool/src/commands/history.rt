@@ -29,6 +29,7 @@ use avro_history::{HistoryCert, confirm_history};
 use avro_judge::{Approved, Certificate, Verdict};
 use avro_schema::{Memory, Schema};
 use std::alloc::{AllocError, Global};
+use std::rt::Files;
 
 /// What a line of a history is about: the file of an earlier schema, and the mode if there are two.
 #[derive(Clone, Copy)]
@@ -53,53 +54,53 @@ impl Line<'_> {
 
 /// Prints whether the schemas of several files read each other's data as the mode asks: by judging them, or by
 /// the certificates of a file.
-pub(crate) fn history_of_files<'a, R: Texts, O: Output>(
-    rt: &R,
+pub(crate) fn history_of_files<'a, T: Texts, R: Files + AllocGlobal, O: Output>(
+    texts: &T, rt: &R,
     history: &History<'a>,
     out: &mut O,
 ) -> Result<Finding, Failure<'a>> {
-    let earlier = read_schema_files(rt, &history.writers)?;
-    history_of_earlier(rt, history, &earlier, out)
+    let earlier = read_schema_files(texts, &history.writers)?;
+    history_of_earlier(texts, rt, history, &earlier, out)
 }
 
 /// The answer for the earlier schemas; the last one is read first.
-fn history_of_earlier<'a, R: Texts, O: Output>(
-    rt: &R,
+fn history_of_earlier<'a, T: Texts, R: Files + AllocGlobal, O: Output>(
+    texts: &T, rt: &R,
     history: &History<'a>,
     earlier: &[Schema],
     out: &mut O,
 ) -> Result<Finding, Failure<'a>> {
-    let last = read_schema_file(rt, history.reader)?;
-    history_of_schemas(rt, history, earlier, &last, out)
+    let last = read_schema_file(texts, history.reader)?;
+    history_of_schemas(texts, rt, history, earlier, &last, out)
 }
 
 /// The answer for the earlier schemas and the last one.
-fn history_of_schemas<'a, R: Texts, O: Output>(
-    rt: &R,
+fn history_of_schemas<'a, T: Texts, R: Files + AllocGlobal, O: Output>(
+    texts: &T, rt: &R,
     history: &History<'a>,
     earlier: &[Schema],
     last: &Schema,
     out: &mut O,
 ) -> Result<Finding, Failure<'a>> {
     match history.evidence {
-        Evidence::Given(word) => confirm_given(rt, word, history.form, earlier, last, out),
+        Evidence::Given(word) => confirm_given(texts, word, history.form, earlier, last, out),
         Evidence::Written(word) => certify_into(rt, word, history, earlier, last, out),
         Evidence::Left => judge_each(rt.alloc(), history, earlier, last, out),
     }
 }
 
 /// Prints whether the certificates of a file confirm schemas with the last one.
-fn confirm_given<'a, R: Texts, O: Output>(
-    rt: &R,
+fn confirm_given<'a, T: Texts, O: Output>(
+    texts: &T,
     word: &'a str,
     form: Form,
     earlier: &[Schema],
     last: &Schema,
     out: &mut O,
 ) -> Result<Finding, Failure<'a>> {
-    let certificates = read_history_file(rt, word)?;
-    let is_confirmed = are_confirmed(rt.alloc(), earlier, last, &certificates)?;
-    tell_confirmed(rt.alloc(), is_confirmed, form, out)
+    let certificates = read_history_file(texts, word)?;
+    let is_confirmed = are_confirmed(texts.alloc(), earlier, last, &certificates)?;
+    tell_confirmed(texts.alloc(), is_confirmed, form, out)
 }
 
 /// Whether certificates confirm schemas with the last one.
@@ -127,7 +128,7 @@ fn tell_confirmed<'a, O: Output>(
 }
 
 /// Judges each earlier schema with the last one, and writes the certificates into a file where all are approved.
-fn certify_into<'a, R: Texts, O: Output>(
+fn certify_into<'a, R: Files + AllocGlobal, O: Output>(
     rt: &R,
     word: &'a str,
     history: &History<'a>,
@@ -144,10 +145,10 @@ fn certify_into<'a, R: Texts, O: Output>(
 }
 
 /// The schemas of files, in order.
-fn read_schema_files<'a, R: Texts>(rt: &R, words: &[&'a str]) -> Result<Vec<Schema>, Failure<'a>> {
-    let mut schemas = Vec::new(rt.alloc());
+fn read_schema_files<'a, T: Texts>(texts: &T, words: &[&'a str]) -> Result<Vec<Schema>, Failure<'a>> {
+    let mut schemas = Vec::new(texts.alloc());
     for word in words {
-        let schema = read_schema_file(rt, word)?;
+        let schema = read_schema_file(texts, word)?;
         if schemas.push(schema).is_err() {
             return Err(Failure::OutOfMemory);
         }

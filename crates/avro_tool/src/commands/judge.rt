@@ -25,37 +25,38 @@ use avro_judge::{JudgeLimits, Verdict};
 use avro_schema::Schema;
 use avro_schema_json::ReaderText;
 use std::alloc::Global;
+use std::rt::Files;
 
 /// Judges the schemas of two files, and prints the verdict. After a yes the certificate is written
 /// where a file is named for it, and after a no the refutation.
-pub(crate) fn judge_files<'a, R: Texts, O: Output>(
-    rt: &R,
+pub(crate) fn judge_files<'a, T: Texts, R: Files + AllocGlobal, O: Output>(
+    texts: &T, rt: &R,
     asked: &Judging<'a>,
     out: &mut O,
 ) -> Result<Finding, Failure<'a>>
     ensures { asked.now.form ≡ Form.Text
-        → IfOk result (λ f. AnswersJudge (R.known rt.now) (λ text. O.keeps out.old text out.new) (finding_status f) asked.now.writer.now asked.now.reader.now asked.now.limits) }
+        → IfOk result (λ f. AnswersJudge (T.known texts.now) (λ text. O.keeps out.old text out.new) (finding_status f) asked.now.writer.now asked.now.reader.now asked.now.limits) }
 {
-    let writer = read_text_file(rt, asked.writer)?;
-    judge_written(rt, asked, &writer, out)
+    let writer = read_text_file(texts, asked.writer)?;
+    judge_written(texts, rt, asked, &writer, out)
 }
 
 /// Judges a writer's schema and the reader's, which is read first.
-fn judge_written<'a, R: Texts, O: Output>(
-    rt: &R,
+fn judge_written<'a, T: Texts, R: Files + AllocGlobal, O: Output>(
+    texts: &T, rt: &R,
     asked: &Judging<'a>,
     writer: &ReaderText,
     out: &mut O,
 ) -> Result<Finding, Failure<'a>>
-    ensures { (w r : List ℕ) → asked.now.form ≡ Form.Text → IsReadAs w (schema_nodes writer.now.1) → R.known rt.now asked.now.reader.now ≡ Some r
+    ensures { (w r : List ℕ) → asked.now.form ≡ Form.Text → IsReadAs w (schema_nodes writer.now.1) → T.known texts.now asked.now.reader.now ≡ Some r
         → IfOk result (λ f. (text : List ℕ) × JudgeAnswer w r asked.now.limits text (finding_status f) × O.keeps out.old text out.new) }
 {
-    let reader = read_schema_file(rt, asked.reader)?;
+    let reader = read_schema_file(texts, asked.reader)?;
     judge_pair(rt, asked, writer, &reader, out)
 }
 
 /// Judges two schemas, prints the verdict, and writes its evidence where a file is named for it.
-fn judge_pair<'a, R: Texts, O: Output>(
+fn judge_pair<'a, R: Files + AllocGlobal, O: Output>(
     rt: &R,
     asked: &Judging<'a>,
     writer: &ReaderText,
@@ -103,7 +104,7 @@ fn tell_verdict<'a, 's, O: Output>(
 }
 
 /// Writes the certificate of a yes, or the datum of a no, where a file is named for it.
-fn write_evidence<'a, R: Texts>(
+fn write_evidence<'a, R: Files + AllocGlobal>(
     rt: &R,
     asked: &Judging<'a>,
     writer: &ReaderText,

@@ -26,21 +26,21 @@ use avro_file::{CopyError, FileLimits};
 use avro_schema_json::ReaderText;
 use std::alloc::Global;
 use std::io::{BufReader, Read, Write};
-use std::rt::Clock;
+use std::rt::{Clock, Files};
 
 /// The word for standard input.
 const INPUT: &str = "-";
 
 /// Copies a container from a reader to a writer, and, if asked for, reports how many data and blocks a whole copy
 /// has.
-pub(crate) fn pipe_streams<'a, R: Texts + Clock, I: Read, O: Output, E: Write>(
-    rt: &R,
+pub(crate) fn pipe_streams<'a, T: Texts, R: Files + Clock + AllocGlobal, I: Read, O: Output, E: Write>(
+    texts: &T, rt: &R,
     asked: &Piping<'a>,
     input: &mut I,
     out: &mut O,
     err: &mut E,
 ) -> Result<Finding, Failure<'a>> {
-    let reader = read_reader(rt, asked.reader)?;
+    let reader = read_reader(texts, asked.reader)?;
     let counts = if asked.is_watched {
         pipe_watched(rt, reader.as_ref(), asked.sync, input, out, err)?
     } else {
@@ -69,7 +69,7 @@ fn pipe_for<'a, I: Read, O: Output>(
 }
 
 /// The same, with its progress reported.
-fn pipe_watched<'a, R: Texts + Clock, I: Read, O: Output, E: Write>(
+fn pipe_watched<'a, R: Files + Clock + AllocGlobal, I: Read, O: Output, E: Write>(
     rt: &R,
     reader: Option<&ReaderText>,
     sync: Option<[u8; 16]>,
@@ -84,7 +84,7 @@ fn pipe_watched<'a, R: Texts + Clock, I: Read, O: Output, E: Write>(
 }
 
 /// The same for an input, and reports its progress.
-fn pipe_told<'a, R: Texts + Clock, I: Input + Drop, O: Output, E: Write>(
+fn pipe_told<'a, R: Files + Clock + AllocGlobal, I: Input + Drop, O: Output, E: Write>(
     rt: &R,
     input: I,
     reader: Option<&ReaderText>,

@@ -29,6 +29,7 @@ use avro_show::Scratch;
 use std::alloc::Global;
 use std::io;
 use std::io::BufRead;
+use std::rt::Files;
 
 /// The most bytes that one datum may take, as in a block of a container.
 const MAX_DATUM: usize = 16_777_216;
@@ -38,28 +39,28 @@ const FREE: usize = 1_048_576;
 
 /// Prints the first datum of the data in a file, after the bytes that are skipped, and its length in bytes; what follows
 /// it is ignored.
-pub(crate) fn read_file<'a, R: Texts, O: Output>(
-    rt: &R,
+pub(crate) fn read_file<'a, T: Texts, R: Files + AllocGlobal, O: Output>(
+    texts: &T, rt: &R,
     asked: &Reading<'a>,
     out: &mut O,
 ) -> Result<Finding, Failure<'a>> {
-    let writer = read_schema_file(rt, asked.writer)?;
-    read_written(rt, asked, &writer, out)
+    let writer = read_schema_file(texts, asked.writer)?;
+    read_written(texts, rt, asked, &writer, out)
 }
 
 /// Reads the data of a writer's schema, for the reader's, which is read first.
-fn read_written<'a, R: Texts, O: Output>(
-    rt: &R,
+fn read_written<'a, T: Texts, R: Files + AllocGlobal, O: Output>(
+    texts: &T, rt: &R,
     asked: &Reading<'a>,
     writer: &Schema,
     out: &mut O,
 ) -> Result<Finding, Failure<'a>> {
-    let reader = read_reader(rt, asked.reader)?;
+    let reader = read_reader(texts, asked.reader)?;
     read_for(rt, asked, writer, reader.as_ref(), out)
 }
 
 /// Reads the data of a writer's schema for a reader's, where there is one.
-fn read_for<'a, R: Texts, O: Output>(
+fn read_for<'a, R: Files + AllocGlobal, O: Output>(
     rt: &R,
     asked: &Reading<'a>,
     writer: &Schema,
@@ -116,7 +117,7 @@ fn plan_of<'a>(
 
 /// The bytes of a file up to the end of its datum at least, or up to its end, or more than some. They are walked over after each
 /// read, but for reads that would make the time of it more than proportional to their number.
-fn take_datum<'a, R: Texts>(
+fn take_datum<'a, R: Files + AllocGlobal>(
     rt: &R,
     asked: &Reading<'a>,
     writer: &Schema,

@@ -23,19 +23,19 @@ const MAX_REASONS: usize = 100;
 
 /// Reads the schema of a file, and prints its number of nodes, its canonical form or its fingerprint. If it is refused,
 /// and the words ask for that, the places of its faults are reported.
-pub(crate) fn show_schema<'a, R: Texts, O: Output, E: Write>(
-    rt: &R,
+pub(crate) fn show_schema<'a, T: Texts, O: Output, E: Write>(
+    texts: &T,
     file: &'a str,
     shown: Shown,
     is_why: bool,
     out: &mut O,
     err: &mut E,
 ) -> Result<Finding, Failure<'a>> {
-    let text = bytes_of(rt, file, TEXT_READ)?;
-    match read_schema(rt.alloc(), &text) {
-        Ok(schema) => tell_schema(rt.alloc(), &schema, shown, out),
+    let text = bytes_of(texts, file, TEXT_READ)?;
+    match read_schema(texts.alloc(), &text) {
+        Ok(schema) => tell_schema(texts.alloc(), &schema, shown, out),
         Err(error) if is_why && error != SchemaError::OutOfMemory => {
-            tell_reasons(rt.alloc(), file, &text, error, err)
+            tell_reasons(texts.alloc(), file, &text, error, err)
         }
         Err(error) => Err(Failure::of_schema(file, error)),
     }

@@ -23,17 +23,18 @@ use avro_lines::show;
 use avro_schema::Schema;
 use avro_schema_json::ReaderText;
 use std::alloc::Global;
+use std::rt::Files;
 
 /// Prints a line for each datum of the container in a file, resolved to a reader's schema if a file is
 /// named for it, and no more lines than the limit, if there is one.
-pub(crate) fn show_file<'a, R: Texts, O: Output>(
-    rt: &R,
+pub(crate) fn show_file<'a, T: Texts, R: Files + AllocGlobal, O: Output>(
+    texts: &T, rt: &R,
     word: &'a str,
     reader: Option<&'a str>,
     limit: Option<u64>,
     out: &mut O,
 ) -> Result<Finding, Failure<'a>> {
-    let reader = read_reader(rt, reader)?;
+    let reader = read_reader(texts, reader)?;
     show_for(rt, word, schema_of(&reader), limit, out)
 }
 
@@ -46,7 +47,7 @@ fn schema_of(reader: &Option<ReaderText>) -> Option<&Schema> {
 }
 
 /// Prints the data of the container in a file for a reader's schema, where there is one.
-fn show_for<'a, R: Texts, O: Output>(
+fn show_for<'a, R: Files + AllocGlobal, O: Output>(
     rt: &R,
     word: &'a str,
     reader: Option<&Schema>,

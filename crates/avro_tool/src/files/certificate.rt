@@ -11,24 +11,25 @@ use crate::files::texts::Texts;
 use avro_history::HistoryCert;
 use avro_judge::{Approved, CertError, Certificate};
 use std::fs;
+use std::rt::Files;
 
 /// The certificate in a file.
-pub(crate) fn read_certificate_file<'a, R: Texts>(
-    rt: &R,
+pub(crate) fn read_certificate_file<'a, T: Texts>(
+    texts: &T,
     word: &'a str,
 ) -> Result<Certificate, Failure<'a>>
-    ensures found { IfOk result (λ c. IfSome (R.known rt.now word.now) (λ text. CertText (dead_of c) (pairs_in c) text)) }
+    ensures found { IfOk result (λ c. IfSome (T.known texts.now word.now) (λ text. CertText (dead_of c) (pairs_in c) text)) }
     ensures small { IfOk result (λ c. are_small (dead_of c) (pairs_in c) ≡ true) }
 {
-    let bytes = bytes_of_certificates(rt, word)?;
-    match Certificate::read(rt.alloc(), &bytes) {
+    let bytes = bytes_of_certificates(texts, word)?;
+    match Certificate::read(texts.alloc(), &bytes) {
         Ok(certificate) => Ok(certificate),
         Err(e) => Err(Failure::of_certificate(word, e)),
     }
 }
 
 /// Writes the certificate of an approval into a file.
-pub(crate) fn write_certificate_file<'a, R: Texts>(
+pub(crate) fn write_certificate_file<'a, R: Files + AllocGlobal>(
     rt: &R,
     approved: &Approved<'_>,
     word: &'a str,
@@ -42,19 +43,19 @@ pub(crate) fn write_certificate_file<'a, R: Texts>(
 }
 
 /// The history in a file.
-pub(crate) fn read_history_file<'a, R: Texts>(
-    rt: &R,
+pub(crate) fn read_history_file<'a, T: Texts>(
+    texts: &T,
     word: &'a str,
 ) -> Result<HistoryCert, Failure<'a>> {
-    let bytes = bytes_of_certificates(rt, word)?;
-    match HistoryCert::read(rt.alloc(), &bytes) {
+    let bytes = bytes_of_certificates(texts, word)?;
+    match HistoryCert::read(texts.alloc(), &bytes) {
         Ok(history) => Ok(history),
         Err(e) => Err(Failure::of_certificate(word, e)),
     }
 }
 
 /// Writes certificates into a file, in order.
-pub(crate) fn write_history_file<'a, R: Texts>(
+pub(crate) fn write_history_file<'a, R: Files + AllocGlobal>(
     rt: &R,
     certificates: Vec<Certificate>,
     word: &'a str,
@@ -68,10 +69,10 @@ pub(crate) fn write_history_file<'a, R: Texts>(
 
 /// The bytes of a file of certificates. At most one byte more than a text may have is read, once; a
 /// longer text is refused.
-fn bytes_of_certificates<'a, R: Texts>(rt: &R, word: &'a str) -> Result<Vec<u8>, Failure<'a>>
-    ensures { IfOk result (λ bytes. IfSome (R.known rt.now word.now) (λ text. bytes.items ≡ text)) }
+fn bytes_of_certificates<'a, T: Texts>(texts: &T, word: &'a str) -> Result<Vec<u8>, Failure<'a>>
+    ensures { IfOk result (λ bytes. IfSome (T.known texts.now word.now) (λ text. bytes.items ≡ text)) }
 {
-    let bytes = bytes_of(rt, word, Certificate::MAX_LEN as u64 + 1)?;
+    let bytes = bytes_of(texts, word, Certificate::MAX_LEN as u64 + 1)?;
     if bytes.len() > Certificate::MAX_LEN {
         return Err(Failure::of_certificate(word, CertError::Malformed));
     }

@@ -28,15 +28,15 @@ struct Streams {
 }
 
 /// Refuses a request by which a file of its words would be spoiled.
-pub(crate) fn refuse_files<'a, R: Texts>(rt: &R, request: &Request<'a>) -> Result<(), Failure<'a>> {
+pub(crate) fn refuse_files<'a, T: Texts, R: Files + AllocGlobal>(texts: &T, rt: &R, request: &Request<'a>) -> Result<(), Failure<'a>> {
     let read = request.files_read(rt.alloc())?;
     refuse_streams(rt, request, &read)?;
     refuse_pipe(rt, request)?;
     let [first, second] = request.files_written();
     refuse_read_file(rt, request, first, &read)?;
     refuse_read_file(rt, request, second, &read)?;
-    refuse_schema_file(rt, first)?;
-    refuse_schema_file(rt, second)
+    refuse_schema_file(texts, rt, first)?;
+    refuse_schema_file(texts, rt, second)
 }
 
 /// Refuses files that standard output is, or standard error where more than an error goes there.
@@ -123,14 +123,14 @@ fn refuse_read_file<'a, R: Files>(
 
 /// Refuses a file that is to be written if its text declares a schema. A file that is not regular or not
 /// readable is not checked.
-fn refuse_schema_file<'a, R: Texts>(rt: &R, output: Option<&'a str>) -> Result<(), Failure<'a>> {
+fn refuse_schema_file<'a, T: Texts, R: Files + AllocGlobal>(texts: &T, rt: &R, output: Option<&'a str>) -> Result<(), Failure<'a>> {
     let Some(output) = output else {
         return Ok(());
     };
     if regular_file(rt, output)?.is_none() {
         return Ok(());
     }
-    let bytes = match rt.text(output, TEXT_READ) {
+    let bytes = match texts.text(output, TEXT_READ) {
         Ok(bytes) => bytes,
         Err(e) if e.kind() == io::ErrorKind::PermissionDenied => return Ok(()),
         Err(e) => return Err(Failure::of_reading(output, &e)),

@@ -12,47 +12,47 @@ use avro_schema_json::{ReaderText, read_schema};
 pub(crate) const TEXT_READ: u64 = 1_048_577;
 
 /// The schema in a file. At most one byte more than a text may have is read, once.
-pub(crate) fn read_schema_file<'a, R: Texts>(rt: &R, word: &'a str) -> Result<Schema, Failure<'a>>
-    ensures { IfOk result (λ schema. IfSome (R.known rt.now word.now) (λ text. IsReadAs text (schema_nodes schema))) }
+pub(crate) fn read_schema_file<'a, T: Texts>(texts: &T, word: &'a str) -> Result<Schema, Failure<'a>>
+    ensures { IfOk result (λ schema. IfSome (T.known texts.now word.now) (λ text. IsReadAs text (schema_nodes schema))) }
 {
-    let bytes = bytes_of(rt, word, TEXT_READ)?;
-    match read_schema(rt.alloc(), &bytes) {
+    let bytes = bytes_of(texts, word, TEXT_READ)?;
+    match read_schema(texts.alloc(), &bytes) {
         Ok(schema) => Ok(schema),
         Err(e) => Err(Failure::of_schema(word, e)),
     }
 }
 
 /// The schema in a file, with its text.
-pub(crate) fn read_text_file<'a, R: Texts>(rt: &R, word: &'a str) -> Result<ReaderText, Failure<'a>>
-    ensures { IfOk result (λ reader. IfSome (R.known rt.now word.now) (λ text. IsReadAs text (schema_nodes reader.1))) }
+pub(crate) fn read_text_file<'a, T: Texts>(texts: &T, word: &'a str) -> Result<ReaderText, Failure<'a>>
+    ensures { IfOk result (λ reader. IfSome (T.known texts.now word.now) (λ text. IsReadAs text (schema_nodes reader.1))) }
 {
-    let bytes = bytes_of(rt, word, TEXT_READ)?;
-    match ReaderText::read(rt.alloc(), &bytes) {
+    let bytes = bytes_of(texts, word, TEXT_READ)?;
+    match ReaderText::read(texts.alloc(), &bytes) {
         Ok(text) => Ok(text),
         Err(e) => Err(Failure::of_schema(word, e)),
     }
 }
 
 /// The schema of a reader, if a file is named for it.
-pub(crate) fn read_reader<'a, R: Texts>(
-    rt: &R,
+pub(crate) fn read_reader<'a, T: Texts>(
+    texts: &T,
     word: Option<&'a str>,
 ) -> Result<Option<ReaderText>, Failure<'a>> {
     match word {
-        Some(word) => Ok(Some(read_text_file(rt, word)?)),
+        Some(word) => Ok(Some(read_text_file(texts, word)?)),
         None => Ok(None),
     }
 }
 
 /// The first bytes of a file: so many, or all where it has fewer.
-pub(crate) fn bytes_of<'a, R: Texts>(
-    rt: &R,
+pub(crate) fn bytes_of<'a, T: Texts>(
+    texts: &T,
     word: &'a str,
     most: u64,
 ) -> Result<Vec<u8>, Failure<'a>>
-    ensures { IfOk result (λ bytes. IfSome (R.known rt.now word.now) (λ all. bytes.items ≡ take most all)) }
+    ensures { IfOk result (λ bytes. IfSome (T.known texts.now word.now) (λ all. bytes.items ≡ take most all)) }
 {
-    match rt.text(word, most) {
+    match texts.text(word, most) {
         Ok(bytes) => Ok(bytes),
         Err(e) => Err(Failure::of_reading(word, &e)),
     }

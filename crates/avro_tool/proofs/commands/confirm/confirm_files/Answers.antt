@@ -9,7 +9,7 @@ use Rattle.avro_tool.proofs.commands.confirm.confirm_files.Goals as goal
 
 pub returns : goal.returns
 returns g c = λ form.
-    let known = g.R.Texts.known c.args.rt.now in
+    let known = g.T.Texts.known c.args.texts.now in
     ok_for_three known c.args.writer.now c.args.reader.now c.args.certificate.now c.confirm_written.result
     (λ (f : Finding) (w r t : List ℕ). (text : List ℕ) × ConfirmAnswer w r t text (finding_status f) × g.O.Output.keeps c.args.out.now text c.confirm_written.new.out)
     (λ w r t is_written is_read is_certificate. c.confirm_written.ensures w r t form

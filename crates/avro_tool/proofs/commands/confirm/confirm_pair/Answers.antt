@@ -8,7 +8,7 @@ use Rattle.avro_tool.proofs.commands.confirm.confirm_pair.Goals as goal
 pub returns : goal.returns
 returns g c = λ w r t form is_writer is_reader is_certificate.
     let given = c.in_ok-certificate.certificate in
-    let certifies = known_is (λ (b : List ℕ). CertText (dead_of given) (pairs_in given) b) (g.R.Texts.known c.args.rt.now c.args.certificate.now) t is_certificate c.in_ok-certificate.ensures.found in
+    let certifies = known_is (λ (b : List ℕ). CertText (dead_of given) (pairs_in given) b) (g.T.Texts.known c.args.texts.now c.args.certificate.now) t is_certificate c.in_ok-certificate.ensures.found in
     ok_weaker (λ f told. (
       (told form).0,
       record {

@@ -10,7 +10,7 @@ use Rattle.avro_tool.proofs.commands.judge.judge_files.Goals as goal
 pub returns : goal.returns
 returns g c = λ form.
     let asked = c.args.asked.now in
-    let known = g.R.Texts.known c.args.rt.now in
+    let known = g.T.Texts.known c.args.texts.now in
     ok_for_two known asked.writer.now asked.reader.now [] c.judge_written.result
     (λ (f : Finding) (w r : List ℕ). (text : List ℕ) × JudgeAnswer w r asked.limits text (finding_status f) × g.O.Output.keeps c.args.out.now text c.judge_written.new.out)
     (λ w r is_written is_read. c.judge_written.ensures w r form

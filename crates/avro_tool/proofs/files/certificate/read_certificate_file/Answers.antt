@@ -7,4 +7,4 @@ use Rattle.avro_tool.proofs.files.certificate.read_certificate_file.Goals as goa
 pub returns-in-Ok-clause-found : goal.returns-in-Ok-clause-found
 returns-in-Ok-clause-found g c =
     let read = c.in-Ok.certificate in
-    so_of_known (λ (text : List ℕ). CertText (dead_of read) (pairs_in read) text) (g.R.Texts.known c.args.rt.now c.args.word.now) c.in_ok-bytes.bytes.items c.in_ok-bytes.ensures c.in-Ok.ensures.found
+    so_of_known (λ (text : List ℕ). CertText (dead_of read) (pairs_in read) text) (g.T.Texts.known c.args.texts.now c.args.word.now) c.in_ok-bytes.bytes.items c.in_ok-bytes.ensures c.in-Ok.ensures.found
