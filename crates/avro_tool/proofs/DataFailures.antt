@@ -70,6 +70,6 @@ module _ (word : Bor (List ℕ)) (is_cut : Bool) where
   data_refused P w told (DataError.Put PutError.OutOfMemory) h is = absurd (cc)
 
 -- where data are not told, nothing was put, or a prefix
-pub front_or_none : {None Front : Type 0} {P : ReadResolveError → Type 0} (error : DataError) → IfRefused {A = Unit {0}} (Err error) (λ e. None × P e) → IfPutFails {A = Unit {0}} (Err error) Front → None ⊎ Front
-front_or_none (DataError.Refused e) refused failed = inl refused.0
-front_or_none (DataError.Put e) refused failed = inr failed
+pub front_or_none : {None Front : Type 0} (P : ReadResolveError → Type 0) (error : DataError) → IfRefused {A = Unit {0}} (Err error) (λ e. None × P e) → IfPutFails {A = Unit {0}} (Err error) Front → None ⊎ Front
+front_or_none P (DataError.Refused e) refused failed = inl refused.0
+front_or_none P (DataError.Put e) refused failed = inr failed

@@ -1,5 +1,6 @@
 pub mod DataFailures
 pub mod EachLines
+mod Failing
 mod FoundLemmas
 mod GrammarLemmas
 pub mod Headers

@@ -10,22 +10,24 @@ use Rattle.avro_tool.specs.PlainWords.{default_judge_limits, PlainWords}
 abbrev pub Known : Type 0
 Known = List ℕ → Option (List ℕ)
 
-module _ (known : Known) (is_put : List ℕ → Type 0) (status : ℕ) where
-  -- the answer that the texts of two files have as schemas, the writer's first, was put, and this is its status
-  abbrev pub AnswersJudge : List ℕ → List ℕ → JudgeLimitValues → Type 0
-  AnswersJudge writer reader limits = (w r : List ℕ) → known writer ≡ Some w → known reader ≡ Some r → (text : List ℕ) × JudgeAnswer w r limits text status × is_put text
+-- the verdict of the texts of two files, the writer's first, was put, and this is its status
+abbrev pub AnswersJudge : Known → (List ℕ → Type 0) → ℕ → List ℕ → List ℕ → JudgeLimitValues → Type 0
+AnswersJudge known is_put status writer reader limits = (w r : List ℕ) → known writer ≡ Some w → known reader ≡ Some r
+    → (text : List ℕ) × JudgeAnswer w r limits text status × is_put text
 
-  abbrev pub AnswersExplain : List ℕ → List ℕ → ℕ → Type 0
-  AnswersExplain writer reader limit = (w r : List ℕ) → known writer ≡ Some w → known reader ≡ Some r → (text : List ℕ) × ExplainAnswer w r limit text status × is_put text
+-- all their faults were
+abbrev pub AnswersExplain : Known → (List ℕ → Type 0) → ℕ → List ℕ → List ℕ → ℕ → Type 0
+AnswersExplain known is_put status writer reader limit = (w r : List ℕ) → known writer ≡ Some w → known reader ≡ Some r
+    → (text : List ℕ) × ExplainAnswer w r limit text status × is_put text
 
-  -- and the text of a certificate, which is third
-  abbrev pub AnswersConfirm : List ℕ → List ℕ → List ℕ → Type 0
-  AnswersConfirm writer reader certificate = (w r c : List ℕ) → known writer ≡ Some w → known reader ≡ Some r → known certificate ≡ Some c
-      → (text : List ℕ) × ConfirmAnswer w r c text status × is_put text
+-- whether the text of a third confirms them was
+abbrev pub AnswersConfirm : Known → (List ℕ → Type 0) → ℕ → List ℕ → List ℕ → List ℕ → Type 0
+AnswersConfirm known is_put status writer reader certificate = (w r c : List ℕ) → known writer ≡ Some w → known reader ≡ Some r → known certificate ≡ Some c
+    → (text : List ℕ) × ConfirmAnswer w r c text status × is_put text
 
-  -- the answer to plain words; nothing is said here of the commands that judge no pair
-  abbrev pub AnswersPlain : PlainWords → Type 0
-  AnswersPlain (PlainWords.judge writer reader) = AnswersJudge writer reader default_judge_limits
-  AnswersPlain (PlainWords.explain writer reader) = AnswersExplain writer reader 4194304
-  AnswersPlain (PlainWords.confirm writer reader certificate) = AnswersConfirm writer reader certificate
-  AnswersPlain plain = ⊤
+-- the answer to plain words was; nothing is said here of the commands that judge no pair
+abbrev pub AnswersPlain : Known → (List ℕ → Type 0) → ℕ → PlainWords → Type 0
+AnswersPlain known is_put status (PlainWords.judge writer reader) = AnswersJudge known is_put status writer reader default_judge_limits
+AnswersPlain known is_put status (PlainWords.explain writer reader) = AnswersExplain known is_put status writer reader 4194304
+AnswersPlain known is_put status (PlainWords.confirm writer reader certificate) = AnswersConfirm known is_put status writer reader certificate
+AnswersPlain known is_put status plain = ⊤

@@ -130,12 +130,20 @@ pub fn run<R: Files + Clock + AllocGlobal, I: Read, O: Write, E: Write>(
     out: &mut O,
     err: &mut E,
 ) -> u8 {
-    run_over(&SystemTexts { rt }, rt, words, input, &mut WriteOutput::new(out), err)
+    run_over(
+        &SystemTexts { rt },
+        rt,
+        words,
+        input,
+        &mut WriteOutput::new(out),
+        err,
+    )
 }
 
 /// Runs the program on its words, as [`run`] does, over an output.
 pub fn run_over<T: Texts, R: Files + Clock + AllocGlobal, I: Read, O: Output, E: Write>(
-    texts: &T, rt: &R,
+    texts: &T,
+    rt: &R,
     words: &[String],
     input: &mut I,
     out: &mut O,
@@ -146,9 +154,18 @@ pub fn run_over<T: Texts, R: Files + Clock + AllocGlobal, I: Read, O: Output, E:
 {
     match answer(texts, rt, words, input, out, err) {
         Ok(finding) => finding.status(),
-        Err(failure) if matches!(failure, Failure::IsError(_)) => report(rt.alloc(), &failure, out),
-        Err(failure) => report(rt.alloc(), &failure, &mut WriteOutput::new(err)),
+        Err(failure) => refuse(rt.alloc(), &failure, out, err),
     }
+}
+
+/// Reports a failure to standard error, or to standard output where a file of the words is standard error, and returns its status.
+fn refuse<O: Output, E: Write>(alloc: Global, failure: &Failure<'_>, out: &mut O, err: &mut E) -> u8
+    ensures { (result ≡ exit_status failure.now) ⊎ (result ≡ 5) }
+{
+    if matches!(failure, Failure::IsError(_)) {
+        return report(alloc, failure, out);
+    }
+    report(alloc, failure, &mut WriteOutput::new(err))
 }
 
 /// Reports a failure by one write, and returns its status. If standard error fails too, the
@@ -177,7 +194,8 @@ fn report_memory<E: Output>(err: &mut E) -> u8
 
 /// Does what the words ask for.
 fn answer<'a, T: Texts, R: Files + Clock + AllocGlobal, I: Read, O: Output, E: Write>(
-    texts: &T, rt: &R,
+    texts: &T,
+    rt: &R,
     words: &'a [String],
     input: &mut I,
     out: &mut O,
@@ -193,7 +211,8 @@ fn answer<'a, T: Texts, R: Files + Clock + AllocGlobal, I: Read, O: Output, E: W
 
 /// Does what is asked for.
 fn answer_request<'a, T: Texts, R: Files + Clock + AllocGlobal, I: Read, O: Output, E: Write>(
-    texts: &T, rt: &R,
+    texts: &T,
+    rt: &R,
     request: &Request<'a>,
     input: &mut I,
     out: &mut O,

@@ -16,7 +16,8 @@ use std::rt::{Clock, Files};
 /// Copies the container in a file into another one, and prints how many data and blocks it has. The other
 /// file is created, or truncated, once the header was read.
 pub(crate) fn copy_file<'a, T: Texts, R: Files + Clock + AllocGlobal, O: Output, E: Write>(
-    texts: &T, rt: &R,
+    texts: &T,
+    rt: &R,
     asked: &Copying<'a>,
     out: &mut O,
     err: &mut E,

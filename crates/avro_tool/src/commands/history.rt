@@ -55,7 +55,8 @@ impl Line<'_> {
 /// Prints whether the schemas of several files read each other's data as the mode asks: by judging them, or by
 /// the certificates of a file.
 pub(crate) fn history_of_files<'a, T: Texts, R: Files + AllocGlobal, O: Output>(
-    texts: &T, rt: &R,
+    texts: &T,
+    rt: &R,
     history: &History<'a>,
     out: &mut O,
 ) -> Result<Finding, Failure<'a>> {
@@ -65,7 +66,8 @@ pub(crate) fn history_of_files<'a, T: Texts, R: Files + AllocGlobal, O: Output>(
 
 /// The answer for the earlier schemas; the last one is read first.
 fn history_of_earlier<'a, T: Texts, R: Files + AllocGlobal, O: Output>(
-    texts: &T, rt: &R,
+    texts: &T,
+    rt: &R,
     history: &History<'a>,
     earlier: &[Schema],
     out: &mut O,
@@ -76,7 +78,8 @@ fn history_of_earlier<'a, T: Texts, R: Files + AllocGlobal, O: Output>(
 
 /// The answer for the earlier schemas and the last one.
 fn history_of_schemas<'a, T: Texts, R: Files + AllocGlobal, O: Output>(
-    texts: &T, rt: &R,
+    texts: &T,
+    rt: &R,
     history: &History<'a>,
     earlier: &[Schema],
     last: &Schema,
@@ -145,7 +148,10 @@ fn certify_into<'a, R: Files + AllocGlobal, O: Output>(
 }
 
 /// The schemas of files, in order.
-fn read_schema_files<'a, T: Texts>(texts: &T, words: &[&'a str]) -> Result<Vec<Schema>, Failure<'a>> {
+fn read_schema_files<'a, T: Texts>(
+    texts: &T,
+    words: &[&'a str],
+) -> Result<Vec<Schema>, Failure<'a>> {
     let mut schemas = Vec::new(texts.alloc());
     for word in words {
         let schema = read_schema_file(texts, word)?;

@@ -30,7 +30,8 @@ use std::rt::Files;
 /// Judges the schemas of two files, and prints the verdict. After a yes the certificate is written
 /// where a file is named for it, and after a no the refutation.
 pub(crate) fn judge_files<'a, T: Texts, R: Files + AllocGlobal, O: Output>(
-    texts: &T, rt: &R,
+    texts: &T,
+    rt: &R,
     asked: &Judging<'a>,
     out: &mut O,
 ) -> Result<Finding, Failure<'a>>
@@ -43,7 +44,8 @@ pub(crate) fn judge_files<'a, T: Texts, R: Files + AllocGlobal, O: Output>(
 
 /// Judges a writer's schema and the reader's, which is read first.
 fn judge_written<'a, T: Texts, R: Files + AllocGlobal, O: Output>(
-    texts: &T, rt: &R,
+    texts: &T,
+    rt: &R,
     asked: &Judging<'a>,
     writer: &ReaderText,
     out: &mut O,

@@ -33,8 +33,16 @@ const INPUT: &str = "-";
 
 /// Copies a container from a reader to a writer, and, if asked for, reports how many data and blocks a whole copy
 /// has.
-pub(crate) fn pipe_streams<'a, T: Texts, R: Files + Clock + AllocGlobal, I: Read, O: Output, E: Write>(
-    texts: &T, rt: &R,
+pub(crate) fn pipe_streams<
+    'a,
+    T: Texts,
+    R: Files + Clock + AllocGlobal,
+    I: Read,
+    O: Output,
+    E: Write,
+>(
+    texts: &T,
+    rt: &R,
     asked: &Piping<'a>,
     input: &mut I,
     out: &mut O,

@@ -40,7 +40,8 @@ const FREE: usize = 1_048_576;
 /// Prints the first datum of the data in a file, after the bytes that are skipped, and its length in bytes; what follows
 /// it is ignored.
 pub(crate) fn read_file<'a, T: Texts, R: Files + AllocGlobal, O: Output>(
-    texts: &T, rt: &R,
+    texts: &T,
+    rt: &R,
     asked: &Reading<'a>,
     out: &mut O,
 ) -> Result<Finding, Failure<'a>> {
@@ -50,7 +51,8 @@ pub(crate) fn read_file<'a, T: Texts, R: Files + AllocGlobal, O: Output>(
 
 /// Reads the data of a writer's schema, for the reader's, which is read first.
 fn read_written<'a, T: Texts, R: Files + AllocGlobal, O: Output>(
-    texts: &T, rt: &R,
+    texts: &T,
+    rt: &R,
     asked: &Reading<'a>,
     writer: &Schema,
     out: &mut O,

@@ -28,7 +28,8 @@ use std::rt::Files;
 /// Prints a line for each datum of the container in a file, resolved to a reader's schema if a file is
 /// named for it, and no more lines than the limit, if there is one.
 pub(crate) fn show_file<'a, T: Texts, R: Files + AllocGlobal, O: Output>(
-    texts: &T, rt: &R,
+    texts: &T,
+    rt: &R,
     word: &'a str,
     reader: Option<&'a str>,
     limit: Option<u64>,

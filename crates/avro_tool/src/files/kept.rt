@@ -28,7 +28,11 @@ struct Streams {
 }
 
 /// Refuses a request by which a file of its words would be spoiled.
-pub(crate) fn refuse_files<'a, T: Texts, R: Files + AllocGlobal>(texts: &T, rt: &R, request: &Request<'a>) -> Result<(), Failure<'a>> {
+pub(crate) fn refuse_files<'a, T: Texts, R: Files + AllocGlobal>(
+    texts: &T,
+    rt: &R,
+    request: &Request<'a>,
+) -> Result<(), Failure<'a>> {
     let read = request.files_read(rt.alloc())?;
     refuse_streams(rt, request, &read)?;
     refuse_pipe(rt, request)?;
@@ -123,7 +127,11 @@ fn refuse_read_file<'a, R: Files>(
 
 /// Refuses a file that is to be written if its text declares a schema. A file that is not regular or not
 /// readable is not checked.
-fn refuse_schema_file<'a, T: Texts, R: Files + AllocGlobal>(texts: &T, rt: &R, output: Option<&'a str>) -> Result<(), Failure<'a>> {
+fn refuse_schema_file<'a, T: Texts, R: Files + AllocGlobal>(
+    texts: &T,
+    rt: &R,
+    output: Option<&'a str>,
+) -> Result<(), Failure<'a>> {
     let Some(output) = output else {
         return Ok(());
     };

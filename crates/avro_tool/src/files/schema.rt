@@ -12,7 +12,10 @@ use avro_schema_json::{ReaderText, read_schema};
 pub(crate) const TEXT_READ: u64 = 1_048_577;
 
 /// The schema in a file. At most one byte more than a text may have is read, once.
-pub(crate) fn read_schema_file<'a, T: Texts>(texts: &T, word: &'a str) -> Result<Schema, Failure<'a>>
+pub(crate) fn read_schema_file<'a, T: Texts>(
+    texts: &T,
+    word: &'a str,
+) -> Result<Schema, Failure<'a>>
     ensures { IfOk result (λ schema. IfSome (T.known texts.now word.now) (λ text. IsReadAs text (schema_nodes schema))) }
 {
     let bytes = bytes_of(texts, word, TEXT_READ)?;
@@ -23,7 +26,10 @@ pub(crate) fn read_schema_file<'a, T: Texts>(texts: &T, word: &'a str) -> Result
 }
 
 /// The schema in a file, with its text.
-pub(crate) fn read_text_file<'a, T: Texts>(texts: &T, word: &'a str) -> Result<ReaderText, Failure<'a>>
+pub(crate) fn read_text_file<'a, T: Texts>(
+    texts: &T,
+    word: &'a str,
+) -> Result<ReaderText, Failure<'a>>
     ensures { IfOk result (λ reader. IfSome (T.known texts.now word.now) (λ text. IsReadAs text (schema_nodes reader.1))) }
 {
     let bytes = bytes_of(texts, word, TEXT_READ)?;

@@ -43,9 +43,7 @@ impl<R: Files + AllocGlobal> Texts for SystemTexts<'_, R> {
 
     fn text(&self, word: &str, most: u64) -> io::Result<Vec<u8>> {
         let mut bytes = Vec::new(self.alloc());
-        fs::open(self.rt, word)?
-            .take(most)
-            .read_to_end(&mut bytes)?;
+        fs::open(self.rt, word)?.take(most).read_to_end(&mut bytes)?;
         Ok(bytes)
     }
 }

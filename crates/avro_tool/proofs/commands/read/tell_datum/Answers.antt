@@ -65,7 +65,7 @@ returns-clause-front g c =
     let asked = c.args.asked.now in
     for_schemas (λ (W : List Node) (R : Option (List Node)). g.O.Output.keeps c.args.out.now [] c.put_datum.new.out ⊎ (text : List ℕ) × IsDatumTold W R datum_limits asked.form asked.skip c.args.bytes.now text
     × PutsFrontOf g.O.Output.keeps c.args.out.now c.put_datum.new.out text) (ap schema_nodes c.in_ok-plan.ensures.written) c.in_ok-plan.ensures.read
-    (front_or_none c.in-Err.error (rw c.in-Err.is at c.put_datum.ensures.refused) (rw c.in-Err.is at c.put_datum.ensures.front))
+    (front_or_none _ c.in-Err.error (rw c.in-Err.is at c.put_datum.ensures.refused) (rw c.in-Err.is at c.put_datum.ensures.front))
 
 pub returns-in_err-plan-clause-front : goal.returns-in_err-plan-clause-front
 returns-in_err-plan-clause-front g c = on_any_err (inl (g.met.O.Output.none c.args.out.now)) c.from_residual.result

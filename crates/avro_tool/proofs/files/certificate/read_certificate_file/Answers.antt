@@ -1,4 +1,5 @@
-use Rattle.std.proofs.Common.{ℕ, List}
+use Rattle.std.proofs.Common.{◌≡◌, ℕ, List, subst, sym}
+use Rattle.std.specs.Option.{IfSome}
 use Rattle.avro_certificate.specs.CertificateText.{CertText}
 use Rattle.avro_certificate.specs.SeenCertificate.{dead_of, pairs_in}
 use Rattle.avro_tool.proofs.KnownTexts.{so_of_known}
@@ -7,4 +8,6 @@ use Rattle.avro_tool.proofs.files.certificate.read_certificate_file.Goals as goa
 pub returns-in-Ok-clause-found : goal.returns-in-Ok-clause-found
 returns-in-Ok-clause-found g c =
     let read = c.in-Ok.certificate in
-    so_of_known (λ (text : List ℕ). CertText (dead_of read) (pairs_in read) text) (g.T.Texts.known c.args.texts.now c.args.word.now) c.in_ok-bytes.bytes.items c.in_ok-bytes.ensures c.in-Ok.ensures.found
+    let known = g.T.Texts.known c.args.texts.now c.args.word.now in
+    so_of_known (λ (text : List ℕ). CertText (dead_of read) (pairs_in read) text) known c.deref.result.now
+    (subst (λ (b : List ℕ). IfSome known (λ (all : List ℕ). b ≡ all)) (sym c.deref.ensures.value) c.in_ok-bytes.ensures) c.in-Ok.ensures.found
