@@ -2,9 +2,8 @@
 use Rattle.std.proofs.lemmas.Result.{err_from_is_err_and}
 use Rattle.std.specs.Prelude.{option_copied}
 use Rattle.avro_schema.specs.SeenSchema.{schema_nodes}
-use Rattle.avro_tool.specs.FailureText.{IsPutFailure}
 use Rattle.avro_tool.specs.FoundStatus.{finding_status}
-use Rattle.avro_tool.proofs.Failing.{fails_again}
+use Rattle.avro_tool.proofs.Failing.{print_fails}
 use Rattle.avro_tool.proofs.Verdicts.{form_answer, judged_status}
 use Rattle.avro_tool.proofs.commands.history.judge_one.Goals as goal
 
@@ -25,4 +24,4 @@ returns-clause-status g c =
 pub returns-in_err-finding-clause-fails : goal.returns-in_err-finding-clause-fails
 returns-in_err-finding-clause-fails g c =
     let p = err_from_is_err_and c.from_residual-in_err-finding.result c.from_residual-in_err-finding.ensures.1 in
-    rw (p.1, p.2) (fails_again IsPutFailure g.O.Output.failures g.O.Output.stuck c.args.out.now c.tell_judged.new.out c.in_err-finding.field-0.0 c.in_err-finding.ensures.fails)
+    rw (p.1, p.2) (print_fails g.O.Output.failures g.O.Output.stuck c.args.out.now c.tell_judged.new.out c.in_err-finding.field-0.0 c.in_err-finding.ensures.fails)
