@@ -82,11 +82,7 @@ const RUNS: [(&str, u8, &[u8], &[u8]); 5] = [
 ];
 
 /// A run of the words of a line over texts in memory.
-fn outcome_of(
-    rt: &HostRuntime,
-    texts: &InMemory<'_>,
-    line: &str,
-) -> Result<Outcome, AllocError> {
+fn outcome_of(rt: &HostRuntime, texts: &InMemory<'_>, line: &str) -> Result<Outcome, AllocError> {
     let words = words_of(rt.alloc(), line)?;
     let mut input = Given::all(b"");
     let mut out = WriteOutput::new(Kept::with_room(rt.alloc(), usize::MAX));
