@@ -36,6 +36,7 @@ MIGRATED: Roots = (
 # What the functions of the program that are given schemas, a certificate or an input ensure of the output and the status.
 PROGRAM: Roots = (
     ("Rattle.avro_tool.specs.PlainWords", "MakesPlainRequest"),
+    ("Rattle.avro_tool.specs.PlainAnswers", "AnswersPlain"),
     ("Rattle.avro_tool.specs.FoundStatus", "finding_status"),
     ("Rattle.avro_tool.specs.FoundStatus", "worse"),
     ("Rattle.avro_tool.specs.ModeAnswer", "ModeAnswer"),
