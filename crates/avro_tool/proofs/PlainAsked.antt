@@ -1,5 +1,5 @@
 -- The requests that plain words make, and what is answered to them.
-use Rattle.std.proofs.Common.{◌≡◌, ◌⊎◌, ◌≤◌, inl, inr, ⊥, ℕ, List, Result, Ok, Err, refl, subst, arith}
+use Rattle.std.proofs.Common.{◌≡◌, ◌⊎◌, ◌≤◌, inl, inr, ℕ, List, Result, Ok, Err, refl, subst, arith}
 use Rattle.std.specs.Borrow.{Bor}
 use Rattle.std.specs.Prelude.{⊤, IfOk}
 use Rattle.avro_judge.specs.JudgeRanges.{JudgeLimitValues}
