@@ -1,5 +1,5 @@
 -- The marks of JSON as those of its parts are kept.
-use Rattle.avro_schema_json.proofs.Words.{◌≡◌, ℕ, zero, suc, ◌+◌, true, List, [], ◌∷◌, ◌++◌, length, length-append, Option, Some, None, get_or, refl, sym, ap, subst, ◌∙◌, ◌<◌, ◌⊎◌, inl, inr, arith, unwrap_or, none-some, same_Some, Node, Data, get_item, view, items_view, Tree, get_item_within, place_of, Covers, part_at, IsPartUnder, IsSetOf, IsMarked, marked, Stays, ArePartsMarked, Label, Numbered, IsStep, AreParents, IsWithin, Parents, has_bit, words_of, label_of, has_place, Follows, LeadsTo, AreSteps, KeepsEither, Mark}
+use Rattle.avro_schema_json.proofs.Words.{◌≡◌, [], ℕ, zero, suc, ◌+◌, true, List, ◌∷◌, ◌++◌, length, length-append, Option, Some, None, get_or, refl, sym, ap, subst, ◌∙◌, ◌<◌, ◌⊎◌, inl, inr, arith, unwrap_or, none-some, same_Some, Node, Data, get_item, view, items_view, Tree, get_item_within, place_of, Covers, part_at, IsPartUnder, IsSetOf, IsMarked, marked, Stays, ArePartsMarked, Label, Numbered, IsStep, AreParents, IsWithin, Parents, has_parent_of, label_of, has_place, Follows, LeadsTo, AreSteps, KeepsEither, Mark}
 use Rattle.std.specs.Prelude.{slice_get, Result, Ok, Err, IfOk}
 use Rattle.avro_schema_json.specs.inside.Parents.{number_of}
 use Rattle.avro_schema_json.specs.inside.Sets.{row_at, KeepsRows}
@@ -122,7 +122,7 @@ stepped nodes last labels parents label k row found are is follows = λ x t y pa
     let parent = are x label t y part own in
     let number_is : parent.0 ≡ k = same_Some parent.0 k (sym parent.1 ∙ is) in
     follows (place_of last y) (place_of last x) there
-    (subst (λ (q : ℕ). has_bit (words_of parents (place_of last y) q) (place_of last x)) number_is parent.2)
+    (subst (λ (q : ℕ). has_parent_of parents (place_of last y) q (place_of last x)) number_is parent.2)
 
 -- they cover what holds a part
 part-covered : (nodes : List Node) (tables : Tables) (d e : Data) (number : ℕ) (row found : List ℕ) → AreTables nodes tables → IsPartUnder tables.labels number d e

@@ -1,13 +1,14 @@
 -- Parents of places, as they are put.
-use Rattle.avro_schema_json.proofs.Words.{◌≡◌, ℕ, ◌+◌, ◌/◌, ◌%◌, ◌<◌, ◌≤◌, Bool, true, false, cond, ◌==◌, List, [], ◌∷◌, ◌⊎◌, inl, inr, length, set, get_or, Option, Some, None, refl, sym, subst, ◌∙◌, arith, Vec, bit_at, bit_or, Decides-eqb, bit_at_and, none-some, same_Some, slice_get_read, length-map, Name, Node, FieldNode, ids_of, NodeId, place_of, own_ids, Label, Numbered, IsWithin, has_place, Parents, Under, Places, has_bit, words_or_none, words_in, words_in_some, words_at, words_of, label_of, Follows, HasParent, HasParts, IsField, AreFields, IsParent, KeepsPlaces, KeepsParents, KeepsLabels, Equal-is, RowWord, ◌++◌, ap, slice_get, slice_get_within, slice_get-get_or}
+use Rattle.avro_schema_json.proofs.Words.{◌≡◌, [], ◌==◌, ℕ, ◌+◌, ◌/◌, ◌%◌, ◌<◌, ◌≤◌, Bool, true, false, cond, List, ◌∷◌, ◌⊎◌, inl, inr, length, set, get_or, Option, Some, None, refl, sym, subst, ◌∙◌, arith, Vec, bit_at, bit_or, Decides-eqb, bit_at_and, none-some, same_Some, slice_get_read, length-map, Name, Node, FieldNode, ids_of, NodeId, place_of, own_ids, Label, Numbered, IsWithin, has_place, Parents, Under, Places, has_bit, has_parent_in, has_parent_at, has_parent_of, label_of, Follows, HasParent, HasParts, IsField, AreFields, IsParent, KeepsPlaces, KeepsParents, KeepsLabels, Equal-is, RowWord, ◌++◌, ap, slice_get, slice_get_within, slice_get-get_or}
 use Rattle.std.specs.Prelude.{Contains, bytes_eq}
 use Rattle.std.specs.Ordering.{nat_cmp, is_eq}
-use Rattle.std.specs.BTreeMap.{BTreeMap, is_at, get}
+use Rattle.std.specs.BTreeMap.{is_at, get}
 use Rattle.std.specs.Map.{lookup}
 use Rattle.std.proofs.lemmas.Map.Lookups.{exact_unsigned}
 use Rattle.avro_schema_json.specs.inside.Parents.{number_of}
+unfoldable use Rattle.avro_schema_json.specs.inside.Parents.{has_parent}
 use lib.Bits.{bit_and}
-use Rattle.avro_schema_json.proofs.RowsSeen.{bit-of, more-left, of-bit}
+use Rattle.avro_schema_json.proofs.RowsSeen.{bit-of, more-left, no-bit, of-bit}
 use Rattle.avro_schema_json.proofs.EachSeen.{append-at, append-before, Before, before-all, before-next, exact-texts, put-each, set-each, set-there}
 
 -- ---- words with bits
@@ -76,88 +77,135 @@ words-added words i old new past added p has =
 
 -- ---- 64 places
 
--- a place has what its bit and its words say
-pub in-set : (places : Places) (i p : ℕ) → bit_at places.bits i ≡ 1 → has_bit (words_or_none (get nat_cmp places.parents i)) p → has_bit (words_in places i) p
-in-set places i p bit has = rw ((Decides-eqb (bit_at places.bits i) 1).1 bit) has
+parent-of : (all : List Places) (i p : ℕ) → has_parent all i p
+    → (at : ℕ) × (places : Places) × (slice_get all at ≡ Some places) × (bit_at places.mask i ≡ 1) × has_bit places.parents.items p
+unfolding has_parent
+parent-of all i p h = h
 
-pub in-both : (places : Places) (i p : ℕ) → has_bit (words_in places i) p → (bit_at places.bits i ≡ 1) × has_bit (words_or_none (get nat_cmp places.parents i)) p
-in-both places i p h = by (bit_at places.bits i == 1) refl
+of-parent : (all : List Places) (at i p : ℕ) (places : Places) → slice_get all at ≡ Some places → bit_at places.mask i ≡ 1 → has_bit places.parents.items p → has_parent all i p
+unfolding has_parent
+of-parent all at i p places there bit has = (at, places, there, bit, has)
+
+-- parents are added to those of some places
+pub places-kept : (all : List Places) (k : ℕ) (old new : Places) → k < length all → old ≡ get_or all k old → new.mask ≡ old.mask
+    → ((p : ℕ) → has_bit old.parents.items p → has_bit new.parents.items p) → KeepsPlaces all (set all k new)
+places-kept all k old new below at mask kept i p h =
+    let was = parent-of all i p h in
+    let is = set-each all k new Keeps below (λ j places there bit has. (places, there, bit, has)) this was.0 was.1 was.2 was.3 was.4 in
+    of-parent (set all k new) was.0 i p is.0 is.1 is.2 is.3
   where
-    by : (b : Bool) → (bit_at places.bits i == 1) ≡ b → (bit_at places.bits i ≡ 1) × has_bit (words_or_none (get nat_cmp places.parents i)) p
-    by true e = ((Decides-eqb (bit_at places.bits i) 1).0 e, rw e at h)
-    by false e = absurd (no-word p (rw e at h))
+    Keeps : ℕ → Option Places → Type 0
+    Keeps j o = (places : Places) → slice_get all j ≡ Some places → bit_at places.mask i ≡ 1 → has_bit places.parents.items p
+        → (later : Places) × (o ≡ Some later) × (bit_at later.mask i ≡ 1) × has_bit later.parents.items p
 
-pub bit-among : (places : Places) (among i p : ℕ) → bit_at among i ≡ 1 → has_bit (words_in places i) p → bit_at (bit_and places.bits among) i ≡ 1
-bit-among places among i p there h = let both = in-both places i p h in grind (arith, bit_at_and, both.0, there)
+    this : Keeps k (Some new)
+    this places there bit has =
+        let same : old ≡ places = same_Some old places (sym (slice_get_read all (length all) k old refl below at) ∙ there) in (
+          new,
+          refl,
+          ap (λ m. bit_at m i) (mask ∙ ap (λ (q : Places). q.mask) same) ∙ bit,
+          kept p (subst (λ (q : Places). has_bit q.parents.items p) (sym same) has),
+        )
 
--- the parents of the first of 64 places that are among bits are added to a row
-abbrev pub AreAdded : Places → ℕ → List ℕ → List ℕ → ℕ → Type 0
-AreAdded places among old new count =
-    IsWithin old new × ((i p : ℕ) → i < count → bit_at among i ≡ 1 → has_bit (words_in places i) p → has_place new p ≡ true)
+pub parent-set : (all : List Places) (k i p : ℕ) (places : Places) → k < length all → bit_at places.mask i ≡ 1 → has_bit places.parents.items p → has_parent (set all k places) i p
+parent-set all k i p places below bit has = of-parent (set all k places) k i p places (set-there all k places below) bit has
 
-pub added-next : (places : Places) (among : ℕ) (first old new : List ℕ) (k : ℕ) → IsWithin old new
-    → ((p : ℕ) → bit_at among k ≡ 1 → has_bit (words_in places k) p → has_place new p ≡ true) → AreAdded places among first old k → AreAdded places among first new (k + 1)
-added-next places among first old new k within this before = (λ p there. within p (before.0 p there), λ i p below bit has. by i p below bit has (i == k) refl)
-  where
-    by : (i p : ℕ) → i < k + 1 → bit_at among i ≡ 1 → has_bit (words_in places i) p → (b : Bool) → (i == k) ≡ b → has_place new p ≡ true
-    by i p below bit has true e =
-        let same : i ≡ k = (Decides-eqb i k).0 e in
-        this p (subst (λ j. bit_at among j ≡ 1) same bit) (subst (λ j. has_bit (words_in places j) p) same has)
-    by i p below bit has false e = within p (before.1 i p (grind (arith, below, e)) bit has)
+-- places are put after the others
+pub parent-before : (all later : List Places) (places : Places) → later ≡ all ++ places ∷ [] → KeepsPlaces all later
+parent-before all later places is i p h =
+    let was = parent-of all i p h in
+    let kept = append-before all (places ∷ []) was.0 (slice_get_within all was.0 was.1 was.2) in
+    of-parent later was.0 i p was.1 (ap (λ ps. slice_get ps was.0) is ∙ kept ∙ was.2) was.3 was.4
+
+pub parent-last : (all later : List Places) (places : Places) (i p : ℕ) → later ≡ all ++ places ∷ [] → bit_at places.mask i ≡ 1 → has_bit places.parents.items p → has_parent later i p
+parent-last all later places i p is bit has =
+    of-parent later (length all + 0) i p places (ap (λ ps. slice_get ps (length all + 0)) is ∙ append-at all (places ∷ []) (length all) 0 refl) bit has
+
+-- no places have no parent
+pub no-parent : (i p : ℕ) → has_parent [] i p → ⊥
+no-parent i p h = let was = parent-of [] i p h in none-some was.1 was.2
+
+-- the parents of the first places that are among bits are added to a row
+abbrev pub AreAdded : List Places → ℕ → List ℕ → List ℕ → ℕ → Type 0
+AreAdded all among old new count =
+    IsWithin old new × Before all (λ k places. (i p : ℕ) → bit_at among i ≡ 1 → bit_at places.mask i ≡ 1 → has_bit places.parents.items p → has_place new p ≡ true) count
+
+pub added-next : (all : List Places) (count among : ℕ) (places : Places) (first old new : List ℕ) → count < length all → places ≡ get_or all count places → IsWithin old new
+    → ((i p : ℕ) → bit_at among i ≡ 1 → bit_at places.mask i ≡ 1 → has_bit places.parents.items p → has_place new p ≡ true)
+    → AreAdded all among first old count → AreAdded all among first new (count + 1)
+added-next all count among places first old new below at within this before = (
+  λ p there. within p (before.0 p there),
+  before-next all count places (λ k q. (i p : ℕ) → bit_at among i ≡ 1 → bit_at q.mask i ≡ 1 → has_bit q.parents.items p → has_place old p ≡ true)
+      (λ k q. (i p : ℕ) → bit_at among i ≡ 1 → bit_at q.mask i ≡ 1 → has_bit q.parents.items p → has_place new p ≡ true) (slice_get_read all (length all) count places refl below at)
+      (λ k q has i p there bit here. within p (has i p there bit here)) this before.1,
+)
+
+-- bits that share none
+pub none-shared : (a b i : ℕ) → bit_and a b ≡ 0 → bit_at a i ≡ 1 → bit_at b i ≡ 1 → ⊥
+none-shared a b i none here there = absurd (no-bit i (bit_and a b) none (grind (arith, bit_at_and, here, there)))
+
+pub all-added : (all : List Places) (count among : ℕ) (old new : List ℕ) → length all ≤ count → AreAdded all among old new count
+    → (i p : ℕ) → bit_at among i ≡ 1 → has_parent all i p → has_place new p ≡ true
+all-added all count among old new past added i p there has =
+    let is = parent-of all i p has in
+    before-all all count (λ k q. (j r : ℕ) → bit_at among j ≡ 1 → bit_at q.mask j ≡ 1 → has_bit q.parents.items r → has_place new r ≡ true) past added.1 is.0 is.1 is.2 i p there is.3 is.4
 
 -- ---- places that are left
 
 pub same_key : (a b : ℕ) → is_eq (nat_cmp a b) ≡ true → a ≡ b
 same_key a b h = exact_unsigned a b ((Equal-is (nat_cmp a b)).0 h)
 
--- the words of a place among entries
-abbrev pub words_left : List (ℕ × Places) → ℕ → List RowWord
-words_left left place = words_in_some (lookup (is_at (nat_cmp (place / 64))) left) (place % 64)
+-- a parent of a place is among entries
+abbrev pub has_left : List (ℕ × Vec Places) → ℕ → ℕ → Type 0
+has_left left place p = has_parent_in (lookup (is_at (nat_cmp (place / 64))) left) (place % 64) p
 
 -- the parents under a label of what is in a row are found, or left
-abbrev pub IsGathered : Parents → ℕ → List (ℕ × Places) → List ℕ → List ℕ → Type 0
+abbrev pub IsGathered : Parents → ℕ → List (ℕ × Vec Places) → List ℕ → List ℕ → Type 0
 IsGathered parents label left row found =
-    (y p : ℕ) → has_place row y ≡ true → has_bit (words_of parents y label) p → (has_place found p ≡ true) ⊎ has_bit (words_left left y) p
+    (y p : ℕ) → has_place row y ≡ true → has_parent_of parents y label p → (has_place found p ≡ true) ⊎ has_left left y p
 
-pub gathered-none : (parents : Parents) (label : ℕ) (under : Under) (left : List (ℕ × Places)) (row found : List ℕ) → get nat_cmp parents label ≡ Some under
+pub gathered-none : (parents : Parents) (label : ℕ) (under : Under) (left : List (ℕ × Vec Places)) (row found : List ℕ) → get nat_cmp parents label ≡ Some under
     → left ≡ under.entries → IsGathered parents label left row found
 gathered-none parents label under left row found at all = λ y p there has.
-    inr (subst (λ (es : List (ℕ × Places)). has_bit (words_left es y) p) (sym all) (subst (λ (o : Option Under). has_bit (words_at o y) p) at has))
+    inr (subst (λ (es : List (ℕ × Vec Places)). has_left es y p) (sym all) (subst (λ (o : Option Under). has_parent_at o y p) at has))
 
 -- in the first word that is left, or in another
-left-either : (left rest : List (ℕ × Places)) (word : ℕ) (places : Places) (y p : ℕ) → left ≡ (word, places) ∷ rest → has_bit (words_left left y) p
-    → ((y / 64 ≡ word) × has_bit (words_in places (y % 64)) p) ⊎ has_bit (words_left rest y) p
+left-either : (left rest : List (ℕ × Vec Places)) (word : ℕ) (places : Vec Places) (y p : ℕ) → left ≡ (word, places) ∷ rest → has_left left y p
+    → ((y / 64 ≡ word) × has_parent places.items (y % 64) p) ⊎ has_left rest y p
 left-either left rest word places y p step h =
-    by (is_eq (nat_cmp (y / 64) word)) refl (subst (λ (es : List (ℕ × Places)). has_bit (words_left es y) p) step h)
+    by (is_eq (nat_cmp (y / 64) word)) refl (subst (λ (es : List (ℕ × Vec Places)). has_left es y p) step h)
   where
     by : (b : Bool) → is_eq (nat_cmp (y / 64) word) ≡ b
-        → has_bit (words_in_some (cond (is_eq (nat_cmp (y / 64) word)) (Some places) (lookup (is_at (nat_cmp (y / 64))) rest)) (y % 64)) p
-        → ((y / 64 ≡ word) × has_bit (words_in places (y % 64)) p) ⊎ has_bit (words_left rest y) p
+        → has_parent_in (cond (is_eq (nat_cmp (y / 64) word)) (Some places) (lookup (is_at (nat_cmp (y / 64))) rest)) (y % 64) p
+        → ((y / 64 ≡ word) × has_parent places.items (y % 64) p) ⊎ has_left rest y p
     by true e here = inl (same_key (y / 64) word e, rw e at here)
     by false e here = inr (rw e at here)
 
-pub gathered-next : (parents : Parents) (label : ℕ) (left rest : List (ℕ × Places)) (word among : ℕ) (places : Places) (row old new : List ℕ)
+pub gathered-next : (parents : Parents) (label : ℕ) (left rest : List (ℕ × Vec Places)) (word among : ℕ) (places : Vec Places) (row old new : List ℕ)
     → left ≡ (word, places) ∷ rest → IsWithin old new → ((y : ℕ) → y / 64 ≡ word → has_place row y ≡ (bit_at among (y % 64) == 1))
-    → ((i p : ℕ) → i < 64 → bit_at among i ≡ 1 → has_bit (words_in places i) p → has_place new p ≡ true)
+    → ((i p : ℕ) → bit_at among i ≡ 1 → has_parent places.items i p → has_place new p ≡ true)
     → IsGathered parents label left row old → IsGathered parents label rest row new
 gathered-next parents label left rest word among places row old new step within bits added gathered = λ y p there has. elim (gathered y p there has) [
   | inl before ↦ inl (within p before)
   | inr later ↦ elim (left-either left rest word places y p step later) [
-    | inl here ↦ inl (added (y % 64) p (omega arith) ((Decides-eqb (bit_at among (y % 64)) 1).0 (sym (bits y here.0) ∙ there)) here.1)
+    | inl here ↦ inl (added (y % 64) p ((Decides-eqb (bit_at among (y % 64)) 1).0 (sym (bits y here.0) ∙ there)) here.1)
     | inr after ↦ inr after
   ]
 ]
 
-pub gathered-all : (parents : Parents) (label : ℕ) (left : List (ℕ × Places)) (row found : List ℕ) → left ≡ [] → IsGathered parents label left row found
+pub gathered-all : (parents : Parents) (label : ℕ) (left : List (ℕ × Vec Places)) (row found : List ℕ) → left ≡ [] → IsGathered parents label left row found
     → Follows parents label row found
 gathered-all parents label left row found none gathered = λ y p there has. elim (gathered y p there has) [
   | inl before ↦ before
-  | inr later ↦ absurd (no-word p (subst (λ (es : List (ℕ × Places)). has_bit (words_left es y) p) none later))
+  | inr later ↦ absurd (subst (λ (es : List (ℕ × Vec Places)). has_left es y p) none later)
 ]
 
 -- no parents under a label
+pub none-under : (parents : Parents) (place label p : ℕ) → get nat_cmp parents label ≡ None → has_parent_of parents place label p → ⊥
+none-under parents place label p none has = subst (λ (o : Option Under). has_parent_at o place p) none has
+
 pub follows-none : (parents : Parents) (label : ℕ) (row found : List ℕ) → get nat_cmp parents label ≡ None → Follows parents label row found
-follows-none parents label row found none = λ y p there has. absurd (no-word p (subst (λ (o : Option Under). has_bit (words_at o y) p) none has))
+follows-none parents label row found none = λ y p there has. absurd (none-under parents y label p none has)
 
 -- ---- labels
 
@@ -168,21 +216,10 @@ label-kept old new name label fresh put = grind (arith, exact-texts, none-some, 
 -- ---- what is kept by a key
 
 -- a key is taken out, and put in again
-pub kept-by : {K V : Type 0} (same : K → K → Bool) → ((a b : K) → same a b ≡ true → a ≡ b) → (words : Option V → ℕ → List RowWord) (old mid new : K → Option V) (key : K) (v : V)
+pub kept-by : {K V : Type 0} (same : K → K → Bool) → ((a b : K) → same a b ≡ true → a ≡ b) → (has : Option V → ℕ → ℕ → Type 0) (old mid new : K → Option V) (key : K) (v : V)
     → ((q : K) → mid q ≡ cond (same key q) None (old q)) → ((q : K) → new q ≡ cond (same key q) (Some v) (mid q))
-    → ((i p : ℕ) → has_bit (words (old key) i) p → has_bit (words (Some v) i) p) → (k : K) (i p : ℕ) → has_bit (words (old k) i) p → has_bit (words (new k) i) p
-kept-by same exact words old mid new key v removed put = grind (arith, put-each)
-
--- words are put at a bit, and bits are set
-pub kept-in : (old : Places) (bit more : ℕ) (mid : ℕ → Option (Vec RowWord)) (parents : BTreeMap ℕ (Vec RowWord)) (words : Vec RowWord)
-    → ((q : ℕ) → mid q ≡ cond (is_eq (nat_cmp bit q)) None (get nat_cmp old.parents q))
-    → ((q : ℕ) → get nat_cmp parents q ≡ cond (is_eq (nat_cmp bit q)) (Some words) (mid q))
-    → ((p : ℕ) → has_bit (words_or_none (get nat_cmp old.parents bit)) p → has_bit words.items p)
-    → KeepsPlaces old (record { bits = bit_or old.bits more; parents = parents })
-kept-in old bit more mid parents words removed put this = λ i p h.
-    let both = in-both old i p h in
-    in-set (record { bits = bit_or old.bits more; parents = parents }) i p (more-left old.bits more i both.0)
-    (kept-by (λ a b. is_eq (nat_cmp a b)) same_key (λ o k. words_or_none o) (get nat_cmp old.parents) mid (get nat_cmp parents) bit words removed put (λ k. this) i i p both.1)
+    → ((i p : ℕ) → has (old key) i p → has (Some v) i p) → (k : K) (i p : ℕ) → has (old k) i p → has (new k) i p
+kept-by same exact has old mid new key v removed put = grind (arith, put-each)
 
 -- ---- parents of all places
 
@@ -195,7 +232,7 @@ keeps-on a b c first second = λ part number p h. second part number p (first pa
 -- ---- nodes
 
 pub parts-all : (last i number parent : ℕ) (ids : List NodeId) (parents : Parents) → length ids ≤ i
-    → Before (ids_of ids) (λ k y. has_bit (words_of parents (place_of last y) number) parent) i → HasParts last (ids_of ids) parents number parent
+    → Before (ids_of ids) (λ k y. has_parent_of parents (place_of last y) number parent) i → HasParts last (ids_of ids) parents number parent
 parts-all last i number parent ids parents past each y among = grind (arith, before-all, length-map, slice_get_read)
 
 -- ---- fields

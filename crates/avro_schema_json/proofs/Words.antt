@@ -30,7 +30,7 @@ pub use Rattle.avro_schema_json.specs.inside.Kinds.{AreKinds, HasKind, HasRow, K
 pub use Rattle.avro_schema_json.specs.inside.KnownNames.{AreNumbered, AreWithin, Key, known_in, name_at, number_of}
 pub use Rattle.avro_schema_json.specs.inside.Marks.{ArePartsMarked, IsMarked, IsPartUnder, IsSetOf, Stays, marked, member_at, part_at}
 pub use Rattle.avro_schema_json.specs.inside.OwnDefaults.{all_without_defaults, default_of_fields, fields_seen, node_or_null, own_default, without_defaults}
-pub use Rattle.avro_schema_json.specs.inside.Parents.{AreFields, AreParents, HasField, HasParent, HasParts, IsField, IsParent, IsPart, IsStep, KeepsLabels, KeepsParents, KeepsPlaces, KeepsUnder, Label, Numbered, Parents, Under, words_at, words_in, words_in_some, words_of, words_or_none, words_under, has_bit, label_of}
+pub use Rattle.avro_schema_json.specs.inside.Parents.{AreFields, AreParents, HasField, HasParent, HasParts, IsField, IsParent, IsPart, IsStep, KeepsLabels, KeepsParents, KeepsPlaces, KeepsUnder, Label, Numbered, Parents, Under, has_bit, has_parent, has_parent_at, has_parent_in, has_parent_of, has_parent_under, label_of}
 pub use Rattle.avro_schema_json.specs.inside.Reading.{IsAdded, IsAttribute, IsBegun, IsRead, IsRefusal, Reads, Refuses, State, beginning_faults, fields_meaning, limit_faults, made_at}
 pub use Rattle.avro_schema_json.specs.inside.ReadingSeen.{Keeps, state_of}
 pub use Rattle.avro_schema_json.specs.inside.Repeats.{AreFieldsDistinct, AreNamesDistinct, HasDistinctNames, RecordRepeatsName, Repeats, RepeatsName, SomeRepeats, SomeRepeatsName, code_by, kind_code}

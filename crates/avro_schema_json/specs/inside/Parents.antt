@@ -1,5 +1,5 @@
 -- Under which labels a node is a part of which nodes, its parents.
-use Rattle.std.specs.Prelude.{◌≡◌, ℕ, ◌/◌, ◌%◌, ◌==◌, true, cond, List, [], slice_get, Option, Some, None, unwrap_or, bytes_eq, Contains}
+use Rattle.std.specs.Prelude.{◌≡◌, ℕ, ◌/◌, ◌%◌, true, List, slice_get, Option, Some, None, unwrap_or, bytes_eq, Contains}
 use Rattle.std.specs.Global.{Vec}
 use Rattle.std.specs.Int.{bit_at}
 use Rattle.std.specs.Ordering.{nat_cmp}
@@ -44,35 +44,31 @@ IsStep nodes last label row parents =
 unfoldable pub has_bit : List RowWord → ℕ → Type 0
 has_bit words p = (at : ℕ) × (word : RowWord) × (slice_get words at ≡ Some word) × (word.index ≡ p / 64) × (bit_at word.bits (p % 64) ≡ 1)
 
-abbrev pub words_or_none : Option (Vec RowWord) → List RowWord
-words_or_none None = []
-words_or_none (Some words) = words.items
+-- one of some places has the bit of one of 64, and the bit of a parent
+unfoldable pub has_parent : List Places → ℕ → ℕ → Type 0
+has_parent all i p = (at : ℕ) × (places : Places) × (slice_get all at ≡ Some places) × (bit_at places.mask i ≡ 1) × has_bit places.parents.items p
 
--- the words of the parents of one of 64 places, none if its bit is not set
-abbrev pub words_in : Places → ℕ → List RowWord
-words_in places i = cond (bit_at places.bits i == 1) (words_or_none (get nat_cmp places.parents i)) []
-
-abbrev pub words_in_some : Option Places → ℕ → List RowWord
-words_in_some None i = []
-words_in_some (Some places) i = words_in places i
+abbrev pub has_parent_in : Option (Vec Places) → ℕ → ℕ → Type 0
+has_parent_in None i p = ⊥
+has_parent_in (Some all) i p = has_parent all.items i p
 
 -- the parents of each place under one label, and those under each, by the number of the label
 abbrev pub Under : Type 0
-Under = BTreeMap ℕ Places
+Under = BTreeMap ℕ (Vec Places)
 
 abbrev pub Parents : Type 0
 Parents = BTreeMap ℕ Under
 
--- the words of the parents of a place
-abbrev pub words_under : Under → ℕ → List RowWord
-words_under under place = words_in_some (get nat_cmp under (place / 64)) (place % 64)
+-- a place is a parent of another
+abbrev pub has_parent_under : Under → ℕ → ℕ → Type 0
+has_parent_under under place p = has_parent_in (get nat_cmp under (place / 64)) (place % 64) p
 
-abbrev pub words_at : Option Under → ℕ → List RowWord
-words_at None place = []
-words_at (Some under) place = words_under under place
+abbrev pub has_parent_at : Option Under → ℕ → ℕ → Type 0
+has_parent_at None place p = ⊥
+has_parent_at (Some under) place p = has_parent_under under place p
 
-abbrev pub words_of : Parents → ℕ → ℕ → List RowWord
-words_of parents place number = words_at (get nat_cmp parents number) place
+abbrev pub has_parent_of : Parents → ℕ → ℕ → ℕ → Type 0
+has_parent_of parents place number p = has_parent_at (get nat_cmp parents number) place p
 
 -- words with numbers, and the number of the label of a name
 abbrev pub Numbered : Type 0
@@ -92,11 +88,11 @@ label_or_values labels name = unwrap_or (label_of labels name) 1
 
 -- a place is a parent of another under a label
 abbrev pub HasParent : Numbered → Parents → Label → ℕ → ℕ → Type 0
-HasParent labels parents label part parent = (number : ℕ) × (number_of labels label ≡ Some number) × has_bit (words_of parents part number) parent
+HasParent labels parents label part parent = (number : ℕ) × (number_of labels label ≡ Some number) × has_parent_of parents part number parent
 
 -- a place is a parent of some nodes
 abbrev pub HasParts : ℕ → List ℕ → Parents → ℕ → ℕ → Type 0
-HasParts last ids parents number parent = (y : ℕ) → Contains ids y → has_bit (words_of parents (place_of last y) number) parent
+HasParts last ids parents number parent = (y : ℕ) → Contains ids y → has_parent_of parents (place_of last y) number parent
 
 -- a record is a parent of the nodes of a field, and of each field
 abbrev pub IsField : List Node → ℕ → Numbered → Parents → FieldNode → ℕ → Type 0
@@ -115,14 +111,14 @@ abbrev pub AreParents : List Node → ℕ → Numbered → Parents → Type 0
 AreParents nodes last labels parents = (x : ℕ) → IsParent nodes last labels parents (node_at nodes x) (place_of last x)
 
 -- what was there is there
-abbrev pub KeepsPlaces : Places → Places → Type 0
-KeepsPlaces before after = (i parent : ℕ) → has_bit (words_in before i) parent → has_bit (words_in after i) parent
+abbrev pub KeepsPlaces : List Places → List Places → Type 0
+KeepsPlaces before after = (i parent : ℕ) → has_parent before i parent → has_parent after i parent
 
 abbrev pub KeepsUnder : Under → Under → Type 0
-KeepsUnder before after = (part parent : ℕ) → has_bit (words_under before part) parent → has_bit (words_under after part) parent
+KeepsUnder before after = (part parent : ℕ) → has_parent_under before part parent → has_parent_under after part parent
 
 abbrev pub KeepsParents : Parents → Parents → Type 0
-KeepsParents before after = (part number parent : ℕ) → has_bit (words_of before part number) parent → has_bit (words_of after part number) parent
+KeepsParents before after = (part number parent : ℕ) → has_parent_of before part number parent → has_parent_of after part number parent
 
 abbrev pub KeepsLabels : Numbered → Numbered → Type 0
 KeepsLabels before after = (name : List ℕ) (number : ℕ) → label_of before name ≡ Some number → label_of after name ≡ Some number

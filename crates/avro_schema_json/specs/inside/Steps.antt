@@ -2,7 +2,7 @@
 use Rattle.std.specs.Prelude.{◌≡◌, ℕ, true, List, Option, Some}
 use Rattle.std.specs.BTreeMap.{BTreeMap, get}
 use Rattle.avro_schema_json.specs.inside.Kinds.{pair_cmp}
-use Rattle.avro_schema_json.specs.inside.Parents.{Parents, has_bit, words_of}
+use Rattle.avro_schema_json.specs.inside.Parents.{Parents, has_parent_of}
 use Rattle.avro_schema_json.specs.inside.Rows.{has_place}
 use Rattle.avro_schema_json.specs.inside.Sets.{row_at}
 use Rattle.avro_schema_json.specs.declared.defaults.sets.Sets.{Sets}
@@ -10,7 +10,7 @@ use Rattle.avro_schema_json.specs.declared.defaults.steps.Memo.{Memo}
 
 -- the parents under the number of a label of what a row has
 abbrev pub Follows : Parents → ℕ → List ℕ → List ℕ → Type 0
-Follows parents label row found = (y p : ℕ) → has_place row y ≡ true → has_bit (words_of parents y label) p → has_place found p ≡ true
+Follows parents label row found = (y p : ℕ) → has_place row y ≡ true → has_parent_of parents y label p → has_place found p ≡ true
 
 -- the set of a number has the parents of what is in another
 abbrev pub LeadsTo : Parents → Sets → ℕ → ℕ → ℕ → Type 0

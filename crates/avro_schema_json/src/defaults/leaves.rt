@@ -13,7 +13,7 @@ use crate::defaults::edges::label_of;
 use crate::defaults::kinds::{
     ARRAY, BOOLEAN, BYTES, FIXED, INT, LONG, MAP, NULL, RECORD, TEXT, add_kind, row_of_kind,
 };
-use crate::defaults::parents::{parents_at, put_parents};
+use crate::defaults::parents::put_parents_at;
 use crate::defaults::plain_defaults::bytes_of_text;
 use crate::defaults::rows::{Row, empty_row};
 use crate::defaults::tables::Tables;
@@ -59,8 +59,7 @@ fn row_of_text(alloc: Global, tables: &Tables, text: &str) -> Result<Row, Memory
 {
     let mut row = row_of_kind(&tables.kinds, TEXT);
     let label = label_of(&tables.labels, text);
-    let enums = parents_at(&tables.parents, tables.last as usize + 1, label);
-    put_parents(&mut row, enums);
+    put_parents_at(&mut row, &tables.parents, label, tables.last as usize + 1);
     let found = bytes_of_text(alloc, text)?;
     match found {
         Some(bytes) => {

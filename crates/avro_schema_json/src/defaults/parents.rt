@@ -1,9 +1,9 @@
 //! Under which labels a node is a part of which nodes, its parents: as items of arrays, as values of maps, or as
 //! fields of a name, also as a branch of a union there. A text that is a symbol has its enums as parents.
 
-ghost use Rattle.std.specs.Prelude.{◌≡◌, ◌<◌, ℕ, true, OnOk};
+ghost use Rattle.std.specs.Prelude.{◌≡◌, ◌/◌, ℕ, true, OnOk};
 ghost use Rattle.std.specs.Int.{bit_at};
-ghost use Rattle.avro_schema_json.specs.inside.Parents.{KeepsParents, KeepsPlaces, KeepsUnder, has_bit, words_in, words_of, words_under};
+ghost use Rattle.avro_schema_json.specs.inside.Parents.{KeepsParents, KeepsPlaces, KeepsUnder, has_bit, has_parent, has_parent_of, has_parent_under};
 ghost use Rattle.avro_schema_json.specs.inside.Rows.{has_place, IsWithin};
 ghost use Rattle.avro_schema_json.specs.inside.Steps.{Follows};
 
@@ -25,16 +25,15 @@ pub(crate) struct RowWord {
     pub bits: u64,
 }
 
-/// Which of 64 places have parents under one label, as bits, and the parents of each, by its bit: those words of a row
-/// that have bits, each once.
+/// Some of 64 places, by the bits of a mask, and their parents: those words of a row that have bits, each once.
 #[derive(Drop)]
 pub(crate) struct Places {
-    pub bits: u64,
-    pub parents: BTreeMap<usize, Vec<RowWord>>,
+    pub mask: u64,
+    pub parents: Vec<RowWord>,
 }
 
 /// The parents of each place under one label, by words of 64 places.
-pub(crate) type Under = BTreeMap<usize, Places>;
+pub(crate) type Under = BTreeMap<usize, Vec<Places>>;
 
 /// The parents under each label.
 pub(crate) type Parents = BTreeMap<u32, Under>;
@@ -48,7 +47,7 @@ pub(crate) fn put_parent(
     parent: u32,
 ) -> Result<(), Memory>
     ensures kept { OnOk result (KeepsParents parents.old parents.new) }
-    ensures added { OnOk result (has_bit (words_of parents.new place label) parent) }
+    ensures added { OnOk result (has_parent_of parents.new place label parent) }
 {
     let mut under = parents.remove(&label).unwrap_or(BTreeMap::new(alloc));
     put_under(alloc, &mut under, place, parent)?;
@@ -59,28 +58,29 @@ pub(crate) fn put_parent(
 /// Adds a parent of a place.
 fn put_under(alloc: Global, under: &mut Under, place: usize, parent: u32) -> Result<(), Memory>
     ensures kept { OnOk result (KeepsUnder under.old under.new) }
-    ensures added { OnOk result (has_bit (words_under under.new place) parent) }
+    ensures added { OnOk result (has_parent_under under.new place parent) }
 {
     let word = place / 64;
-    let mut places = under.remove(&word).unwrap_or(Places {
-        bits: 0,
-        parents: BTreeMap::new(alloc),
-    });
-    put_in(alloc, &mut places, place % 64, parent)?;
+    let mut places = under.remove(&word).unwrap_or(Vec::new(alloc));
+    put_in(alloc, &mut places, 1 << (place % 64), parent)?;
     under.insert(word, places)?;
     Ok(())
 }
 
-/// Adds a parent of one of 64 places.
-fn put_in(alloc: Global, places: &mut Places, bit: usize, parent: u32) -> Result<(), Memory>
-    requires bit { bit < 64 }
-    ensures kept { OnOk result (KeepsPlaces places.old places.new) }
-    ensures added { OnOk result (has_bit (words_in places.new bit) parent) }
+/// Adds a parent of the places of a mask.
+fn put_in(alloc: Global, places: &mut Vec<Places>, mask: u64, parent: u32) -> Result<(), Memory>
+    ensures kept { OnOk result (KeepsPlaces places.old.items places.new.items) }
+    ensures added { OnOk result ((i : ℕ) → bit_at mask i ≡ 1 → has_parent places.new.items i parent) }
 {
-    let mut words = places.parents.remove(&bit).unwrap_or(Vec::new(alloc));
-    add_parent(&mut words, parent)?;
-    places.parents.insert(bit, words)?;
-    places.bits |= 1 << bit;
+    for i in 0..places.len() {
+        if places[i].mask == mask {
+            add_parent(&mut places[i].parents, parent)?;
+            return Ok(());
+        }
+    }
+    let mut parents = Vec::new(alloc);
+    add_parent(&mut parents, parent)?;
+    places.push(Places { mask, parents })?;
     Ok(())
 }
 
@@ -101,34 +101,6 @@ fn add_parent(words: &mut Vec<RowWord>, parent: u32) -> Result<(), Memory>
     Ok(())
 }
 
-/// The parents of a place under a label.
-pub(crate) fn parents_at(parents: &Parents, place: usize, label: u32) -> &[RowWord]
-    ensures { result.now ≡ words_of parents.now place label }
-{
-    match parents.get(&label) {
-        Some(under) => match under.get(&(place / 64)) {
-            Some(places) => parents_in(places, place % 64),
-            None => &[],
-        },
-        None => &[],
-    }
-}
-
-/// The parents of one of 64 places.
-fn parents_in(places: &Places, bit: usize) -> &[RowWord]
-    requires bit { bit < 64 }
-    ensures { result.now ≡ words_in places.now bit }
-{
-    if (places.bits >> bit) & 1 == 1 {
-        match places.parents.get(&bit) {
-            Some(words) => words.as_slice(),
-            None => &[],
-        }
-    } else {
-        &[]
-    }
-}
-
 /// Adds parents to a row.
 pub(crate) fn put_parents(row: &mut Row, words: &[RowWord])
     ensures kept { IsWithin row.old.words row.new.words }
@@ -140,22 +112,32 @@ pub(crate) fn put_parents(row: &mut Row, words: &[RowWord])
 }
 
 /// Adds the parents of those of 64 places that are among bits.
-fn put_parents_in(row: &mut Row, places: &Places, among: u64)
+fn put_parents_in(row: &mut Row, places: &[Places], among: u64)
     ensures kept { IsWithin row.old.words row.new.words }
-    ensures added { (i p : ℕ) → i < 64 → bit_at among i ≡ 1 → has_bit (words_in places.now i) p → has_place row.new.words p ≡ true }
+    ensures added { (i p : ℕ) → bit_at among i ≡ 1 → has_parent places.now i p → has_place row.new.words p ≡ true }
 {
-    let bits = places.bits & among;
-    if bits == 0 {
-        return;
-    }
-    for bit in 0..64 {
-        if (bits >> bit) & 1 == 1 {
-            put_parents(row, parents_in(places, bit));
+    for place in places {
+        if place.mask & among != 0 {
+            put_parents(row, &place.parents);
         }
     }
 }
 
-/// The parents under a label of what is in a row. Only the places that are in it and have some are looked at.
+/// Adds the parents of a place under a label.
+pub(crate) fn put_parents_at(row: &mut Row, parents: &Parents, label: u32, place: usize)
+    ensures kept { IsWithin row.old.words row.new.words }
+    ensures added { (p : ℕ) → has_parent_of parents.now place label p → has_place row.new.words p ≡ true }
+{
+    let Some(under) = parents.get(&label) else {
+        return;
+    };
+    let Some(places) = under.get(&(place / 64)) else {
+        return;
+    };
+    put_parents_in(row, places, 1 << (place % 64));
+}
+
+/// The parents under a label of what is in a row. Only the places that have some are looked at.
 pub(crate) fn parents_of_row(parents: &Parents, label: u32, row: &Row) -> Row
     ensures { Follows parents.now label row.now.words result.words }
 {
@@ -164,7 +146,10 @@ pub(crate) fn parents_of_row(parents: &Parents, label: u32, row: &Row) -> Row
         return found;
     };
     for (word, places) in under.iter() {
-        put_parents_in(&mut found, places, word_of(row, *word));
+        let among = word_of(row, *word);
+        if among != 0 {
+            put_parents_in(&mut found, places, among);
+        }
     }
     found
 }

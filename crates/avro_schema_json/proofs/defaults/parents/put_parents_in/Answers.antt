@@ -1,23 +1,19 @@
-use Rattle.avro_schema_json.proofs.Words.{arith, sym, subst, List, has_bit, RowWord, shr_and_one}
-use Rattle.avro_schema_json.proofs.ParentsSeen.{added-next, bit-among}
-use Rattle.avro_schema_json.proofs.RowsSeen.{no-bit}
-use Rattle.avro_schema_json.proofs.defaults.parents.put_parents_in.Goals.{then-bits-bit-eq1, else-bits-bit-eq1}
+use Rattle.avro_schema_json.proofs.Words.{List, sym, subst, has_bit, RowWord}
+use Rattle.avro_schema_json.proofs.ParentsSeen.{added-next, all-added, none-shared}
+use Rattle.avro_schema_json.proofs.defaults.parents.put_parents_in.Goals.{then-place-among-ne0, else-place-among-ne0}
 use Rattle.avro_schema_json.proofs.defaults.parents.put_parents_in.Goals as goal
 
-pub returns-then-bits-eq0-clause-added : goal.returns-then-bits-eq0-clause-added
-returns-then-bits-eq0-clause-added c = λ i p below bit has.
-    absurd (no-bit i _ c.if-bits-eq0.true (bit-among c.args.places.now c.args.among i p bit has))
-
-pub loop-bit-preserved : goal.loop-bit-preserved
-loop-bit-preserved c = elim c.if-bits-bit-eq1.branch [
-  | then-bits-bit-eq1 w ↦
-      rw w.row-is (added-next c.args.places.now c.args.among c.args.row.now.words c.loop-bit.row.words w.put_parents.new.row.words c.loop-bit.bit w.put_parents.ensures.kept
-      (λ p bit has. w.put_parents.ensures.added p (subst (λ (words : List RowWord). has_bit words p) (sym w.parents_in.ensures) has)) c.loop-bit.invariant)
-  | else-bits-bit-eq1 w ↦
-      rw w.row-is (added-next c.args.places.now c.args.among c.args.row.now.words c.loop-bit.row.words c.loop-bit.row.words c.loop-bit.bit (λ p h. h)
-      (λ p bit has. let among = bit-among c.args.places.now c.args.among c.loop-bit.bit p bit has in absurd (grind (arith, shr_and_one, among, w.if-bits-bit-eq1.false)))
-      c.loop-bit.invariant)
+pub loop-place-preserved : goal.loop-place-preserved
+loop-place-preserved c = elim c.if-place-among-ne0.branch [
+  | then-place-among-ne0 w ↦
+      rw w.row-is (added-next c.args.places.now c.loop-place.place-index c.args.among c.place-item.result c.args.row.now.words c.loop-place.row.words w.put_parents.new.row.words
+      c.loop-place-test.true c.place-item.is w.put_parents.ensures.kept (λ i p there bit has. w.put_parents.ensures.added p (subst (λ (words : List RowWord). has_bit words p) (sym w.deref.ensures.value) has)) c.loop-place.invariant)
+  | else-place-among-ne0 w ↦
+      rw w.row-is (added-next c.args.places.now c.loop-place.place-index c.args.among c.place-item.result c.args.row.now.words c.loop-place.row.words c.loop-place.row.words
+      c.loop-place-test.true c.place-item.is (λ p h. h)
+      (λ i p there bit has. absurd (none-shared c.place-item.result.mask c.args.among i w.if-place-among-ne0.false bit there)) c.loop-place.invariant)
 ]
 
 pub returns-clause-added : goal.returns-clause-added
-returns-clause-added c = λ i p below bit has. c.loop-bit.invariant.1 i p (omega (arith, below, c.loop-bit-test.false)) bit has
+returns-clause-added c =
+    all-added c.args.places.now c.loop-place.place-index c.args.among c.args.row.now.words c.loop-place.row.words c.loop-place-test.false c.loop-place.invariant
