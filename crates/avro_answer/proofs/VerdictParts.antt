@@ -7,7 +7,7 @@ use Rattle.avro_schema.specs.Value.{Value}
 use Rattle.avro_compare.specs.Fault.{ResolutionFault}
 use Rattle.avro_compare.specs.Seen.{fault_of}
 use Rattle.avro_device.specs.PutFront.{PutsFrontOf}
-use Rattle.avro_display.proofs.public.Fronts.{fronts_both, fronts_held}
+use Rattle.avro_display.proofs.public.Fronts.{fronts_both}
 use Rattle.avro_display.specs.DisplayTree.{display_text}
 use Rattle.avro_display.specs.Pieces.{PutsText}
 use Rattle.avro_judge.specs.declared.verdict.Verdict.{Verdict}

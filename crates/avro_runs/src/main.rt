@@ -5,11 +5,13 @@ mod devices;
 mod escapes;
 mod files;
 mod inputs;
+mod memory;
 mod sheets;
 mod steps;
 mod told;
 
 use crate::inputs::check_inputs;
+use crate::memory::check_texts;
 use crate::sheets::check_sheet;
 use anyhow::{Context, Result};
 use std::{env, fs};
@@ -19,7 +21,8 @@ fn main(rt: HostRuntime) -> Result<()> {
     for name in env::args(&rt)?.skip(1) {
         check_file(&rt, &name).context(name)?;
     }
-    check_inputs(&rt)
+    check_inputs(&rt)?;
+    check_texts(&rt)
 }
 
 /// Takes the steps of a sheet.

@@ -71,7 +71,7 @@ impl Sheet {
 /// # Errors
 ///
 /// Memory ran out.
-fn words_of(alloc: Global, line: &str) -> Result<Vec<String>, AllocError> {
+pub(crate) fn words_of(alloc: Global, line: &str) -> Result<Vec<String>, AllocError> {
     let mut list = Vec::new(alloc);
     for word in line.split_whitespace() {
         list.push(String::from_str(alloc, word)?)?;

@@ -1,4 +1,4 @@
-use Rattle.std.proofs.Common.{◌≡◌, ◌∙◌, ℕ, List, ap, subst}
+use Rattle.std.proofs.Common.{◌≡◌, ◌∙◌, ap, subst}
 use Rattle.std.specs.Prelude.{IfOk}
 use Rattle.avro_tool.specs.FoundStatus.{finding_status}
 use Rattle.avro_tool.specs.PlainAnswers.{AnswersExplain, AnswersJudge}

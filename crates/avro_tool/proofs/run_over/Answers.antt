@@ -1,4 +1,4 @@
-use Rattle.std.proofs.Common.{◌≡◌, ℕ, List, subst, sym}
+use Rattle.std.proofs.Common.{ℕ, subst, sym}
 use Rattle.avro_tool.specs.PlainAnswers.{AnswersPlain}
 use Rattle.avro_tool.proofs.PlainAsked.{no_verdict}
 use Rattle.avro_tool.proofs.run_over.Goals as goal

@@ -1,4 +1,3 @@
-use Rattle.std.proofs.Common.{codes}
 use Rattle.std.proofs.lemmas.Result.{on_ok_weaker}
 use Rattle.avro_schema.specs.Node.{root_of}
 use Rattle.avro_schema.specs.Seen.{value_of}

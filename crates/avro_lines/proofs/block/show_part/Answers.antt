@@ -1,5 +1,5 @@
 -- The block was walked over, and its first lines are shown.
-use Rattle.std.proofs.Common.{◌≡◌, List, ℕ, refl, sym, subst}
+use Rattle.std.proofs.Common.{List, ℕ, refl, sym, subst}
 use Rattle.avro_schema.specs.Value.{no_values}
 use Rattle.avro_file.specs.BlockFails.{DataAreWhole}
 use Rattle.avro_file.proofs.public.Data.{whole-none}

@@ -1,5 +1,5 @@
 -- What stands at the front is what is decoded.
-use Rattle.std.proofs.Common.{◌≡◌, ℕ, length, take, drop, sym, ap, ◌∙◌}
+use Rattle.std.proofs.Common.{take, drop, sym, ap, ◌∙◌}
 use Rattle.std.proofs.lemmas.List.{length-take-le, take-append-drop}
 use Rattle.avro_lines.specs.Lines.{line_of}
 use Rattle.avro_lines.specs.inside.OpenedSeen.{reading_for, shown_for}

@@ -1,5 +1,5 @@
 -- Each line is held after those before it.
-use Rattle.std.proofs.Common.{◌≡◌, ◌<◌, List, ℕ, sym, subst, refl, arith, rules, take}
+use Rattle.std.proofs.Common.{◌<◌, List, ℕ, sym, subst, refl, arith, rules, take}
 use Rattle.avro_lines.specs.inside.DataShown.{HoldsMore, HoldsNext}
 use Rattle.avro_lines.specs.inside.OpenedSeen.{reading_for, shown_for}
 use Rattle.avro_lines.proofs.Helds.{holds-more, holds-none, next-inside}

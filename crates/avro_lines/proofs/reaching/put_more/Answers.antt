@@ -1,5 +1,5 @@
 -- The next line was put, and those after it are held.
-use Rattle.std.proofs.Common.{◌≡◌, ◌+◌, List, ℕ, sym, subst, refl, take}
+use Rattle.std.proofs.Common.{◌+◌, List, ℕ, sym, subst, refl, take}
 use Rattle.avro_file.specs.BlockFails.{DataAreWhole}
 use Rattle.avro_lines.specs.Lines.{line_of}
 use Rattle.avro_lines.specs.inside.DataShown.{Stands, text_of}

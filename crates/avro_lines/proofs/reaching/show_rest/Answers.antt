@@ -1,5 +1,5 @@
 -- What stands next is one of all data, so that it is shown.
-use Rattle.std.proofs.Common.{◌≡◌, ◌<◌, ◌≤◌, List, ℕ, sym, subst, refl, arith, rules, take, drop}
+use Rattle.std.proofs.Common.{◌<◌, ◌≤◌, List, ℕ, sym, subst, refl, arith, rules, take, drop}
 use Rattle.std.proofs.lemmas.List.{take-append-drop}
 use Rattle.std.proofs.lemmas.Result.{MatchResult-weaker}
 use Rattle.avro_lines.specs.inside.DataShown.{PutsOr, text_of}

@@ -3,7 +3,7 @@ use Rattle.std.proofs.Common.{refl, subst, arith}
 use Rattle.std.specs.Prelude.{codes}
 use Rattle.avro_schema.specs.SeenSchema.{schema_nodes}
 use Rattle.avro_explain.specs.Places.{marked}
-use Rattle.avro_answer.proofs.public.FaultsAnswers.{no_member, some_member, yes_status, no_status, over_status, with_texts}
+use Rattle.avro_answer.proofs.public.FaultsAnswers.{no_member, some_member, yes_status, no_status, with_texts}
 use Rattle.avro_answer.proofs.public.PairLimits.{within_limit}
 use Rattle.avro_tool.proofs.commands.explain.explain_pair.Goals as goal
 

@@ -1,8 +1,6 @@
 -- What a failure of showing a file is: the fault of the file where it is refused.
-use Rattle.std.proofs.Common.{◌≡◌, Err, Some, ap, rules, ◌∙◌}
+use Rattle.std.proofs.Common.{◌≡◌, Err, ap, rules, ◌∙◌}
 use Rattle.avro_file.specs.FileSeen.{file_fault}
-use Rattle.avro_file.specs.declared.error.CopyError.{CopyError}
-use Rattle.avro_tool.specs.declared.failure.Failure.{Failure}
 use Rattle.avro_tool.specs.declared.failure.Failure.TheVariants.{Container}
 use Rattle.avro_tool.proofs.commands.show.tell_lines.Goals as goal
 
