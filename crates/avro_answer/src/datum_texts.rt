@@ -16,6 +16,9 @@ use avro_certificate::append_decimal;
 use avro_resolve::ReadResolveError;
 use std::alloc::{AllocError, Global};
 
+/// The most bytes that are around the display of a datum: its length has 20 digits at most.
+pub(crate) const AROUND: usize = 40;
+
 /// The text of a datum by its display and the length of its encoding.
 pub(crate) fn text_with(
     alloc: Global,
@@ -25,17 +28,22 @@ pub(crate) fn text_with(
 ) -> Result<Vec<u8>, AllocError>
     ensures { IfOk result (λ text. text.items ≡ text_around form display.now len) }
 {
-    let mut text = head(alloc, len, form)?;
+    let mut text = head(alloc, AROUND + display.len(), len, form)?;
     text.extend_from_slice(display)?;
     text.extend_from_slice(tail(form))?;
     Ok(text)
 }
 
-/// What is before the display of a datum: the length of its encoding.
-pub(crate) fn head(alloc: Global, len: usize, form: Form) -> Result<Vec<u8>, AllocError>
+/// What is before the display of a datum, the length of its encoding, with room for so many bytes.
+pub(crate) fn head(
+    alloc: Global,
+    room: usize,
+    len: usize,
+    form: Form,
+) -> Result<Vec<u8>, AllocError>
     ensures { IfOk result (λ text. text.items ≡ head_of form len) }
 {
-    let mut text = Vec::new(alloc);
+    let mut text = Vec::with_capacity(alloc, room)?;
     text.extend_from_slice(before(form))?;
     append_decimal(&mut text, len as u64)?;
     text.extend_from_slice(between(form))?;
