@@ -15,10 +15,6 @@ use Rattle.avro_canonical.proofs.Words.{some-is}
 named_or : (name : Name) (written : List Name) (other : Name) → same_name name other ≡ false → is_among other (name ∷ written) ≡ is_among other written
 named_or name written other apart = rw (same_name-sym other name, apart) refl
 
--- names, and where there is none
-names_in : List (Option Name) → List Name
-names_in os = filter_map (λ o. o) os
-
 pub names-seen : (ns : List Node) → filter_map node_name ns ≡ filter_map (λ o. o) (map node_name ns)
 names-seen [] = refl
 names-seen (n ∷ ns) = rw (names-seen ns) refl

@@ -14,10 +14,6 @@ pub plain_in : (into : Option ℕ) (v : Value) → branch_bytes into ++ plain v 
 plain_in None v = refl
 plain_in (Some k) v = refl
 
-pub holds_in : {E : Type 0} (r : Result Written E) (out : List ℕ) (into : Option ℕ) (v : Value)
-    → IfOk r (λ w. Holds out w (branch_bytes into ++ plain v)) → IfOk r (λ w. Holds out w (plain (in_branch into v)))
-holds_in r out into v h = subst (λ (bytes : List ℕ). IfOk r (λ w. Holds out w bytes)) (plain_in into v) h
-
 -- a datum of a node that may be at a place
 pub holds_at : {E : Type 0} (r : Result Written E) (out : List ℕ) (n : Node) (at : Place) (v : Value)
     → IfOk r (λ w. Holds out w (branch_bytes at.branch ++ plain v)) → IfOk r (λ w. MayBeAt n at → Holds out w (plain (in_branch at.branch v)))

@@ -1,5 +1,5 @@
 -- What is resolved as it is read.
-use Rattle.std.proofs.Common.{◌≡◌, ℕ, suc, List, [], ◌∷◌, ◌++◌, length, Option, Some, None, Result, Ok, Err, refl, sym, ap, ◌∙◌, subst}
+use Rattle.std.proofs.Common.{◌≡◌, ℕ, suc, List, [], ◌∷◌, ◌++◌, length, Option, Some, None, Result, Ok, Err, refl, sym, ap, ◌∙◌}
 use Rattle.std.specs.Prelude.{slice_get, unwrap_or}
 use Rattle.std.specs.Global.{Box}
 use Rattle.std.proofs.lemmas.List.{append-nil, append_assoc}
@@ -8,7 +8,6 @@ use Rattle.avro_schema.specs.Node.{Node, node_at}
 use Rattle.avro_resolve.specs.Ends.{turned}
 use Rattle.avro_compare.specs.Fault.{ResolutionFault, fault_in}
 use Rattle.avro_resolve.specs.inside.Guided.{MadeAs, IsNothing, StandsAs, SoFar, branch_for, of_node}
-use Rattle.avro_binary.specs.Places.{in_branch}
 use Rattle.avro_binary.specs.declared.place.Place.{Place}
 use Rattle.avro_compare.specs.Pairs.{wrapped, branch_id}
 use Rattle.avro_compare.specs.Resolve.{Resolved, resolve, inside, result_map}
@@ -26,11 +25,6 @@ as_fault f = Err f
 pub good_made : {O : Type 0} (S : O → Value → Type 0) (out : O) (q : Resolved) → MadeAs S (Made.Good out) q → (u : Value) × (q ≡ Ok u) × S out u
 good_made S out (Ok u) h = (u, refl, h)
 good_made S out (Err f) h = absurd h
-
--- what is made of a datum in a branch, of what is resolved within
-pub made_in : {O : Type 0} (S : O → Value → Type 0) (branch : Option ℕ) (out : O) (v : Value) → S out (in_branch branch v) → MadeAs S (Made.Good out) (wrapped branch (Ok v))
-made_in S None out v h = h
-made_in S (Some k) out v h = h
 
 -- ---- Unions of the writer
 

@@ -232,7 +232,3 @@ module _ {S : Type 0} (numbers : IndexSet (List ℕ) S) (ids later : IndexMap Ke
       → id_of name (known_in numbers.keys ids.entries) ≡ None → OnOk r (later.entries ≡ insert_entry same_key ids.entries key id) → OnErr r (later.entries ≡ ids.entries) → AreNumbered numbers later
   are_after (Ok old) name key id numbered spelled new put unchanged = are_more name key id numbered (goes_last name key id numbered spelled new put)
   are_after (Err e) name key id numbered spelled new put unchanged = are_same unchanged
-
--- what one more namespace leaves
-pub are_followed : {S : Type 0} (before after : IndexSet (List ℕ) S) (ids : IndexMap Key ℕ S) → AreNumbered before ids → Follows before.keys after.keys → IsDistinct bytes_eq after.keys → AreNumbered after ids
-are_followed before after ids are f distinct = record { distinct = distinct; within = within_kept before.keys after.keys f ids.entries are.within }

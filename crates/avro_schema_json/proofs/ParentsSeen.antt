@@ -51,10 +51,6 @@ pub bit-last : (words later : List RowWord) (word : RowWord) (p : ℕ) → later
 bit-last words later word p is here bit =
     of-bit later (length words + 0) p word (ap (λ ws. slice_get ws (length words + 0)) is ∙ append-at words (word ∷ []) (length words) 0 refl) here bit
 
--- no word has no bit
-pub no-word : (p : ℕ) → has_bit [] p → ⊥
-no-word p h = let was = bit-of [] p h in none-some was.1 was.2
-
 -- the bits of the first words are added to a row
 abbrev pub AreWordsAdded : List RowWord → List ℕ → List ℕ → ℕ → Type 0
 AreWordsAdded words old new i =
@@ -120,10 +116,6 @@ parent-before all later places is i p h =
 pub parent-last : (all later : List Places) (places : Places) (i p : ℕ) → later ≡ all ++ places ∷ [] → bit_at places.mask i ≡ 1 → has_bit places.parents.items p → has_parent later i p
 parent-last all later places i p is bit has =
     of-parent later (length all + 0) i p places (ap (λ ps. slice_get ps (length all + 0)) is ∙ append-at all (places ∷ []) (length all) 0 refl) bit has
-
--- no places have no parent
-pub no-parent : (i p : ℕ) → has_parent [] i p → ⊥
-no-parent i p h = let was = parent-of [] i p h in none-some was.1 was.2
 
 -- the parents of the first places that are among bits are added to a row
 abbrev pub AreAdded : List Places → ℕ → List ℕ → List ℕ → ℕ → Type 0

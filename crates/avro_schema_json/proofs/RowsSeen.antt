@@ -61,10 +61,6 @@ bit-itself k below =
     let few = bit_at-lt bit k in
     omega (arith, whole, sum, zero, few)
 
--- a place that a row has is a bit of its word
-pub bit-there : (row : List ℕ) (p w : ℕ) → p / 64 ≡ w → w < 64 → has_place row p ≡ true → bit_at (get_or row w 0) (p % 64) ≡ 1
-bit-there row p w here below there = grind (arith, one)
-
 -- 0 has no bit
 pub no-bit : (i n : ℕ) → n ≡ 0 → bit_at n i ≡ 1 → ⊥
 no-bit i n none h = let w : bit_at 0 i ≡ 1 = rw none at h in absurd (omega (arith, w, bit_at-zero i))

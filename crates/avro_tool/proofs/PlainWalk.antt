@@ -5,7 +5,7 @@ use Rattle.std.specs.Prelude.{◌==◌, ⊤}
 use Rattle.std.specs.List.{list_all}
 use Rattle.clap.specs.Simple.{Shape}
 use Rattle.clap.specs.Takes.{default_passes, is_valid, level_passes, settle_passes, step_passes, turn_passes, walk_passes}
-use Rattle.clap.specs.Walk.{Held, Rule, Step, Text, Walk, Waiting, arg_by_index, finished, nothing_held, to_positional, walked, word_met}
+use Rattle.clap.specs.Walk.{Held, Rule, Step, Text, Walk, Waiting, arg_by_index, finished, nothing_held, to_positional, walked}
 use Rattle.avro_tool.specs.PlainWords.{HaveNoOption, IsNoOption}
 
 not_dashes : (word : Text) → IsNoOption word → bytes_eq word (45 ∷ 45 ∷ []) ≡ false
@@ -38,11 +38,6 @@ abbrev pub Reaches : Shape → Held → ℕ → List Text → Type 0
 Reaches s h p [] = ⊤
 Reaches s h p (word ∷ rest) = IfMore rest (to_positional s.rules (arg_by_index s.rules p) word (between h p) h ≡ between (held_after s h p word) (p + 1))
     × (step_passes s p h Step.value ≡ true) × Reaches s (held_after s h p word) (p + 1) rest
-
-plain_met : (c : List Rule) (h : Held) (p : ℕ) (word : Text) → IsNoOption word → word_met c [] false Waiting.idle p word h ≡ (h, Step.value)
-plain_met c h p word free =
-    let dashes = not_dashes word free in
-    simp (free, dashes)
 
 turn_plain : (s : Shape) (h : Held) (p : ℕ) (word : Text) → IsNoOption word → turn_passes s [] (between h p) word ≡ step_passes s p h Step.value
 turn_plain s h p word free =

@@ -1,13 +1,10 @@
 -- The finding of a verdict has its status.
-use Rattle.std.proofs.Common.{◌≡◌, ℕ, ◌≤◌, ◌⊎◌, inl, inr, Bool, true, false, List, Option, refl, sym, subst, arith}
+use Rattle.std.proofs.Common.{◌≡◌, ℕ, ◌≤◌, ◌⊎◌, inl, inr, List, Option, refl, sym, subst, arith}
 use Rattle.avro_schema.specs.Node.{Node}
 use Rattle.avro_schema.specs.SeenSchema.{schema_nodes}
 use Rattle.avro_schema.specs.declared.schema.Schema.{Schema}
-use Rattle.avro_compare.specs.Children.{Pair}
-use Rattle.avro_certificate.specs.Closed.{is_closed}
 use Rattle.avro_judge.specs.Headline.{IsRight}
 use Rattle.avro_judge.specs.JudgeRanges.{JudgeLimitValues}
-use Rattle.avro_answer.specs.ConfirmAnswer.{SetsAnswer, SetsStatus}
 use Rattle.avro_answer.specs.HistoryAnswer.{LineAnswer}
 use Rattle.avro_answer.specs.JsonAnswer.{IsHistoryLine, IsJudgedLine}
 use Rattle.avro_answer.specs.JudgeAnswer.{SchemasAnswer, StatusAnswer}
@@ -46,17 +43,3 @@ pub form_answer : (form : Form) (file : List ℕ) (mode : Option (List ℕ)) (wr
 form_answer form file mode writer reader limits verdict text s t as_text as_json right told same =
     subst (λ n. FormAnswer form file mode writer reader limits text n) (sym (same (few s told.known)))
     (in_form form file mode writer reader limits verdict text s as_text as_json right)
-
-sets_few : (w r : List Node) (dead : List ℕ) (pairs : List Pair) (s : ℕ) → SetsStatus w r dead pairs s → s ≤ 2
-sets_few w r dead pairs s a = go (is_closed w r dead pairs) refl
-  where
-    go : (closed : Bool) → is_closed w r dead pairs ≡ closed → s ≤ 2
-    go true e = let zero = a.confirmed.1 e in omega (arith, zero)
-    go false e = let one = a.refused.1 e in omega (arith, one)
-
-pub sets_status : (w r : List Node) (dead : List ℕ) (pairs : List Pair) (s t : ℕ) → SetsStatus w r dead pairs s → (s ≤ 2 → t ≡ s) → SetsStatus w r dead pairs t
-sets_status w r dead pairs s t a same = subst (SetsStatus w r dead pairs) (sym (same (sets_few w r dead pairs s a))) a
-
-pub sets_answer : (w r : List Node) (dead : List ℕ) (pairs : List Pair) (text : List ℕ) (s t : ℕ) → SetsAnswer w r dead pairs text s → SetsStatus w r dead pairs s
-    → (s ≤ 2 → t ≡ s) → SetsAnswer w r dead pairs text t
-sets_answer w r dead pairs text s t a told same = subst (SetsAnswer w r dead pairs text) (sym (same (sets_few w r dead pairs s told))) a
