@@ -1,7 +1,8 @@
 use Rattle.std.proofs.Common.{◌≡◌, ◌<◌, length, Err, ap, refl}
 use Rattle.avro_schema_json.specs.Declaration.{max_text}
 use Rattle.avro_schema_json.specs.declared.error.SchemaError.{SchemaError}
-use Rattle.avro_answer.proofs.Refused.{known_refusal, not_long, of_err, writer_refused}
+use Rattle.avro_answer.proofs.Refused.{known_refusal, of_err, writer_refused}
+use Rattle.avro_answer.proofs.public.RefusedTexts.{not_long}
 use Rattle.avro_answer.specs.declared.refusal.Refusal.{Refusal}
 use Rattle.avro_answer.proofs.reading.read_writer.Goals as goal
 
