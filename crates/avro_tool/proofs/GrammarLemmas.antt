@@ -9,6 +9,7 @@ use Rattle.clap.specs.Walk.{Rule, is_empty, is_simple_arg, rule_of}
 use Rattle.clap.specs.declared.builder.arg.Arg.{Arg}
 use Rattle.clap.specs.declared.builder.command.Command.{Command}
 use Rattle.clap.specs.declared.builder.command.Command.TheViews.{out-Command}
+use Rattle.avro_tool.specs.declared.grammar.Choice.{Choice}
 use Rattle.avro_tool.specs.declared.grammar.Takes.{Takes}
 use Rattle.avro_tool.specs.inside.Grammar.{ArgumentWords, rule_in, rule_taking}
 
@@ -48,10 +49,9 @@ added_rules old new (x ∷ xs) h local simple =
 taking_simple : (id : List ℕ) (takes : Takes) → (rule_taking (new_rule id) id takes).is_simple ≡ true
 taking_simple id (Takes.Word name) = refl
 taking_simple id (Takes.Words name) = refl
-taking_simple id (Takes.Option name) = refl
-taking_simple id Takes.Number = refl
-taking_simple id (Takes.NumberOr number) = refl
-taking_simple id (Takes.Among words default) = refl
+taking_simple id (Takes.Option name Choice.Any) = refl
+taking_simple id (Takes.Option name (Choice.Or default)) = refl
+taking_simple id (Takes.Option name (Choice.Among words default)) = refl
 taking_simple id Takes.Nothing = refl
 
 -- each argument of a row is simple
@@ -66,10 +66,9 @@ unrivalled id takes b e = kept takes ∙ ap (λ (x : Bool). record (rule_taking 
     kept : (t : Takes) → rule_taking (new_rule id) id t ≡ record (rule_taking (new_rule id) id t) { is_free = true }
     kept (Takes.Word name) = refl
     kept (Takes.Words name) = refl
-    kept (Takes.Option name) = refl
-    kept Takes.Number = refl
-    kept (Takes.NumberOr number) = refl
-    kept (Takes.Among words default) = refl
+    kept (Takes.Option name Choice.Any) = refl
+    kept (Takes.Option name (Choice.Or default)) = refl
+    kept (Takes.Option name (Choice.Among words default)) = refl
     kept Takes.Nothing = refl
 
 some_items : {X : Type 0} (xs : List X) (x : X) → is_empty (xs ++ x ∷ []) ≡ false

@@ -9,4 +9,5 @@ pub mod Kept
 mod KnownTexts
 mod PlainLaws
 mod PlainWalk
+mod Refusing
 pub mod Verdicts

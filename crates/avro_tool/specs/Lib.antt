@@ -3,10 +3,12 @@ pub mod DefaultLimits
 pub mod EachAnswer
 pub mod FailsOnlyFor
 pub mod FailureText
+pub mod FilesAnswered
 pub mod FoundStatus
 pub mod HeaderText
 pub mod KeptCertificates
 pub mod ModeAnswer
 pub mod PlainWords
 pub mod PlainAnswers
+pub mod TextsRefused
 pub mod inside

@@ -3,6 +3,7 @@ ghost use denote.Ref.{Bor};
 ghost use Rattle.avro_certificate.specs.declared.error.CertError.{CertError};
 ghost use Rattle.avro_schema_json.specs.declared.error.SchemaError.{SchemaError};
 ghost use Rattle.avro_tool.specs.FailureText.{exit_status, IsFileFailure, IsRefusal};
+ghost use Rattle.avro_tool.specs.TextsRefused.{RefusesNothing};
 ghost use Rattle.avro_file.specs.Named.{IsNamed};
 ghost use Rattle.avro_file.specs.declared.error.CopyError.{CopyError};
 ghost use Rattle.avro_cursor.specs.declared.error.ReadError.{ReadError};
@@ -82,7 +83,9 @@ impl<'a> Failure<'a> {
     }
 
     /// The failure of reading a file.
-    pub(crate) fn of_reading(word: &'a str, error: &io::Error) -> Failure<'a> {
+    pub(crate) fn of_reading(word: &'a str, error: &io::Error) -> Failure<'a>
+        ensures { RefusesNothing result }
+    {
         if error.kind() == io::ErrorKind::OutOfMemory {
             Failure::OutOfMemory
         } else {
@@ -91,7 +94,9 @@ impl<'a> Failure<'a> {
     }
 
     /// The failure of writing a file.
-    pub(crate) fn of_writing(word: &'a str, error: &io::Error) -> Failure<'a> {
+    pub(crate) fn of_writing(word: &'a str, error: &io::Error) -> Failure<'a>
+        ensures { RefusesNothing result }
+    {
         if error.kind() == io::ErrorKind::OutOfMemory {
             Failure::OutOfMemory
         } else {

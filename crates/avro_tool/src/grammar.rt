@@ -2,7 +2,7 @@
 ghost use Rattle.std.specs.Prelude.{◌≡◌, ◌∷◌, ℕ, List, false, IfOk, IsSomeAnd, codes, is_some, map, string_bytes};
 ghost use Rattle.clap.specs.Words.{app_of, rule_of};
 ghost use Rattle.clap.specs.declared.builder.command.Command.TheViews.{out-Command};
-ghost use Rattle.avro_tool.specs.inside.Grammar.{app_in, app_with, bare_app, check_app, command_app, confirm_app, copy_app, explain_app, has_rival, header_app, judge_app, option_rule, read_app, rule_in, rule_taking, show_app};
+ghost use Rattle.avro_tool.specs.inside.Grammar.{app_in, app_with, bare_app, check_app, command_app, confirm_app, copy_app, explain_app, has_rival, header_app, judge_app, option_rule, read_app, rule_choosing, rule_in, rule_taking, show_app};
 ghost use Rattle.avro_tool.specs.PlainWords.{name_of, PlainWords};
 
 use crate::commands::version::VERSION;
@@ -19,16 +19,21 @@ enum Takes {
     Word(&'static str),
     /// One or more such words.
     Words(&'static str),
-    /// A word after the option, of this name in the usage.
-    Option(&'static str),
-    /// A number after the option.
-    Number,
-    /// A number after the option, with this default.
-    NumberOr(&'static str),
-    /// One of these words after the option, with this default.
-    Among(&'static [&'static str], &'static str),
+    /// A word after the option, of this name in the usage, and which one.
+    Option(&'static str, Choice),
     /// Nothing after the option.
     Nothing,
+}
+
+/// Which word an option takes.
+#[derive(Clone, Copy)]
+enum Choice {
+    /// Any, and none where the option is left out.
+    Any,
+    /// Any, and this one where the option is left out.
+    Or(&'static str),
+    /// One of these, and this one where the option is left out.
+    Among(&'static [&'static str], &'static str),
 }
 
 /// An argument: its name, what it takes, and its help.
@@ -47,7 +52,7 @@ const READER: Argument = ("reader", Takes::Word("READER"), "Schema to read them 
 
 const RESOLVED: Argument = (
     "reader",
-    Takes::Option("SCHEMA"),
+    Takes::Option("SCHEMA", Choice::Any),
     "Resolve each datum to SCHEMA",
 );
 
@@ -55,7 +60,7 @@ const CONTAINER: Argument = ("file", Takes::Word("FILE"), "Container file");
 
 const SYNC: Argument = (
     "sync",
-    Takes::Option("HEX32"),
+    Takes::Option("HEX32", Choice::Any),
     "Use this sync marker instead of the input's",
 );
 
@@ -73,19 +78,19 @@ const PROGRESS: Argument = (
 
 const MAX_PAIRS: Argument = (
     "max-pairs",
-    Takes::NumberOr("4194304"),
+    Takes::Option("N", Choice::Or("4194304")),
     "Limit the product of the node counts to N, at most 16777216: raise N if the answer is 'undecided Pairs'",
 );
 
 const MAX_SIZE: Argument = (
     "max-size",
-    Takes::NumberOr("4096"),
+    Takes::Option("N", Choice::Or("4096")),
     "Limit the refuting datum to N nodes, at most 1048576: raise N if the answer is 'undecided Size'",
 );
 
 const MAX_DEPTH: Argument = (
     "max-depth",
-    Takes::NumberOr("128"),
+    Takes::Option("N", Choice::Or("128")),
     "Limit the refuting datum to depth N, at most 256: raise N if the answer is 'undecided Depth'",
 );
 
@@ -94,12 +99,12 @@ const JUDGE: [Argument; 8] = [
     READER,
     (
         "certificate",
-        Takes::Option("OUT"),
+        Takes::Option("OUT", Choice::Any),
         "Write the certificate of a yes to OUT",
     ),
     (
         "refutation",
-        Takes::Option("OUT"),
+        Takes::Option("OUT", Choice::Any),
         "Write the refuting datum to OUT, as a container",
     ),
     MAX_PAIRS,
@@ -113,7 +118,7 @@ const EXPLAIN: [Argument; 4] = [
     READER,
     (
         "max-pairs",
-        Takes::NumberOr("4194304"),
+        Takes::Option("N", Choice::Or("4194304")),
         "Limit the pairs of nodes to visit to N, at most 16777216: raise N if the answer is 'undecided Pairs'",
     ),
     JSON,
@@ -134,17 +139,17 @@ const HISTORY: [Argument; 9] = [
     ),
     (
         "certificates",
-        Takes::Option("OUT"),
+        Takes::Option("OUT", Choice::Any),
         "Write the certificates to OUT if each answer is yes",
     ),
     (
         "confirm",
-        Takes::Option("CERT"),
+        Takes::Option("CERT", Choice::Any),
         "Recheck the certificates in CERT, and judge nothing",
     ),
     (
         "mode",
-        Takes::Among(&MODES, "backward"),
+        Takes::Option("MODE", Choice::Among(&MODES, "backward")),
         "Judge whether later schemas read earlier data, earlier schemas read later data, or both",
     ),
     (
@@ -186,7 +191,11 @@ const CHECK: [Argument; 3] = [
 const SHOW: [Argument; 3] = [
     CONTAINER,
     RESOLVED,
-    ("limit", Takes::Number, "Stop after N lines"),
+    (
+        "limit",
+        Takes::Option("N", Choice::Any),
+        "Stop after N lines",
+    ),
 ];
 
 const COPY: [Argument; 5] = [
@@ -231,7 +240,7 @@ const READ: [Argument; 5] = [
     RESOLVED,
     (
         "skip",
-        Takes::Number,
+        Takes::Option("N", Choice::Any),
         "Skip N bytes first (5 for a schema registry's message)",
     ),
     JSON,
@@ -467,12 +476,7 @@ fn taking<'a>(arg: Arg<'a>, id: &'static str, takes: Takes) -> Arg<'a>
             .required(true)
             .num_args(1..)
             .action(ArgAction::Append),
-        Takes::Option(name) => option(arg, id, name),
-        Takes::Number => option(arg, id, "N"),
-        Takes::NumberOr(number) => option(arg, id, "N").default_value(number),
-        Takes::Among(words, default) => option(arg, id, "MODE")
-            .value_parser(words)
-            .default_value(default),
+        Takes::Option(name, choice) => choosing(option(arg, id, name), choice),
         Takes::Nothing => arg.long(id).action(ArgAction::SetTrue),
     }
 }
@@ -482,4 +486,15 @@ fn option<'a>(arg: Arg<'a>, id: &'static str, name: &'static str) -> Arg<'a>
     ensures { rule_of result ≡ option_rule (rule_of arg.entry) id.entry.now }
 {
     arg.long(id).value_name(name).action(ArgAction::Set)
+}
+
+/// The option with the words that it takes.
+fn choosing<'a>(option: Arg<'a>, choice: Choice) -> Arg<'a>
+    ensures { rule_of result ≡ rule_choosing (rule_of option.entry) choice }
+{
+    match choice {
+        Choice::Any => option,
+        Choice::Or(default) => option.default_value(default),
+        Choice::Among(words, default) => option.value_parser(words).default_value(default),
+    }
 }

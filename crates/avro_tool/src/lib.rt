@@ -1,27 +1,29 @@
-//! The program `avro`, as a function over its words, its files, an input, an output and a writer for errors. Of its own functions these
-//! are proved: that a command and its files make the request for these files (`request_of`, for eight commands); that `judge`, `explain`
-//! and `confirm` of files of which it is known what they hold put the answer for these texts, with its status (`run_over`); the exit
-//! status of each `Failure` and each `Finding`, and the line of each refusal; that the text and the status of `schema` and `read` are
-//! those of `avro_answer` for the schemas and the data that were read (`tell_schema`, `tell_datum`); that the lines of `history`, as text and as JSON, are those of its files, in their order, with the
-//! worst status, and that the certificates that are kept confirm their schemas (`judge_each`, `certify_each`); that `pipe` is a copy of
-//! what it takes (`pipe_from`); the counts of `check` (`counts_of`), and their line of JSON (`tell_file_counts`); that `header` prints
-//! the text of the schema of the header that it takes, or the line of all its metadata (`tell_header`); that `show` prints what
-//! `avro_lines` says of the file that it takes (`tell_lines`); that what these tell fails for nothing but memory, the output, or a file
-//! that cannot be read or has a fault (`IsPutFailure`, `IsFileFailure`, `IsDataFailure`), and blames the output only where it failed or
-//! took nothing; the bytes of the file of a refutation (`put_block`); and that `Watched`, an input around another for `--progress`,
-//! takes, ends and counts as the other does. The rest is safe, and returns.
+//! The program `avro`, as a function over its words, its files, an input, an output and a writer for errors. Of its own functions these are
+//! proved: that a command and its files make the request for these files (`request_of`, for eight commands); that `judge`, `explain` and
+//! `confirm` of files of which it is known what they hold put the answer for these texts, with its status, and refuse no text that is one
+//! (`run_over`); the exit status of each `Failure` and each `Finding`, and the line of each refusal; that the text and the status of
+//! `schema` and `read` are those of `avro_answer` for the schemas and the data that were read (`tell_schema`, `tell_datum`); that the lines
+//! of `history`, as text and as JSON, are those of its files, in their order, with the worst status, and that the certificates that are
+//! kept confirm their schemas (`judge_each`, `certify_each`); that `pipe` is a copy of what it takes (`pipe_from`); the counts of `check`
+//! (`counts_of`), and their line of JSON (`tell_file_counts`); that `header` prints the text of the schema of the header that it takes, or
+//! the line of all its metadata (`tell_header`); that `show` prints what `avro_lines` says of the file that it takes (`tell_lines`); that
+//! what these tell fails for nothing but memory, the output, or a file that cannot be read or has a fault (`IsPutFailure`, `IsFileFailure`,
+//! `IsDataFailure`), and blames the output only where it failed or took nothing; the bytes of the file of a refutation (`put_block`); and
+//! that `Watched`, an input around another for `--progress`, takes, ends and counts as the other does. The rest is safe, and returns.
 //!
 //! `run` makes an `Output` of the writer for the answers, and the commands put into that. No failed call of it is retried.
 //! `Texts` are files of which it may be known what they hold; nothing is known of the system's.
 #![tactic(auto)]
 
 ghost use Rattle.std.specs.Borrow.{Bor};
-ghost use Rattle.std.specs.Prelude.{◌≡◌, ◌⊎◌, ◌≤◌, ◌∷◌, ℕ, List, map, string_bytes, IfOk};
+ghost use Rattle.std.specs.Prelude.{◌≡◌, ◌⊎◌, ◌≤◌, ◌∷◌, ℕ, List, map, string_bytes};
 ghost use Rattle.avro_answer.specs.declared.form.Form.{Form};
 ghost use Rattle.avro_tool.specs.FailureText.{exit_status};
+ghost use Rattle.avro_tool.specs.FilesAnswered.{AnswersWords, ConfirmsFiles, ExplainsFiles, JudgesFiles};
 ghost use Rattle.avro_tool.specs.FoundStatus.{finding_status, first_failed, IsVerdict, worse};
-ghost use Rattle.avro_tool.specs.PlainAnswers.{AnswersConfirm, AnswersExplain, AnswersJudge, AnswersPlain};
+ghost use Rattle.avro_tool.specs.PlainAnswers.{AnswersPlain};
 ghost use Rattle.avro_tool.specs.PlainWords.{files_of, name_of, AreApart, HaveNoOption, PlainWords};
+ghost use Rattle.avro_tool.specs.TextsRefused.{RefusesPlain};
 ghost use Rattle.avro_tool.specs.declared.request.Explaining.{Explaining};
 ghost use Rattle.avro_tool.specs.declared.request.Judging.{Judging};
 ghost use Rattle.avro_tool.specs.declared.request.Request.{Request as Asked};
@@ -149,8 +151,10 @@ pub fn run_over<T: Texts, R: Files + Clock + AllocGlobal, I: Read, O: Output, E:
     out: &mut O,
     err: &mut E,
 ) -> u8
-    ensures { (plain : PlainWords) → map string_bytes words.now ≡ name_of plain ∷ files_of plain → HaveNoOption (files_of plain) → AreApart plain
+    ensures answered { (plain : PlainWords) → map string_bytes words.now ≡ name_of plain ∷ files_of plain → HaveNoOption (files_of plain) → AreApart plain
         → result ≤ 2 → AnswersPlain (T.known texts.now) (λ text. O.keeps out.old text out.new) result plain }
+    ensures refused { (plain : PlainWords) → map string_bytes words.now ≡ name_of plain ∷ files_of plain → HaveNoOption (files_of plain) → AreApart plain
+        → result ≡ 3 → RefusesPlain (T.known texts.now) plain }
 {
     match answer(texts, rt, words, input, out, err) {
         Ok(finding) => finding.status(),
@@ -202,7 +206,7 @@ fn answer<'a, T: Texts, R: Files + Clock + AllocGlobal, I: Read, O: Output, E: W
     err: &mut E,
 ) -> Result<Finding, Failure<'a>>
     ensures { (plain : PlainWords) → map string_bytes words.entry.now ≡ name_of plain ∷ files_of plain → HaveNoOption (files_of plain) → AreApart plain
-        → IfOk result (λ f. AnswersPlain (T.known texts.now) (λ text. O.keeps out.old text out.new) (finding_status f) plain) }
+        → AnswersWords (T.known texts.now) (λ text. O.keeps out.old text out.new) plain result }
 {
     let request = request_of(rt.alloc(), words)?;
     refuse_files(texts, rt, &request)?;
@@ -218,12 +222,10 @@ fn answer_request<'a, T: Texts, R: Files + Clock + AllocGlobal, I: Read, O: Outp
     out: &mut O,
     err: &mut E,
 ) -> Result<Finding, Failure<'a>>
-    ensures judge { (asked : Judging) → request.now ≡ Asked.Judge asked → asked.form ≡ Form.Text
-        → IfOk result (λ f. AnswersJudge (T.known texts.now) (λ text. O.keeps out.old text out.new) (finding_status f) asked.writer.now asked.reader.now asked.limits) }
-    ensures explain { (asked : Explaining) → request.now ≡ Asked.Explain asked → asked.form ≡ Form.Text
-        → IfOk result (λ f. AnswersExplain (T.known texts.now) (λ text. O.keeps out.old text out.new) (finding_status f) asked.writer.now asked.reader.now asked.max_pairs) }
-    ensures confirm { (writer reader certificate : Bor (List ℕ)) → request.now ≡ Asked.Confirm writer reader certificate Form.Text
-        → IfOk result (λ f. AnswersConfirm (T.known texts.now) (λ text. O.keeps out.old text out.new) (finding_status f) writer.now reader.now certificate.now) }
+    ensures judge { (asked : Judging) → request.now ≡ Asked.Judge asked → JudgesFiles (T.known texts.now) (λ text. O.keeps out.old text out.new) asked result }
+    ensures explain { (asked : Explaining) → request.now ≡ Asked.Explain asked → ExplainsFiles (T.known texts.now) (λ text. O.keeps out.old text out.new) asked result }
+    ensures confirm { (writer reader certificate : Bor (List ℕ)) (form : Form) → request.now ≡ Asked.Confirm writer reader certificate form
+        → ConfirmsFiles (T.known texts.now) (λ text. O.keeps out.old text out.new) writer reader certificate form result }
 {
     match request {
         Request::Judge(asked) => judge::judge_files(texts, rt, asked, out),

@@ -1,5 +1,7 @@
 //! What the program can be asked for.
 
+ghost use Rattle.avro_tool.specs.TextsRefused.{RefusesNothing};
+
 use crate::failure::Failure;
 use crate::files::kept::STANDARD_INPUT;
 use avro_answer::{Form, Shown};
@@ -107,7 +109,9 @@ impl<'a> Request<'a> {
     }
 
     /// What is reported of a file that standard output is.
-    pub(crate) fn output_failure(&self, word: &'a str) -> Failure<'a> {
+    pub(crate) fn output_failure(&self, word: &'a str) -> Failure<'a>
+        ensures { RefusesNothing result }
+    {
         match self {
             Request::Pipe(_) if word == STANDARD_INPUT => Failure::OneFile,
             _ => Failure::IsOutput(word),
@@ -115,7 +119,9 @@ impl<'a> Request<'a> {
     }
 
     /// What is reported of an input that is to be written by another word.
-    pub(crate) fn read_failure(&self, word: &'a str, output: &'a str) -> Failure<'a> {
+    pub(crate) fn read_failure(&self, word: &'a str, output: &'a str) -> Failure<'a>
+        ensures { RefusesNothing result }
+    {
         match self {
             Request::Copy(asked) if word == asked.source => Failure::OneFile,
             _ => Failure::IsRead(output),

@@ -6,6 +6,7 @@ use Rattle.clap.specs.Simple.{App, new_app, new_rule, on_top, with_rule, with_su
 use Rattle.clap.specs.Walk.{Rule}
 use Rattle.clap.specs.declared.builder.action.ArgAction.TheVariants.{Set, Append, SetTrue}
 use Rattle.clap.specs.declared.builder.value_parser.ValueParser.TheVariants as parser
+use Rattle.avro_tool.specs.declared.grammar.Choice.{Choice}
 use Rattle.avro_tool.specs.declared.grammar.Takes.{Takes}
 use Rattle.avro_tool.specs.PlainWords.{PlainWords}
 
@@ -21,14 +22,17 @@ CommandWords = Bor (List ℕ) × Bor (List ℕ) × Bor (List ArgumentWords)
 abbrev pub option_rule : Rule → List ℕ → Rule
 option_rule r id = record r { long = Some id; value_names = 1; action = Some Set }
 
+-- the option with the words that it takes
+abbrev pub rule_choosing : Rule → Choice → Rule
+rule_choosing r Choice.Any = r
+rule_choosing r (Choice.Or default) = record r { defaults = default.now ∷ [] }
+rule_choosing r (Choice.Among words default) = record r { parser = Some (parser.Names words); defaults = default.now ∷ [] }
+
 -- the argument with what it takes
 abbrev pub rule_taking : Rule → List ℕ → Takes → Rule
 rule_taking r id (Takes.Word name) = record r { value_names = 1; required = true; action = Some Set }
 rule_taking r id (Takes.Words name) = record r { value_names = 1; required = true; range = Some (record { start_inclusive = 1; end_inclusive = usize_max }); action = Some Append }
-rule_taking r id (Takes.Option name) = option_rule r id
-rule_taking r id Takes.Number = option_rule r id
-rule_taking r id (Takes.NumberOr number) = record (option_rule r id) { defaults = number.now ∷ [] }
-rule_taking r id (Takes.Among words default) = record (option_rule r id) { parser = Some (parser.Names words); defaults = default.now ∷ [] }
+rule_taking r id (Takes.Option name choice) = rule_choosing (option_rule r id) choice
 rule_taking r id Takes.Nothing = record r { long = Some id; action = Some SetTrue }
 
 -- another option conflicts with this one

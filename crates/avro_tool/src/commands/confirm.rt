@@ -1,4 +1,5 @@
 ghost use Rattle.std.specs.Prelude.{◌≡◌, ℕ, List, Some, IfOk};
+ghost use Rattle.std.specs.Result.{IfErr};
 ghost use Rattle.avro_schema.specs.SeenSchema.{schema_nodes};
 ghost use Rattle.avro_certificate.specs.SeenCertificate.{dead_of, pairs_in};
 ghost use Rattle.avro_answer.specs.ConfirmAnswer.{ConfirmAnswer, SetsAnswer, SetsJson, SetsStatus};
@@ -6,13 +7,14 @@ ghost use Rattle.avro_answer.specs.ReadText.{IsReadAs};
 ghost use Rattle.avro_answer.specs.declared.form.Form.{Form};
 ghost use Rattle.avro_tool.specs.FailsOnlyFor.{FailsOnlyFor};
 ghost use Rattle.avro_tool.specs.FailureText.{IsPutFailure};
+ghost use Rattle.avro_tool.specs.FilesAnswered.{ConfirmsFiles};
 ghost use Rattle.avro_tool.specs.FoundStatus.{finding_status};
-ghost use Rattle.avro_tool.specs.PlainAnswers.{AnswersConfirm};
+ghost use Rattle.avro_tool.specs.TextsRefused.{RefusesCertificate};
 
 use crate::Finding;
 use crate::failure::Failure;
 use crate::files::certificate::read_certificate_file;
-use crate::files::schema::read_schema_file;
+use crate::files::schema::read_pair;
 use crate::files::texts::Texts;
 use crate::printing::print_bytes;
 use avro_answer::{Form, confirm_schemas};
@@ -30,26 +32,10 @@ pub(crate) fn confirm_files<'a, T: Texts, O: Output>(
     form: Form,
     out: &mut O,
 ) -> Result<Finding, Failure<'a>>
-    ensures { form ≡ Form.Text → IfOk result (λ f. AnswersConfirm (T.known texts.now) (λ text. O.keeps out.old text out.new) (finding_status f) writer.now reader.now certificate.now) }
+    ensures { ConfirmsFiles (T.known texts.now) (λ text. O.keeps out.old text out.new) writer.exit reader.exit certificate.exit form result }
 {
-    let writer = read_schema_file(texts, writer)?;
-    confirm_written(texts, &writer, reader, certificate, form, out)
-}
-
-/// The same for a writer's schema.
-fn confirm_written<'a, T: Texts, O: Output>(
-    texts: &T,
-    writer: &Schema,
-    reader: &'a str,
-    certificate: &'a str,
-    form: Form,
-    out: &mut O,
-) -> Result<Finding, Failure<'a>>
-    ensures { (w r c : List ℕ) → form ≡ Form.Text → IsReadAs w (schema_nodes writer.now) → T.known texts.now reader.now ≡ Some r → T.known texts.now certificate.now ≡ Some c
-        → IfOk result (λ f. (text : List ℕ) × ConfirmAnswer w r c text (finding_status f) × O.keeps out.old text out.new) }
-{
-    let reader = read_schema_file(texts, reader)?;
-    confirm_pair(texts, writer, &reader, certificate, form, out)
+    let (writer, reader) = read_pair(texts, writer, reader)?;
+    confirm_pair(texts, writer.schema(), &reader, certificate, form, out)
 }
 
 /// The same for two schemas.
@@ -61,8 +47,9 @@ fn confirm_pair<'a, T: Texts, O: Output>(
     form: Form,
     out: &mut O,
 ) -> Result<Finding, Failure<'a>>
-    ensures { (w r c : List ℕ) → form ≡ Form.Text → IsReadAs w (schema_nodes writer.now) → IsReadAs r (schema_nodes reader.now) → T.known texts.now certificate.now ≡ Some c
-        → IfOk result (λ f. (text : List ℕ) × ConfirmAnswer w r c text (finding_status f) × O.keeps out.old text out.new) }
+    ensures answered { form ≡ Form.Text → IfOk result (λ f. (w r c : List ℕ) → IsReadAs w (schema_nodes writer.now) → IsReadAs r (schema_nodes reader.now)
+        → T.known texts.now certificate.now ≡ Some c → (text : List ℕ) × ConfirmAnswer w r c text (finding_status f) × O.keeps out.old text out.new) }
+    ensures refused { IfErr result (RefusesCertificate (T.known texts.now) certificate.now) }
 {
     let certificate = read_certificate_file(texts, certificate)?;
     tell_confirmed(texts.alloc(), writer, reader, &certificate, form, out)

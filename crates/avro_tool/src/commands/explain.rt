@@ -1,18 +1,17 @@
 //! All faults of two schemas, by name.
 
-ghost use Rattle.std.specs.Prelude.{◌≡◌, ℕ, List, Some, IfOk};
+ghost use Rattle.std.specs.Prelude.{◌≡◌, ℕ, List, IfOk};
 ghost use Rattle.avro_schema.specs.SeenSchema.{schema_nodes};
-ghost use Rattle.avro_answer.specs.ExplainAnswer.{ExplainAnswer, FaultsAnswer, FaultsJson, FaultsStatus};
-ghost use Rattle.avro_answer.specs.ReadText.{IsReadAs};
+ghost use Rattle.avro_answer.specs.ExplainAnswer.{FaultsAnswer, FaultsJson, FaultsStatus};
 ghost use Rattle.avro_answer.specs.declared.form.Form.{Form};
 ghost use Rattle.avro_tool.specs.FailsOnlyFor.{FailsOnlyFor};
 ghost use Rattle.avro_tool.specs.FailureText.{IsPutFailure};
+ghost use Rattle.avro_tool.specs.FilesAnswered.{ExplainsFiles};
 ghost use Rattle.avro_tool.specs.FoundStatus.{finding_status};
-ghost use Rattle.avro_tool.specs.PlainAnswers.{AnswersExplain};
 
 use crate::Finding;
 use crate::failure::Failure;
-use crate::files::schema::read_schema_file;
+use crate::files::schema::read_pair;
 use crate::files::texts::Texts;
 use crate::printing::print;
 use crate::request::Explaining;
@@ -28,25 +27,10 @@ pub(crate) fn explain_files<'a, T: Texts, O: Output>(
     asked: &Explaining<'a>,
     out: &mut O,
 ) -> Result<Finding, Failure<'a>>
-    ensures { asked.now.form ≡ Form.Text
-        → IfOk result (λ f. AnswersExplain (T.known texts.now) (λ text. O.keeps out.old text out.new) (finding_status f) asked.now.writer.now asked.now.reader.now asked.now.max_pairs) }
+    ensures { ExplainsFiles (T.known texts.now) (λ text. O.keeps out.old text out.new) asked.now result }
 {
-    let writer = read_schema_file(texts, asked.writer)?;
-    explain_written(texts, asked, &writer, out)
-}
-
-/// The same for a writer's schema.
-fn explain_written<'a, T: Texts, O: Output>(
-    texts: &T,
-    asked: &Explaining<'a>,
-    writer: &Schema,
-    out: &mut O,
-) -> Result<Finding, Failure<'a>>
-    ensures { (w r : List ℕ) → asked.now.form ≡ Form.Text → IsReadAs w (schema_nodes writer.now) → T.known texts.now asked.now.reader.now ≡ Some r
-        → IfOk result (λ f. (text : List ℕ) × ExplainAnswer w r asked.now.max_pairs text (finding_status f) × O.keeps out.old text out.new) }
-{
-    let reader = read_schema_file(texts, asked.reader)?;
-    explain_pair(texts.alloc(), asked, writer, &reader, out)
+    let (writer, reader) = read_pair(texts, asked.writer, asked.reader)?;
+    explain_pair(texts.alloc(), asked, writer.schema(), &reader, out)
 }
 
 /// Finds all faults of two schemas, and prints them.

@@ -1,22 +1,23 @@
-ghost use Rattle.std.specs.Prelude.{◌≡◌, ◌⊎◌, ℕ, List, [], Some, IfOk, OnErr};
+ghost use Rattle.std.specs.Prelude.{◌≡◌, ◌⊎◌, ℕ, List, [], None, IfOk, OnErr};
+ghost use Rattle.std.specs.Result.{IfErr};
 ghost use Rattle.avro_device.specs.PutFront.{PutsFrontOf};
 ghost use Rattle.avro_schema.specs.SeenSchema.{schema_nodes};
 ghost use Rattle.avro_judge.specs.Headline.{IsRight};
 ghost use Rattle.avro_judge.specs.declared.verdict.Verdict.{Verdict};
-ghost use Rattle.avro_answer.specs.JudgeAnswer.{JudgeAnswer, SchemasAnswer, StatusAnswer};
+ghost use Rattle.avro_answer.specs.JudgeAnswer.{SchemasAnswer, StatusAnswer};
 ghost use Rattle.avro_answer.specs.JsonAnswer.{IsJudgedLine};
-ghost use Rattle.avro_answer.specs.ReadText.{IsReadAs};
 ghost use Rattle.avro_answer.specs.declared.form.Form.{Form};
 ghost use Rattle.avro_tool.specs.FailsOnlyFor.{FailsOnlyFor};
 ghost use Rattle.avro_tool.specs.FailureText.{IsPutFailure};
+ghost use Rattle.avro_tool.specs.FilesAnswered.{JudgesFiles};
 ghost use Rattle.avro_tool.specs.FoundStatus.{finding_status};
-ghost use Rattle.avro_tool.specs.PlainAnswers.{AnswersJudge};
+ghost use Rattle.avro_tool.specs.TextsRefused.{RefusesNothing};
 
 use crate::Finding;
 use crate::failure::Failure;
 use crate::files::certificate::write_certificate_file;
 use crate::files::refutation::write_refutation_file;
-use crate::files::schema::{read_schema_file, read_text_file};
+use crate::files::schema::read_pair;
 use crate::files::texts::Texts;
 use crate::request::Judging;
 use avro_answer::{Form, judge_schemas};
@@ -35,26 +36,10 @@ pub(crate) fn judge_files<'a, T: Texts, R: Files + AllocGlobal, O: Output>(
     asked: &Judging<'a>,
     out: &mut O,
 ) -> Result<Finding, Failure<'a>>
-    ensures { asked.now.form ≡ Form.Text
-        → IfOk result (λ f. AnswersJudge (T.known texts.now) (λ text. O.keeps out.old text out.new) (finding_status f) asked.now.writer.now asked.now.reader.now asked.now.limits) }
+    ensures { JudgesFiles (T.known texts.now) (λ text. O.keeps out.old text out.new) asked.now result }
 {
-    let writer = read_text_file(texts, asked.writer)?;
-    judge_written(texts, rt, asked, &writer, out)
-}
-
-/// Judges a writer's schema and the reader's, which is read first.
-fn judge_written<'a, T: Texts, R: Files + AllocGlobal, O: Output>(
-    texts: &T,
-    rt: &R,
-    asked: &Judging<'a>,
-    writer: &ReaderText,
-    out: &mut O,
-) -> Result<Finding, Failure<'a>>
-    ensures { (w r : List ℕ) → asked.now.form ≡ Form.Text → IsReadAs w (schema_nodes writer.now.1) → T.known texts.now asked.now.reader.now ≡ Some r
-        → IfOk result (λ f. (text : List ℕ) × JudgeAnswer w r asked.now.limits text (finding_status f) × O.keeps out.old text out.new) }
-{
-    let reader = read_schema_file(texts, asked.reader)?;
-    judge_pair(rt, asked, writer, &reader, out)
+    let (writer, reader) = read_pair(texts, asked.writer, asked.reader)?;
+    judge_pair(rt, asked, &writer, &reader, out)
 }
 
 /// Judges two schemas, prints the verdict, and writes its evidence where a file is named for it.
@@ -70,6 +55,7 @@ fn judge_pair<'a, R: Files + AllocGlobal, O: Output>(
     ensures json { IfOk result (λ f. asked.now.form ≡ Form.Json → (verdict : Verdict) × (line : List ℕ)
         × IsJudgedLine (schema_nodes writer.now.1) verdict line (finding_status f) × O.keeps out.old line out.new) }
     ensures status { IfOk result (λ f. StatusAnswer (schema_nodes writer.now.1) (schema_nodes reader.now) asked.now.limits (finding_status f)) }
+    ensures refused { asked.now.refutation ≡ None → IfErr result RefusesNothing }
 {
     let (verdict, finding) = tell_verdict(
         rt.alloc(),
@@ -111,7 +97,9 @@ fn write_evidence<'a, R: Files + AllocGlobal>(
     asked: &Judging<'a>,
     writer: &ReaderText,
     verdict: &Verdict<'_>,
-) -> Result<(), Failure<'a>> {
+) -> Result<(), Failure<'a>>
+    ensures { asked.now.refutation ≡ None → IfErr result RefusesNothing }
+{
     match verdict {
         Verdict::Approved(approved) => match asked.certificate {
             Some(word) => write_certificate_file(rt, approved, word),

@@ -1,4 +1,4 @@
-ghost use Rattle.std.specs.Prelude.{◌≡◌, IfOk, OnOk};
+ghost use Rattle.std.specs.Prelude.{◌≡◌, string_bytes, IfOk, OnOk};
 ghost use Rattle.avro_answer.specs.JsonAnswer.{json_line, counts_tree};
 ghost use Rattle.avro_answer.specs.declared.form.Form.{Form};
 ghost use Rattle.avro_tool.specs.FailsOnlyFor.{FailsOnlyFor};
@@ -13,7 +13,7 @@ use crate::progress::Watched;
 use avro_answer::{Form, counts_line};
 use avro_container::Counts;
 use avro_device::{Output, ReadInput};
-use std::alloc::Global;
+use std::alloc::{AllocError, Global};
 use std::fs;
 use std::io::{BufReader, Cursor, Write};
 use std::rt::{Clock, Files};
@@ -90,16 +90,28 @@ pub(crate) fn tell_file_counts<'a, O: Output>(
     ensures good { IfOk result (λ f. finding_status f ≡ 0) }
     ensures fails { FailsOnlyFor IsPutFailure O.failures O.stuck out.old out.new result }
 {
+    if matches!(form, Form::Text) && !is_named {
+        return tell_counts(out, counts);
+    }
+    let line = file_counts_line(alloc, word, form, counts)?;
+    print(out, &line)?;
+    Ok(Finding::Good)
+}
+
+/// The line of how many data and blocks the container in a file has, by the file's name.
+fn file_counts_line(
+    alloc: Global,
+    word: &str,
+    form: Form,
+    counts: Counts,
+) -> Result<String, AllocError>
+    ensures { form ≡ Form.Json → IfOk result (λ line. string_bytes line ≡ json_line (counts_tree word.now counts.items counts.blocks)) }
+{
     let Counts { items, blocks } = counts;
     match form {
-        Form::Json => print(out, &counts_line(alloc, word, items, blocks)?)?,
-        Form::Text if is_named => {
-            let line = format!(in alloc; "{word} data {items} blocks {blocks}\n")?;
-            print(out, &line)?;
-        }
-        Form::Text => return tell_counts(out, counts),
+        Form::Json => counts_line(alloc, word, items, blocks),
+        Form::Text => format!(in alloc; "{word} data {items} blocks {blocks}\n"),
     }
-    Ok(Finding::Good)
 }
 
 /// Prints the line of two counts by one write.

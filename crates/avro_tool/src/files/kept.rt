@@ -1,6 +1,9 @@
 //! Files that a run would spoil: those that are standard output or standard error, those that are read and written too, and those
 //! that hold a schema and are written.
 
+ghost use Rattle.std.specs.Result.{IfErr};
+ghost use Rattle.avro_tool.specs.TextsRefused.{RefusesNothing};
+
 use crate::failure::Failure;
 use crate::files::schema::TEXT_READ;
 use crate::files::texts::Texts;
@@ -32,7 +35,9 @@ pub(crate) fn refuse_files<'a, T: Texts, R: Files + AllocGlobal>(
     texts: &T,
     rt: &R,
     request: &Request<'a>,
-) -> Result<(), Failure<'a>> {
+) -> Result<(), Failure<'a>>
+    ensures { IfErr result RefusesNothing }
+{
     let read = request.files_read(rt.alloc())?;
     refuse_streams(rt, request, &read)?;
     refuse_pipe(rt, request)?;
@@ -48,7 +53,9 @@ fn refuse_streams<'a, R: Files>(
     rt: &R,
     request: &Request<'a>,
     read: &[&'a str],
-) -> Result<(), Failure<'a>> {
+) -> Result<(), Failure<'a>>
+    ensures { IfErr result RefusesNothing }
+{
     let streams = Streams {
         output: regular_file(rt, STANDARD_OUTPUT)?,
         error: regular_file(rt, STANDARD_ERROR)?,
@@ -76,7 +83,9 @@ fn refuse_stream<'a, R: Files>(
     request: &Request<'a>,
     streams: &Streams,
     word: Option<&'a str>,
-) -> Result<(), Failure<'a>> {
+) -> Result<(), Failure<'a>>
+    ensures { IfErr result RefusesNothing }
+{
     let Some(word) = word else {
         return Ok(());
     };
@@ -92,7 +101,9 @@ fn refuse_stream<'a, R: Files>(
 }
 
 /// Refuses a copy into the pipe that standard output is: the counts would stand behind it.
-fn refuse_pipe<'a, R: Files>(rt: &R, request: &Request<'a>) -> Result<(), Failure<'a>> {
+fn refuse_pipe<'a, R: Files>(rt: &R, request: &Request<'a>) -> Result<(), Failure<'a>>
+    ensures { IfErr result RefusesNothing }
+{
     let Request::Copy(asked) = request else {
         return Ok(());
     };
@@ -112,7 +123,9 @@ fn refuse_read_file<'a, R: Files>(
     request: &Request<'a>,
     output: Option<&'a str>,
     inputs: &[&'a str],
-) -> Result<(), Failure<'a>> {
+) -> Result<(), Failure<'a>>
+    ensures { IfErr result RefusesNothing }
+{
     let Some(output) = output else {
         return Ok(());
     };
@@ -131,7 +144,9 @@ fn refuse_schema_file<'a, T: Texts, R: Files + AllocGlobal>(
     texts: &T,
     rt: &R,
     output: Option<&'a str>,
-) -> Result<(), Failure<'a>> {
+) -> Result<(), Failure<'a>>
+    ensures { IfErr result RefusesNothing }
+{
     let Some(output) = output else {
         return Ok(());
     };
@@ -161,7 +176,9 @@ fn is_one(first: &Option<Metadata>, second: &Option<Metadata>) -> bool {
 }
 
 /// The metadata of the file that a word names, if it is a regular file.
-fn regular_file<'a, R: Files>(rt: &R, word: &'a str) -> Result<Option<Metadata>, Failure<'a>> {
+fn regular_file<'a, R: Files>(rt: &R, word: &'a str) -> Result<Option<Metadata>, Failure<'a>>
+    ensures { IfErr result RefusesNothing }
+{
     match file_of(rt, word) {
         Ok(Some(found)) if found.is_file() => Ok(Some(found)),
         Ok(_) => Ok(None),
@@ -170,7 +187,9 @@ fn regular_file<'a, R: Files>(rt: &R, word: &'a str) -> Result<Option<Metadata>,
 }
 
 /// The metadata of the file that a word names, if there is one.
-fn file_of<'a, R: Files>(rt: &R, word: &'a str) -> Result<Option<Metadata>, Failure<'a>> {
+fn file_of<'a, R: Files>(rt: &R, word: &'a str) -> Result<Option<Metadata>, Failure<'a>>
+    ensures { IfErr result RefusesNothing }
+{
     match fs::metadata(rt, word) {
         Ok(found) => Ok(Some(found)),
         Err(e) if e.kind() == io::ErrorKind::OutOfMemory => Err(Failure::OutOfMemory),

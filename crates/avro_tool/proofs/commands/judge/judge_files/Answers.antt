@@ -1,17 +1,33 @@
-use Rattle.std.proofs.Common.{ℕ, List, []}
+use Rattle.std.proofs.Common.{ℕ, List}
+use Rattle.std.proofs.lemmas.Result.{err_from_is_err_and, IfErr-weaker, IfOk-weaker}
 use Rattle.avro_schema.specs.SeenSchema.{schema_nodes}
-use Rattle.avro_answer.specs.JudgeAnswer.{JudgeAnswer}
 use Rattle.avro_answer.specs.ReadText.{IsReadAs}
-use Rattle.avro_tool.specs.FoundStatus.{finding_status}
-use Rattle.avro_tool.specs.declared.Finding.{Finding}
-use Rattle.avro_tool.proofs.KnownTexts.{known_is, ok_for_two}
+use Rattle.avro_tool.proofs.KnownTexts.{known_is}
+use Rattle.avro_tool.proofs.Refusing.{nothing_two}
 use Rattle.avro_tool.proofs.commands.judge.judge_files.Goals as goal
 
 pub returns : goal.returns
-returns g c = λ form.
+returns g c =
     let asked = c.args.asked.now in
     let known = g.T.Texts.known c.args.texts.now in
-    ok_for_two known asked.writer.now asked.reader.now [] c.judge_written.result
-    (λ (f : Finding) (w r : List ℕ). (text : List ℕ) × JudgeAnswer w r asked.limits text (finding_status f) × g.O.Output.keeps c.args.out.now text c.judge_written.new.out)
-    (λ w r is_written is_read. c.judge_written.ensures w r form
-    (known_is (λ (t : List ℕ). IsReadAs t (schema_nodes c.in_ok-writer.writer.1)) (known asked.writer.now) w is_written c.in_ok-writer.ensures) is_read)
+    let written = schema_nodes c.in_ok-writer.writer.1 in
+    let read = schema_nodes c.in_ok-writer.reader in
+    record {
+      answered = λ form. IfOk-weaker c.judge_pair.result _ _ (λ f told. λ w r writer reader. (
+        (told form).0,
+        record {
+          written = written;
+          read = read;
+          declares_written = known_is (λ (t : List ℕ). IsReadAs t written) (known asked.writer.now) w writer c.in_ok-writer.ensures.written;
+          declares_read = known_is (λ (t : List ℕ). IsReadAs t read) (known asked.reader.now) r reader c.in_ok-writer.ensures.read;
+          answered = (told form).1;
+        },
+        (told form).2,
+      )) c.judge_pair.ensures.answered;
+      refused = λ none. IfErr-weaker c.judge_pair.result _ _ (nothing_two known asked.writer.now asked.reader.now) (c.judge_pair.ensures.refused none);
+    }
+
+pub returns-in_err-writer : goal.returns-in_err-writer
+returns-in_err-writer g c =
+    let p = err_from_is_err_and c.from_residual.result c.from_residual.ensures.1 in
+    rw (p.1, p.2) (record { answered = λ form. tt; refused = λ none. c.in_err-writer.ensures.refused })
