@@ -10,7 +10,7 @@ use std::alloc::Global;
 pub(crate) fn filled<T: Copy>(alloc: Global, count: usize, value: T) -> Result<Vec<T>, Memory>
     ensures { IfOk result (λ v. v.items ≡ replicate count value) }
 {
-    let mut values = Vec::new(alloc);
+    let mut values = Vec::with_capacity(alloc, count)?;
     for done in 0..count {
         values.push(value)?;
     }

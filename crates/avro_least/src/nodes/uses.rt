@@ -26,7 +26,7 @@ fn no_users(alloc: Global, count: u32) -> Result<Vec<Vec<u32>>, Memory>
     ensures one_each { IfOk result (λ rows. length rows.items ≡ count) }
     ensures none { IfOk result (λ rows. (p w : ℕ) → is_key (users_at rows.items p) w ≡ false) }
 {
-    let mut rows = Vec::new(alloc);
+    let mut rows = Vec::with_capacity(alloc, count as usize)?;
     for done in 0..count {
         rows.push(Vec::new(alloc))?;
     }
