@@ -17,6 +17,7 @@ pub mod LeastOrder
 pub mod LoneValue
 pub mod LoweredNodes
 pub mod Lowering
+pub mod NoneFailing
 pub mod Others
 pub mod PairSteps
 pub mod PairTable

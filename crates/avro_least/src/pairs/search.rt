@@ -1,6 +1,6 @@
 //! Finds the least data that fail at the pairs that were reached, the least of all first.
 
-ghost use Rattle.std.specs.Prelude.{◌≡◌, ◌<◌, ◌≤◌, ◌*◌, ◌/◌, ◌%◌, ℕ, List, [], ◌∷◌, Some, true, length, nat_lt, slice_get, IfOk, OnOk};
+ghost use Rattle.std.specs.Prelude.{◌≡◌, ◌<◌, ◌≤◌, ◌*◌, ◌/◌, ◌%◌, ℕ, List, [], ◌∷◌, Some, None, true, false, length, nat_lt, slice_get, IfOk, OnOk};
 ghost use Rattle.std.specs.List.{list_all};
 ghost use Rattle.indexmap.specs.IndexSet.{keys};
 ghost use Rattle.avro_schema.specs.SeenSchema.{schema_nodes};
@@ -14,6 +14,7 @@ ghost use Rattle.avro_least.specs.inside.Falling.{effort};
 ghost use Rattle.avro_least.specs.inside.Leading.{leads_at, HasTakenAlone, HaveTakenBut, IsGraph, IsSearchOf};
 ghost use Rattle.avro_least.specs.declared.pairs.leads.Lead.{Lead};
 
+use crate::filled::filled;
 use crate::kept::Least;
 use crate::nodes::least::count;
 use crate::pairs::erring::pair_entry_near;
@@ -64,19 +65,44 @@ fn value_by_part(
 }
 
 /// What the entry of the pair at an index comes to by no part.
-fn value_without_parts(graph: &Graph, i: usize) -> Option<Least>
-    requires { IsGraph graph.now }
-    ensures is { (key : ℕ) → slice_get (keys graph.now.reached.now.known) i ≡ Some key
-        → seen result ≡ value_alone (table_of graph.now.table.now) (key / length (schema_nodes graph.now.reader.now)) (asked_at (schema_nodes graph.now.writer.now) (schema_nodes graph.now.reader.now) key) }
+fn value_without_parts(
+    writer: &Schema,
+    reader: &Schema,
+    table: &[Option<Least>],
+    reached: &Reached,
+    i: usize,
+) -> Option<Least>
+    requires below { list_all (λ k. nat_lt k (length (schema_nodes writer.now) * length (schema_nodes reader.now))) (keys reached.now.known) ≡ true }
+    requires one_each { length reached.now.found.items ≡ length (keys reached.now.known) }
+    requires of_keys { AreFound (schema_nodes writer.now) (schema_nodes reader.now) (keys reached.now.known) reached.now.found.items }
+    ensures is { (key : ℕ) → slice_get (keys reached.now.known) i ≡ Some key
+        → seen result ≡ value_alone (table_of table.now) (key / length (schema_nodes reader.now)) (asked_at (schema_nodes writer.now) (schema_nodes reader.now) key) }
 {
-    match graph.reached.known.get_index(i) {
+    match reached.known.get_index(i) {
         None => None,
         Some(key) => {
-            let w = writers(graph.writer, graph.reader, *key);
-            let ask = ask_at_index(graph.writer, graph.reader, graph.reached, i);
-            value_alone(graph.table, w, ask)
+            let w = writers(writer, reader, *key);
+            let ask = ask_at_index(writer, reader, reached, i);
+            value_alone(table, w, ask)
         }
     }
+}
+
+/// Whether some pair fails whatever becomes of its parts.
+fn has_failing(writer: &Schema, reader: &Schema, table: &[Option<Least>], reached: &Reached) -> bool
+    requires below { list_all (λ k. nat_lt k (length (schema_nodes writer.now) * length (schema_nodes reader.now))) (keys reached.now.known) ≡ true }
+    requires one_each { length reached.now.found.items ≡ length (keys reached.now.known) }
+    requires of_keys { AreFound (schema_nodes writer.now) (schema_nodes reader.now) (keys reached.now.known) reached.now.found.items }
+    ensures { result ≡ false → (i key : ℕ) → slice_get (keys reached.now.known) i ≡ Some key
+        → value_alone (table_of table.now) (key / length (schema_nodes reader.now)) (asked_at (schema_nodes writer.now) (schema_nodes reader.now) key) ≡ None }
+{
+    for i in 0..reached.known.len() {
+        let value = value_without_parts(writer, reader, table, reached, i);
+        if value.is_some() {
+            return true;
+        }
+    }
+    false
 }
 
 /// The entries of the pairs that need no part. All others are unknown.
@@ -89,7 +115,8 @@ fn start(alloc: Global, graph: &Graph) -> Result<Search, Memory>
     let count = graph.reached.known.len();
     let mut search = Search::new(alloc, count)?;
     for i in 0..count {
-        search.lower(i, value_without_parts(graph, i))?;
+        let value = value_without_parts(graph.writer, graph.reader, graph.table, graph.reached, i);
+        search.lower(i, value)?;
     }
     Ok(search)
 }
@@ -171,6 +198,11 @@ pub fn least_errors(
     // The contracts of these calls say that the schemas are well formed, which the proof needs.
     let _ = count(writer);
     let _ = count(reader);
+    if !has_failing(writer, reader, table, reached) {
+        // Then no pair fails at all, and no entry is searched for.
+        let entries = filled(alloc, reached.known.len(), None)?;
+        return Ok(entries);
+    }
     let others = others(alloc, writer, limit, table)?;
     let leads = leads(alloc, writer, reader, table, reached)?;
     let graph = Graph {

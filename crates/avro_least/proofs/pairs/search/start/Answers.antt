@@ -48,12 +48,12 @@ loop-i-preserved c =
     let ks : List ℕ = keys c.args.graph.now.reached.now.known in
     let i : ℕ = c.loop-i.i in
     let es : List (Option KeptLeast) = c.loop-i.search.entries.items in
-    let found = c.value_without_parts.result in
+    let found = c.value_without_parts-value.result in
     let below : i < length ks = omega (arith, c.loop-i-test.true, c.len-count.ensures.len) in
     let key : ℕ = get_or ks i 0 in
     let here : slice_get ks i ≡ Some key = slice_get-get_or ks i 0 below in
     let within : i < length es = omega (arith, below, inv.search.one_each) in
-    let is = c.value_without_parts.ensures.is key here in record {
+    let is = c.value_without_parts-value.ensures.is key here in record {
       search = lowered_search g c.loop-i.search c.lower.new.self i key found inv.search new.search here new.entries
           (alone_shows ns qs g.limit (table_of g.table.now) ks (seen_all es) c.requires.formed c.requires.theirs c.requires.least key
           (below_at (length ns * length qs) ks i key c.requires.below here)
@@ -61,7 +61,7 @@ loop-i-preserved c =
       alone = λ k low own s d there m. subst (λ (xs : List (Option KeptLeast)). AtMost (unwrap_or (slice_get (seen_all xs) k) (Some no_parts)) s d) (sym new.entries)
           (elim (cases_eq k i) [
             | inl same ↦ subst (λ (n : ℕ). AtMost (unwrap_or (slice_get (seen_all (lowered es i found)) n) (Some no_parts)) s d) (sym same)
-                (lowered_at es i found s d within (subst (λ o. AtMost o s d) (sym (c.value_without_parts.ensures.is own (ap (slice_get ks) (sym same) ∙ there))) m))
+                (lowered_at es i found s d within (subst (λ o. AtMost o s d) (sym (c.value_without_parts-value.ensures.is own (ap (slice_get ks) (sym same) ∙ there))) m))
             | inr apart ↦ lowered_fallen es i found within k s d (inv.alone k (omega (arith, low, apart)) own s d there m)
           ]);
       taken = lower_taken ns qs g.limit (table_of g.table.now) ks [] es c.lower.new.self.entries.items c.loop-i.search.waiting.items c.lower.new.self.waiting.items i key found within here
