@@ -7,10 +7,10 @@ use avro_texts::{Seeded, Seeding};
 /// How many bytes of a namespace are taken in.
 const FRONT: usize = 256;
 
-/// A byte that ends a text, and one that ends a list of texts or of fields. No name has them.
-const TEXT_END: [u8; 1] = [0];
+/// A byte between texts, and one that ends a list. No name has them.
+const BETWEEN: [u8; 1] = [0];
 
-const LIST_END: [u8; 1] = [1];
+const END: [u8; 1] = [1];
 
 /// A seed from all that decides which pairs of nodes two schemas have, and which names: every name,
 /// of a namespace the front, every edge, every size, and whether there is a default.
@@ -26,13 +26,13 @@ pub(crate) fn seed_of(writer: &Schema, reader: &Schema) -> Seeded {
 
 /// Takes in each node of a schema.
 fn take_schema(seeding: &mut Seeding, schema: &Schema) {
-    take_count(seeding, schema.len());
     for index in 0..schema.len() {
         take_node(seeding, schema.get(NodeId(index as u32)));
     }
+    seeding.take(&[12]);
 }
 
-/// Takes in a node, behind a number of its kind.
+/// Takes in a node. That of a type begins with its name, and so with a letter or `_`; each other one with the number of its kind.
 fn take_node(seeding: &mut Seeding, node: &Node) {
     match node {
         Node::Null => seeding.take(&[0]),
@@ -50,96 +50,78 @@ fn take_node(seeding: &mut Seeding, node: &Node) {
     }
 }
 
-/// Takes in a number.
-fn take_number(seeding: &mut Seeding, number: u32) {
-    seeding.take(&number.to_le_bytes());
+/// Takes in a byte, and the node that something has as its part. There are at most 4,096 nodes, so two bytes tell it.
+fn take_edge(seeding: &mut Seeding, mark: u8, node: NodeId) {
+    let number = node.0.to_le_bytes();
+    seeding.take(&[mark, number[0], number[1]]);
 }
 
-/// Takes in how many there are of what follows.
-fn take_count(seeding: &mut Seeding, count: usize) {
-    seeding.take(&(count as u64).to_le_bytes());
-}
-
-/// Takes in the node that one of a kind has as its part.
-fn take_edge(seeding: &mut Seeding, kind: u8, node: NodeId) {
-    seeding.take(&[kind]);
-    take_number(seeding, node.0);
-}
-
-/// Takes in the branches of a union, behind how many there are.
+/// Takes in the branches of a union.
 fn take_branches(seeding: &mut Seeding, branches: &[NodeId]) {
     seeding.take(&[8]);
-    take_count(seeding, branches.len());
     for branch in branches {
-        take_number(seeding, branch.0);
+        take_edge(seeding, 8, *branch);
     }
+    seeding.take(&END);
 }
 
 /// Takes in a record.
 fn take_record(seeding: &mut Seeding, record: &RecordNode) {
-    seeding.take(&[9]);
-    take_names(seeding, &record.name, &record.aliases);
+    take_names(seeding, &record.name, &record.aliases, 9);
     for field in &record.fields {
         take_field(seeding, field);
     }
-    seeding.take(&LIST_END);
+    seeding.take(&END);
 }
 
 /// Takes in a field.
 fn take_field(seeding: &mut Seeding, field: &Field) {
-    take_text(seeding, &field.name);
+    seeding.take(field.name.as_bytes());
     take_texts(seeding, &field.aliases);
-    take_number(seeding, field.node.0);
-    seeding.take(&[u8::from(field.default.is_some())]);
+    take_edge(seeding, default_mark(field.default.is_some()), field.node);
 }
 
 /// Takes in an enum.
 fn take_enum(seeding: &mut Seeding, en: &EnumNode) {
-    seeding.take(&[10]);
-    take_names(seeding, &en.name, &en.aliases);
+    take_names(seeding, &en.name, &en.aliases, 10);
     take_texts(seeding, &en.symbols);
-    seeding.take(&[u8::from(en.default.is_some())]);
+    seeding.take(&[default_mark(en.default.is_some())]);
 }
 
 /// Takes in a fixed.
 fn take_fixed(seeding: &mut Seeding, fixed: &FixedNode) {
-    seeding.take(&[11]);
-    take_names(seeding, &fixed.name, &fixed.aliases);
-    take_number(seeding, fixed.size);
+    take_names(seeding, &fixed.name, &fixed.aliases, 11);
+    seeding.take(&fixed.size.to_le_bytes());
 }
 
-/// Takes in the name of a type and its aliases.
-fn take_names(seeding: &mut Seeding, name: &FullName, aliases: &[FullName]) {
+/// A byte that ends a list, and says whether there is a default.
+fn default_mark(has_default: bool) -> u8 {
+    if has_default { 2 } else { 1 }
+}
+
+/// Takes in the name of a type and its aliases, and behind them the number of its kind.
+fn take_names(seeding: &mut Seeding, name: &FullName, aliases: &[FullName], kind: u8) {
     take_name(seeding, name);
     for alias in aliases {
+        seeding.take(&BETWEEN);
         take_name(seeding, alias);
     }
-    seeding.take(&LIST_END);
+    seeding.take(&[kind]);
 }
 
-/// Takes in a fullname.
+/// Takes in a fullname, of its namespace the front. A long one is in each name that is declared below it, so that all of it
+/// would be read too often; and a text has room for few that differ only behind these bytes.
 fn take_name(seeding: &mut Seeding, name: &FullName) {
-    take_text(seeding, name.simple());
-    take_space(seeding, name.namespace().as_bytes());
-}
-
-/// Takes in the front of a namespace. A long one is in each name that is declared below it, so that all of it would be read
-/// too often; and a text has room for few that differ only behind these bytes.
-fn take_space(seeding: &mut Seeding, space: &[u8]) {
+    seeding.take(name.simple().as_bytes());
+    seeding.take(&BETWEEN);
+    let space = name.namespace().as_bytes();
     seeding.take(space.get(..FRONT).unwrap_or(space));
-    seeding.take(&TEXT_END);
 }
 
 /// Takes in symbols, or the aliases of a field.
 fn take_texts(seeding: &mut Seeding, texts: &[String]) {
     for text in texts {
-        take_text(seeding, text);
+        seeding.take(&BETWEEN);
+        seeding.take(text.as_bytes());
     }
-    seeding.take(&LIST_END);
-}
-
-/// Takes in a text.
-fn take_text(seeding: &mut Seeding, text: &str) {
-    seeding.take(text.as_bytes());
-    seeding.take(&TEXT_END);
 }
