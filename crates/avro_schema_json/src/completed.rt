@@ -76,7 +76,7 @@ fn defaults_of_fields(
     ensures data { IfOk result (λ defaults. data_seen defaults.of_fields.items ≡ map (field_default (all_without_defaults raws.now)) (raw_fields_of fields.now)) }
     ensures read { IfOk result (λ defaults. defaults.are_read ≡ list_all (is_default_read (all_without_defaults raws.now)) (raw_fields_of fields.now)) }
 {
-    let mut of_fields: Vec<Option<Datum>> = Vec::new(alloc);
+    let mut of_fields: Vec<Option<Datum>> = Vec::with_capacity(alloc, fields.len())?;
     let mut are_read = true;
     for field in fields {
         let default = default_of_field(alloc, seed, raws, marking, field)?;
@@ -155,7 +155,7 @@ fn defaults_by_tables(
     ensures data { IfOk result (λ defaults. lists_seen defaults.of_nodes.items ≡ map (node_defaults_by (all_without_defaults raws.now)) (raw_nodes_of raws.now)) }
     ensures read { IfOk result (λ defaults. defaults.are_read ≡ are_all_defaults_read (raw_nodes_of raws.now)) }
 {
-    let mut of_nodes: Vec<Vec<Option<Datum>>> = Vec::new(alloc);
+    let mut of_nodes: Vec<Vec<Option<Datum>>> = Vec::with_capacity(alloc, raws.len())?;
     let mut are_read = true;
     for raw in raws {
         let NodeDefaults {
@@ -208,7 +208,7 @@ fn complete_fields(
 ) -> Result<Vec<Field>, Memory>
     ensures { IfOk result (λ completed. seen_fields completed.items ≡ fields_with_defaults (raw_fields_of fields.entry.items) (data_seen defaults.items)) }
 {
-    let mut completed: Vec<Field> = Vec::new(alloc);
+    let mut completed: Vec<Field> = Vec::with_capacity(alloc, fields.len())?;
     let mut rest = defaults.into_iter();
     for field in fields {
         let default = next_default(&mut rest);

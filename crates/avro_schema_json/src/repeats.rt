@@ -87,10 +87,10 @@ fn repeats_name(alloc: Global, seed: Seeded, fields: &[RawField]) -> Result<bool
     let mut names: IndexMap<&str, usize, Seeded> = IndexMap::with_hasher(alloc, seed);
     for i in 0..fields.len() {
         let name = fields[i].name.as_str();
-        if names.contains_key(name) {
+        let old = names.insert(name, i)?;
+        if old.is_some() {
             return Ok(true);
         }
-        names.insert(name, i)?;
     }
     Ok(false)
 }
