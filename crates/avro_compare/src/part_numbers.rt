@@ -66,7 +66,7 @@ fn text_numbers<'a>(
     ensures has { IfOk result (λ numbers. AreNumbersOf texts.new (texts_of names.now) numbers.items) }
     ensures grows { OnOk result (Grows texts.old texts.new) }
 {
-    let mut numbers = Vec::new(alloc);
+    let mut numbers = Vec::with_capacity(alloc, names.len())?;
     for index in 0..names.len() {
         let number = texts.add(names[index].as_str())?;
         numbers.push(number)?;
@@ -83,7 +83,7 @@ fn field_numbers<'a>(
     ensures has { IfOk result (λ numbers. AreNumbersOf texts.new (names_of (seen_fields fields.now)) numbers.items) }
     ensures grows { OnOk result (Grows texts.old texts.new) }
 {
-    let mut numbers = Vec::new(alloc);
+    let mut numbers = Vec::with_capacity(alloc, fields.len())?;
     for index in 0..fields.len() {
         let number = texts.add(fields[index].name.as_str())?;
         numbers.push(number)?;
@@ -165,7 +165,7 @@ pub(crate) fn schema_parts<'a>(
     ensures fields { OnOk result (KeepsLists for_fields.old.items for_fields.new.items) }
     ensures symbols { OnOk result (KeepsLists for_symbols.old.items for_symbols.new.items) }
 {
-    let mut all = Vec::new(alloc);
+    let mut all = Vec::with_capacity(alloc, schema.len())?;
     for index in 0..schema.len() {
         let id = NodeId(index_number(index)?);
         all.push(list_parts(alloc, texts, for_fields, for_symbols, schema, id)?)?;
@@ -184,7 +184,7 @@ fn field_aliases<'a>(
     ensures grows { OnOk result (Grows texts.old texts.new) }
     ensures kept { OnOk result (KeepsLists lists.old.items lists.new.items) }
 {
-    let mut ids = Vec::new(alloc);
+    let mut ids = Vec::with_capacity(alloc, fields.len())?;
     for index in 0..fields.len() {
         ids.push(list_texts(alloc, texts, lists, &fields[index].aliases)?)?;
     }
@@ -202,7 +202,7 @@ pub(crate) fn schema_aliases<'a>(
     ensures grows { OnOk result (Grows texts.old texts.new) }
     ensures kept { OnOk result (KeepsLists lists.old.items lists.new.items) }
 {
-    let mut all = Vec::new(alloc);
+    let mut all = Vec::with_capacity(alloc, schema.len())?;
     for index in 0..schema.len() {
         let id = NodeId(index_number(index)?);
         all.push(field_aliases(alloc, texts, lists, fields_of(schema, id))?)?;

@@ -159,7 +159,7 @@ pub(crate) fn union_tables(
 ) -> Result<Vec<UnionTable>, AllocError>
     ensures { IfOk result (λ tables. AreUnionTables texts.now (schema_nodes reader.now) tables.items) }
 {
-    let mut tables = Vec::new(alloc);
+    let mut tables = Vec::with_capacity(alloc, reader.len())?;
     for index in 0..reader.len() {
         let table = union_table(alloc, texts, reader, NodeId(index as u32))?;
         tables.push(table)?;

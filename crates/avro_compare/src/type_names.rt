@@ -75,7 +75,7 @@ fn writer_numbers<'w>(
 ) -> Result<Vec<Option<(u32, u32)>>, AllocError>
     ensures { IfOk result (λ numbers. AreOfWriter texts.new (schema_nodes writer.now) numbers.items) }
 {
-    let mut numbers = Vec::new(alloc);
+    let mut numbers = Vec::with_capacity(alloc, writer.len())?;
     for index in 0..writer.len() {
         let found = add_type(texts, writer, NodeId(index as u32))?;
         numbers.push(found)?;
@@ -119,7 +119,7 @@ fn reader_numbers(
 ) -> Result<Vec<Option<u32>>, AllocError>
     ensures { IfOk result (λ numbers. AreOfReader texts.now (schema_nodes reader.now) numbers.items) }
 {
-    let mut numbers = Vec::new(alloc);
+    let mut numbers = Vec::with_capacity(alloc, reader.len())?;
     for index in 0..reader.len() {
         numbers.push(simple_at(texts, reader, NodeId(index as u32)))?;
     }

@@ -11,7 +11,7 @@ use Rattle.avro_compare.proofs.part_numbers.field_aliases.Goals as goal
 pub loop-index-init : goal.loop-index-init
 loop-index-init c =
     let fields = seen_fields c.args.fields.now in
-    let none : c.new-ids.result.items ≡ [] = search rules in (
+    let none : c.in_ok-ids.ids.items ≡ [] = search rules in (
       holds_none (λ k id. HasList c.args.texts.now c.args.lists.now.items id (aliases_at fields k)) none,
       grows_none c.args.texts.now,
       lists_none c.args.lists.now.items,

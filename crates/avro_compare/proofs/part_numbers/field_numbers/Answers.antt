@@ -10,7 +10,7 @@ use Rattle.avro_compare.proofs.part_numbers.field_numbers.Goals as goal
 
 pub loop-index-init : goal.loop-index-init
 loop-index-init c =
-    let none : c.new-numbers.result.items ≡ [] = search rules in (
+    let none : c.in_ok-numbers.numbers.items ≡ [] = search rules in (
       holds_none (λ k n. (t : List ℕ) → slice_get (names_of (seen_fields c.args.fields.now)) k ≡ Some t → slice_get c.args.texts.now n ≡ Some t) none,
       grows_none c.args.texts.now,
     )

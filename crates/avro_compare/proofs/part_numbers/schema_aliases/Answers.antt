@@ -11,7 +11,7 @@ use Rattle.avro_compare.proofs.part_numbers.schema_aliases.Goals as goal
 pub loop-index-init : goal.loop-index-init
 loop-index-init c =
     let nodes = schema_nodes c.args.schema.now in
-    let none : c.new-all.result.items ≡ [] = search rules in (
+    let none : c.in_ok-all.all.items ≡ [] = search rules in (
       holds_none (λ k (ids : Vec ℕ). AreLists c.args.texts.now c.args.lists.now.items (aliases_at (fields_at (node_at nodes k))) ids.items) none,
       grows_none c.args.texts.now,
       lists_none c.args.lists.now.items,

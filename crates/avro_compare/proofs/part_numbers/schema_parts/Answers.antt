@@ -9,7 +9,7 @@ use Rattle.avro_compare.proofs.part_numbers.schema_parts.Goals as goal
 pub loop-index-init : goal.loop-index-init
 loop-index-init c =
     let nodes = schema_nodes c.args.schema.now in
-    let none : c.new-all.result.items ≡ [] = search rules in (
+    let none : c.in_ok-all.all.items ≡ [] = search rules in (
       holds_none (λ k parts. HasParts c.args.texts.now c.args.for_fields.now.items c.args.for_symbols.now.items (node_at nodes k) parts) none,
       grows_none c.args.texts.now,
       lists_none c.args.for_fields.now.items,

@@ -7,7 +7,7 @@ use Rattle.avro_compare.proofs.reader_types.union_tables.Goals as goal
 
 pub loop-index-init : goal.loop-index-init
 loop-index-init c =
-    let none : c.new-tables.result.items ≡ [] = search rules in
+    let none : c.in_ok-tables.tables.items ≡ [] = search rules in
     holds_none (λ k table. IsUnionTable c.args.texts.now (schema_nodes c.args.reader.now) (node_at (schema_nodes c.args.reader.now) k) table) none
 
 pub loop-index-preserved : goal.loop-index-preserved

@@ -8,7 +8,7 @@ use Rattle.avro_compare.proofs.type_names.reader_numbers.Goals as goal
 
 pub loop-index-init : goal.loop-index-init
 loop-index-init c =
-    let none : c.new-numbers.result.items ≡ [] = search rules in
+    let none : c.in_ok-numbers.numbers.items ≡ [] = search rules in
     holds_none (λ k found. IsSimple c.args.texts.now (named_type (node_at (schema_nodes c.args.reader.now) k)) found) none
 
 pub loop-index-preserved : goal.loop-index-preserved

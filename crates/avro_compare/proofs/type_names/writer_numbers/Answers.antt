@@ -9,7 +9,7 @@ use Rattle.avro_compare.proofs.type_names.writer_numbers.Goals as goal
 
 pub loop-index-init : goal.loop-index-init
 loop-index-init c =
-    let none : c.new-numbers.result.items ≡ [] = search rules in
+    let none : c.in_ok-numbers.numbers.items ≡ [] = search rules in
     holds_none (λ k found. IsFull c.args.texts.now (named_type (node_at (schema_nodes c.args.writer.now) k)) found) none
 
 pub loop-index-preserved : goal.loop-index-preserved
