@@ -69,39 +69,40 @@ fn add_number(
     Ok(())
 }
 
-/// The numbers of the pairs of some leads, without those whose writer's node has no data.
-fn numbers_of(
-    alloc: Global,
+/// Adds the numbers of the pairs of some leads, without those whose writer's node has no data.
+fn add_numbers(
+    numbers: &mut Vec<u64>,
     table: &[Option<Least>],
     count: u32,
     leads: &[Lead],
-) -> Result<Vec<u64>, Memory>
-    ensures { IfOk result (λ n. n.items ≡ live_numbers count (table_of table.now) (map lead_pair leads.now)) }
+) -> Result<(), Memory>
+    ensures { OnOk result (numbers.new.items ≡ numbers.old.items ++ live_numbers count (table_of table.now) (map lead_pair leads.now)) }
 {
-    let mut numbers = Vec::new(alloc);
     for lead in leads {
-        add_number(&mut numbers, table, count, lead.w, lead.r)?;
+        add_number(numbers, table, count, lead.w, lead.r)?;
     }
-    Ok(numbers)
+    Ok(())
 }
 
-/// The numbers of the pairs that a pair leads to: none where the pair fails by itself.
+/// Replaces numbers by those of the pairs that a pair leads to: none where the pair fails by itself.
 fn steps(
     alloc: Global,
     names: &Names,
     table: &[Option<Least>],
     count: u32,
     pair: &Comparison,
-) -> Result<Vec<u64>, Memory>
+    numbers: &mut Vec<u64>,
+) -> Result<(), Memory>
     requires { IsComparison (schema_nodes names.now.0) (schema_nodes names.now.1) pair.now }
-    ensures { IfOk result (λ n. n.items ≡ live_numbers count (table_of table.now) (open_children (schema_nodes names.now.0) (schema_nodes names.now.1) pair.now.w.0 pair.now.r.0
+    ensures { OnOk result (numbers.new.items ≡ live_numbers count (table_of table.now) (open_children (schema_nodes names.now.0) (schema_nodes names.now.1) pair.now.w.0 pair.now.r.0
         (node_at (schema_nodes names.now.0) pair.now.w.0) (node_at (schema_nodes names.now.1) pair.now.r.0))) }
 {
+    numbers.clear();
     if has_fault(names, pair) {
-        return Ok(Vec::new(alloc));
+        return Ok(());
     }
     let leads = leads(alloc, names, pair)?;
-    numbers_of(alloc, table, count, &leads)
+    add_numbers(numbers, table, count, &leads)
 }
 
 /// The writer's node of a pair, by the pair's number.
@@ -123,7 +124,7 @@ pub fn readers(reader: &Schema, key: u64) -> NodeId
     NodeId((key % u64::from(count(reader))) as u32)
 }
 
-/// Compares a pair, and returns the numbers of the pairs that it leads to beside its comparison.
+/// Compares a pair, and replaces numbers by those of the pairs that it leads to.
 fn visit(
     alloc: Global,
     names: &Names,
@@ -131,17 +132,18 @@ fn visit(
     reader: &Schema,
     table: &[Option<Least>],
     key: u64,
-) -> Result<(Comparison, Vec<u64>), Memory>
+    more: &mut Vec<u64>,
+) -> Result<Comparison, Memory>
     requires of_these { names.now ≡ (writer.now, reader.now) }
     requires within { key < length (schema_nodes writer.now) * length (schema_nodes reader.now) }
-    ensures found { IfOk result (λ p. IsFound (schema_nodes writer.now) (schema_nodes reader.now) key p.0) }
-    ensures steps { IfOk result (λ p. p.1.items ≡ steps_at (schema_nodes writer.now) (schema_nodes reader.now) (table_of table.now) key) }
+    ensures found { IfOk result (λ p. IsFound (schema_nodes writer.now) (schema_nodes reader.now) key p) }
+    ensures steps { OnOk result (more.new.items ≡ steps_at (schema_nodes writer.now) (schema_nodes reader.now) (table_of table.now) key) }
 {
     let w = writers(writer, reader, key);
     let r = readers(reader, key);
     let pair = compare(alloc, names, w, r)?;
-    let more = steps(alloc, names, table, count(reader), &pair)?;
-    Ok((pair, more))
+    steps(alloc, names, table, count(reader), &pair, more)?;
+    Ok(pair)
 }
 
 /// The comparison at an index.
@@ -264,11 +266,12 @@ fn reach_by(
     let _ = count(writer);
     let _ = count(reader);
     let mut reached = start(alloc, names.seed())?;
+    let mut more = Vec::new(alloc);
     let mut near = 0;
     let mut next = 0;
     while next < reached.known.len() {
         let key = key_at(&reached.known, next);
-        let (pair, more) = visit(alloc, names, writer, reader, table, key)?;
+        let pair = visit(alloc, names, writer, reader, table, key, &mut more)?;
         keep(&mut reached, pair, &more, &mut near)?;
         next += 1;
     }

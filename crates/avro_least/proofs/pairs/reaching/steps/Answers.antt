@@ -1,4 +1,4 @@
-use Rattle.std.proofs.Common.{◌≡◌, ◌∙◌, Bool, List, [], ap, cond, map, subst, sym, IfOk}
+use Rattle.std.proofs.Common.{◌≡◌, ◌∙◌, ◌++◌, ℕ, Bool, List, [], ap, cond, map, subst, sym, OnOk}
 use Rattle.avro_schema.specs.Node.{node_at}
 use Rattle.avro_schema.specs.SeenSchema.{schema_nodes}
 use Rattle.avro_compare.specs.Children.{Pair, children_of}
@@ -17,4 +17,6 @@ returns c =
     let is : map lead_pair c.deref.result.now ≡ open_children writer reader w r (node_at writer w) (node_at reader r) =
     ap (map lead_pair) (c.deref.ensures.value ∙ c.in_ok-leads.ensures) ∙ lead_children writer reader w r (node_at writer w) (node_at reader r)
     ∙ ap (λ (t : Bool). cond t [] (children_of writer reader w r (node_at writer w) (node_at reader r))) (sym c.if-has_fault.false ∙ c.has_fault.ensures) in
-    subst (λ (ps : List Pair). IfOk c.numbers_of.result (λ n. n.items ≡ live_numbers c.args.count (table_of c.args.table.now) ps)) is c.numbers_of.ensures
+    subst (λ (ps : List Pair). OnOk c.add_numbers.result (c.add_numbers.new.numbers.items ≡ live_numbers c.args.count (table_of c.args.table.now) ps)) is
+    (subst (λ (ns : List ℕ). OnOk c.add_numbers.result (c.add_numbers.new.numbers.items ≡ ns ++ live_numbers c.args.count (table_of c.args.table.now) (map lead_pair c.deref.result.now)))
+    c.clear.ensures.items c.add_numbers.ensures)
