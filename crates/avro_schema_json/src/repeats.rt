@@ -39,12 +39,13 @@ fn code_of(raws: &[RawNode], branch: NodeId) -> u64
     }
 }
 
-/// Adds a code.
-fn add(codes: &mut BTreeSet<u64>, code: u64) -> Result<(), Memory>
-    ensures { OnOk result ((m : ℕ) → contains nat_cmp codes.new m ≡ true → (contains nat_cmp codes.old m ≡ true) ⊎ (m ≡ code)) }
+/// Adds a code, and returns whether it is new.
+fn add(codes: &mut BTreeSet<u64>, code: u64) -> Result<bool, Memory>
+    ensures new { IfOk result (λ new. new ≡ false → contains nat_cmp codes.old code ≡ true) }
+    ensures added { OnOk result ((m : ℕ) → contains nat_cmp codes.new m ≡ true → (contains nat_cmp codes.old m ≡ true) ⊎ (m ≡ code)) }
 {
-    codes.insert(code)?;
-    Ok(())
+    let new = codes.insert(code)?;
+    Ok(new)
 }
 
 /// Whether two branches have one code.
@@ -54,10 +55,9 @@ fn repeats_branch(alloc: Global, raws: &[RawNode], branches: &[NodeId]) -> Resul
     let mut codes: BTreeSet<u64> = BTreeSet::new(alloc);
     for branch in branches {
         let code = code_of(raws, *branch);
-        if codes.contains(&code) {
+        if !add(&mut codes, code)? {
             return Ok(true);
         }
-        add(&mut codes, code)?;
     }
     Ok(false)
 }
