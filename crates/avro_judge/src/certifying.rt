@@ -61,7 +61,7 @@ fn pairs_of_numbers(
     requires { list_all (λ k. nat_lt k (length (schema_nodes writer.now) * length (schema_nodes reader.now))) numbers.now ≡ true }
     ensures { IfOk result (λ p. pairs_of p.items ≡ pairs_at (length (schema_nodes reader.now)) numbers.now) }
 {
-    let mut pairs = Vec::new(alloc);
+    let mut pairs = Vec::with_capacity(alloc, numbers.len())?;
     for number in numbers {
         let pair = (
             writers(writer, reader, *number).0,
