@@ -107,7 +107,7 @@ fn leads_of_nodes(
 fn branch_leads(alloc: Global, ids: &[NodeId], r: NodeId) -> Result<Vec<Lead>, Memory>
     ensures { IfOk result (λ found. found.items ≡ branch_leads 0 r.0 (ids_of ids.now)) }
 {
-    let mut found = Vec::new(alloc);
+    let mut found = Vec::with_capacity(alloc, ids.len())?;
     for index in 0..ids.len() {
         found.push(Lead {
             step: Step::Branch(index),

@@ -143,7 +143,7 @@ fn find_sources(
     ensures each { IfOk result (λ found. AreListedSources (fields_at (node_at (schema_nodes names.now.0) w.0)) (seen_fields reads.now) found.items) }
     ensures all { IfOk result (λ found. length found.items ≡ length reads.now) }
 {
-    let mut found = Vec::new(alloc);
+    let mut found = Vec::with_capacity(alloc, reads.len())?;
     for index in 0..reads.len() {
         found.push(names.source_at(w, r, index, &reads[index]))?;
     }
@@ -250,7 +250,7 @@ fn all_ignored(alloc: Global, count: usize) -> Result<Vec<At>, Memory>
     ensures ignored { IfOk result (λ found. AreIgnored found.items) }
     ensures all { IfOk result (λ found. length found.items ≡ count) }
 {
-    let mut found = Vec::new(alloc);
+    let mut found = Vec::with_capacity(alloc, count)?;
     for _part in 0..count {
         found.push(At::Ignored)?;
     }

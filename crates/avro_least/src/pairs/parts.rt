@@ -249,7 +249,7 @@ pub(crate) fn others(
     ensures { IfOk result (λ o. AreOthers (schema_nodes writer.now) limit (table_of table.now) (length (schema_nodes writer.now)) o.items) }
 {
     let count = count(writer);
-    let mut rows = Vec::new(alloc);
+    let mut rows = Vec::with_capacity(alloc, count as usize)?;
     for i in 0..count {
         let node = writer.node(NodeId(i));
         rows.push(others_of_node(alloc, limit, table, node)?)?;

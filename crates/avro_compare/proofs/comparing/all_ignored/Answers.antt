@@ -5,7 +5,7 @@ use Rattle.avro_compare.proofs.comparing.all_ignored.Goals as goal
 
 pub loop-part-init : goal.loop-part-init
 loop-part-init c =
-    let none : c.new-found.result.items ≡ [] = search rules in
+    let none : c.in_ok-found.found.items ≡ [] = search rules in
     holds_none (λ k at. at ≡ Ignored) none
 
 pub loop-part-preserved : goal.loop-part-preserved

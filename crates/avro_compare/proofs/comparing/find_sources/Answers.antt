@@ -10,7 +10,7 @@ use Rattle.avro_compare.proofs.comparing.find_sources.Goals as goal
 
 pub loop-index-init : goal.loop-index-init
 loop-index-init c =
-    let none : c.new-found.result.items ≡ [] = search rules in
+    let none : c.in_ok-found.found.items ≡ [] = search rules in
     let ws = fields_at (node_at (schema_nodes c.args.names.now.0) c.args.w.0) in
     holds_none (λ k s. (f : FieldNode) → slice_get (seen_fields c.args.reads.now) k ≡ Some f → s ≡ source_of ws f) none
 
