@@ -84,7 +84,11 @@ fn repeats_name(alloc: Global, seed: Seeded, fields: &[RawField]) -> Result<bool
     ensures found { IfOk result (λ answer. answer ≡ true → RepeatsName (fields_seen fields.now)) }
     ensures distinct { IfOk result (λ answer. answer ≡ false → AreFieldsDistinct (fields_seen fields.now)) }
 {
-    let mut names: IndexMap<&str, usize, Seeded> = IndexMap::with_hasher(alloc, seed);
+    let mut names: IndexMap<&str, usize, Seeded> = IndexMap::with_capacity_and_hasher(
+        alloc,
+        fields.len(),
+        seed,
+    )?;
     for i in 0..fields.len() {
         let name = fields[i].name.as_str();
         let old = names.insert(name, i)?;

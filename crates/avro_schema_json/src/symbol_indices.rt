@@ -21,7 +21,11 @@ pub(crate) fn symbol_indices(
 ) -> Result<IndexMap<String, u32, Seeded>, Memory>
     ensures { IfOk result (λ indices. FindsSymbols (texts_of symbols.now) indices) }
 {
-    let mut indices: IndexMap<String, u32, Seeded> = IndexMap::with_hasher(alloc, seed);
+    let mut indices: IndexMap<String, u32, Seeded> = IndexMap::with_capacity_and_hasher(
+        alloc,
+        symbols.len(),
+        seed,
+    )?;
     let mut left = symbols.len();
     while left > 0 {
         left -= 1;
