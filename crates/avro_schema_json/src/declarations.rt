@@ -65,7 +65,7 @@ impl<'a> Progress<'a> {
         ensures kept { OnOk result (Keeps self.old self.new) }
     {
         let id = self.reserve()?;
-        let mut ids = Vec::new(alloc);
+        let mut ids = Vec::with_capacity(alloc, branches.len())?;
         for branch in branches {
             ids.push(self.read_type(alloc, enclosing, branch)?)?;
         }
@@ -188,7 +188,7 @@ impl<'a> Progress<'a> {
         let Value::Array(items) = list else {
             return Err(SchemaError::InvalidDeclaration);
         };
-        let mut fields = Vec::new(alloc);
+        let mut fields = Vec::with_capacity(alloc, items.len())?;
         for item in items {
             fields.push(self.read_field(alloc, enclosing, item)?)?;
         }

@@ -46,7 +46,7 @@ fn texts_of_items(alloc: Global, items: &[Value]) -> Result<Vec<String>, SchemaE
     ensures found { IfOk result (λ texts. texts_in (items_view items.now) ≡ Some (texts_of texts.items)) }
     ensures refused { IfErr result (λ e. (e ≡ SchemaError.OutOfMemory) ⊎ ((e ≡ SchemaError.InvalidDeclaration) × (texts_in (items_view items.now) ≡ None))) }
 {
-    let mut texts = Vec::new(alloc);
+    let mut texts = Vec::with_capacity(alloc, items.len())?;
     for item in items {
         match item.as_str() {
             Some(text) => texts.push(String::from_str(alloc, text)?)?,

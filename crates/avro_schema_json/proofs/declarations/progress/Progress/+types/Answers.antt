@@ -56,7 +56,7 @@ read_fields-loop-item-init t c = grind (arith, reading-begun)
 
 pub read_fields-returns-in_err-read_field-clause-refused : goal.read_fields-returns-in_err-read_field-clause-refused
 read_fields-returns-in_err-read_field-clause-refused t c =
-    let p = err_from_is_err_and c.from_residual.result c.from_residual.ensures.1 in
+    let p = err_from_is_err_and c.from_residual-in_err-read_field.result c.from_residual-in_err-read_field.ensures.1 in
     let seen = ap view c.in-Array.is ∙ view-Array c.in-Array.items in
     rw (p.1, p.2, seen, ← c.deref-item-items.ensures.value)
     (item-refused (λ v. field_meaning (view v)) list_meanings next_field refl _ c.args.enclosing.now.namespace (state_of c.args.self.now)
