@@ -37,6 +37,7 @@ MIGRATED: Roots = (
 PROGRAM: Roots = (
     ("Rattle.avro_tool.specs.PlainWords", "MakesPlainRequest"),
     ("Rattle.avro_tool.specs.PlainAnswers", "AnswersPlain"),
+    ("Rattle.avro_tool.specs.TextsRefused", "RefusesPlain"),
     ("Rattle.avro_tool.specs.FoundStatus", "finding_status"),
     ("Rattle.avro_tool.specs.FoundStatus", "worse"),
     ("Rattle.avro_tool.specs.ModeAnswer", "ModeAnswer"),
