@@ -38,6 +38,7 @@ PROGRAM: Roots = (
     ("Rattle.avro_tool.specs.PlainWords", "MakesPlainRequest"),
     ("Rattle.avro_tool.specs.PlainAnswers", "AnswersPlain"),
     ("Rattle.avro_tool.specs.TextsRefused", "RefusesPlain"),
+    ("Rattle.avro_tool.specs.ConfirmedHistories", "TellsConfirmed"),
     ("Rattle.avro_tool.specs.FoundStatus", "finding_status"),
     ("Rattle.avro_tool.specs.FoundStatus", "worse"),
     ("Rattle.avro_tool.specs.ModeAnswer", "ModeAnswer"),

@@ -1,3 +1,4 @@
+pub mod ConfirmedHistories
 pub mod ContainerText
 pub mod DefaultLimits
 pub mod EachAnswer

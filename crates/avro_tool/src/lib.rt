@@ -3,13 +3,14 @@
 //! `confirm` of files of which it is known what they hold put the answer for these texts, with its status, and refuse no text that is one
 //! (`run_over`); the exit status of each `Failure` and each `Finding`, and the line of each refusal; that the text and the status of
 //! `schema` and `read` are those of `avro_answer` for the schemas and the data that were read (`tell_schema`, `tell_datum`); that the lines
-//! of `history`, as text and as JSON, are those of its files, in their order, with the worst status, and that the certificates that are
-//! kept confirm their schemas (`judge_each`, `certify_each`); that `pipe` is a copy of what it takes (`pipe_from`); the counts of `check`
-//! (`counts_of`), and their line of JSON (`tell_file_counts`); that `header` prints the text of the schema of the header that it takes, or
-//! the line of all its metadata (`tell_header`); that `show` prints what `avro_lines` says of the file that it takes (`tell_lines`); that
-//! what these tell fails for nothing but memory, the output, or a file that cannot be read or has a fault (`IsPutFailure`, `IsFileFailure`,
-//! `IsDataFailure`), and blames the output only where it failed or took nothing; the bytes of the file of a refutation (`put_block`); and
-//! that `Watched`, an input around another for `--progress`, takes, ends and counts as the other does. The rest is safe, and returns.
+//! of `history`, as text and as JSON, are those of its files, in their order, with the worst status, that the certificates that are kept
+//! confirm their schemas (`judge_each`, `certify_each`), and whether those of a file do (`confirm_by`); that `copy` and `pipe` make a copy
+//! of what they take (`copy_into`, `pipe_from`); the counts of `check` (`counts_of`), and their line of JSON (`tell_file_counts`); that
+//! `header` prints the text of the schema of the header that it takes, or the line of all its metadata (`tell_header`); that `show` prints
+//! what `avro_lines` says of the file that it takes (`tell_lines`); that what these tell fails for nothing but memory, the output, or a
+//! file that cannot be read or has a fault (`IsPutFailure`, `IsFileFailure`, `IsDataFailure`), and blames the output only where it failed
+//! or took nothing; the bytes of the file of a refutation (`put_block`); and that `Watched`, an input around another for `--progress`,
+//! takes, ends and counts as the other does. The rest is safe, and returns.
 //!
 //! `run` makes an `Output` of the writer for the answers, and the commands put into that. No failed call of it is retried.
 //! `Texts` are files of which it may be known what they hold; nothing is known of the system's.

@@ -1,3 +1,11 @@
+ghost use Rattle.std.specs.Prelude.{◌≡◌, IfOk, OnOk, OnErr, Some};
+ghost use Rattle.std.specs.Result.{IfErr};
+ghost use Rattle.avro_file.specs.FileFault.{FileFault};
+ghost use Rattle.avro_file.specs.FileSeen.{file_fault};
+ghost use Rattle.avro_container.specs.Copying.{CopiesFile, CopiesFront, CopiesUpTo};
+ghost use Rattle.avro_container.specs.TaskSeen.{job_from};
+ghost use Rattle.avro_tool.specs.DefaultLimits.{default_limits};
+
 use crate::Finding;
 use crate::failure::Failure;
 use crate::files::container::{open_container, open_watched, tell_counts};
@@ -62,17 +70,41 @@ fn copy_from<'a, R: Files + AllocGlobal, I: Input>(
     reader: Option<&ReaderText>,
 ) -> Result<Counts, Failure<'a>> {
     let mut file = LateFile::new(rt, asked.output);
-    let copied = copy(
+    let copied = copy_into(
         rt.alloc(),
         source,
         &mut WriteOutput::new(&mut file),
+        asked,
         reader,
-        asked.sync,
-        &FileLimits::default(),
     );
     match copied {
         Ok(counts) => Ok(counts),
         Err(CopyError::OutputFailed) => Err(file.failure()),
         Err(error) => Err(Failure::of_container(asked.source, error)),
     }
+}
+
+/// Copies a container into an output, with the marker that is asked for.
+fn copy_into<I: Input, O: Output>(
+    alloc: Global,
+    input: &mut I,
+    output: &mut O,
+    asked: &Copying<'_>,
+    reader: Option<&ReaderText>,
+) -> Result<Counts, CopyError>
+    ensures whole { IfOk result (λ counts. CopiesFile I.gives O.keeps input.old input.new output.old output.new
+        (job_from reader.entry asked.now.sync) default_limits (I.ended input.new) counts.items counts.blocks) }
+    ensures flushed { OnOk result (O.flushed output.new) }
+    ensures front { OnErr result (CopiesFront I.gives O.keeps input.old input.new output.old output.new (job_from reader.entry asked.now.sync) default_limits) }
+    ensures fault { IfErr result (λ e. (f : FileFault) → file_fault e ≡ Some f
+        → CopiesUpTo I.gives O.keeps input.old input.new output.old output.new (job_from reader.entry asked.now.sync) default_limits (I.ended input.new) f) }
+{
+    copy(
+        alloc,
+        input,
+        output,
+        reader,
+        asked.sync,
+        &FileLimits::default(),
+    )
 }

@@ -2,11 +2,13 @@ ghost use Rattle.std.specs.Prelude.{◌≡◌, ◌≤◌, ℕ, List, [], ◌∷�
 ghost use Rattle.avro_schema.specs.SeenSchema.{schema_nodes};
 ghost use Rattle.avro_judge.specs.Answered.{IfApproved};
 ghost use Rattle.avro_judge.specs.Headline.{IsRight};
-ghost use Rattle.avro_history.specs.ConfirmedHistory.{nodes_of_all};
+ghost use Rattle.avro_history.specs.ConfirmedHistory.{are_closed, nodes_of_all};
+ghost use Rattle.avro_history.specs.SeenHistory.{sets_of};
 ghost use Rattle.avro_answer.specs.HistoryAnswer.{LineAnswer};
 ghost use Rattle.avro_answer.specs.JsonAnswer.{IsHistoryLine};
 ghost use Rattle.avro_answer.specs.JudgeAnswer.{StatusAnswer};
 ghost use Rattle.avro_answer.specs.declared.form.Form.{Form};
+ghost use Rattle.avro_tool.specs.ConfirmedHistories.{TellsConfirmed};
 ghost use Rattle.avro_tool.specs.FailsOnlyFor.{FailsOnlyFor};
 ghost use Rattle.avro_tool.specs.EachAnswer.{later_of, EachAnswer};
 ghost use Rattle.avro_tool.specs.FailureText.{IsPutFailure};
@@ -102,8 +104,23 @@ fn confirm_given<'a, T: Texts, O: Output>(
     out: &mut O,
 ) -> Result<Finding, Failure<'a>> {
     let certificates = read_history_file(texts, word)?;
-    let is_confirmed = are_confirmed(texts.alloc(), earlier, last, &certificates)?;
-    tell_confirmed(texts.alloc(), is_confirmed, form, out)
+    confirm_by(texts.alloc(), &certificates, form, earlier, last, out)
+}
+
+/// Prints whether certificates confirm schemas with the last one.
+fn confirm_by<'a, O: Output>(
+    alloc: Global,
+    certificates: &HistoryCert,
+    form: Form,
+    earlier: &[Schema],
+    last: &Schema,
+    out: &mut O,
+) -> Result<Finding, Failure<'a>>
+    ensures answered { IfOk result (λ f. (text : List ℕ)
+        × TellsConfirmed (are_closed (nodes_of_all earlier.now) (schema_nodes last.now) (sets_of certificates.now)) form text (finding_status f) × O.keeps out.old text out.new) }
+{
+    let is_confirmed = are_confirmed(alloc, earlier, last, certificates)?;
+    tell_confirmed(alloc, is_confirmed, form, out)
 }
 
 /// Whether certificates confirm schemas with the last one.
@@ -112,7 +129,9 @@ fn are_confirmed(
     earlier: &[Schema],
     last: &Schema,
     certificates: &HistoryCert,
-) -> Result<bool, Memory> {
+) -> Result<bool, Memory>
+    ensures { IfOk result (λ b. b ≡ are_closed (nodes_of_all earlier.now) (schema_nodes last.now) (sets_of certificates.now)) }
+{
     Ok(confirm_history(alloc, earlier, last, certificates)?.is_some())
 }
 
@@ -123,6 +142,7 @@ fn tell_confirmed<'a, O: Output>(
     form: Form,
     out: &mut O,
 ) -> Result<Finding, Failure<'a>>
+    ensures answered { IfOk result (λ f. (text : List ℕ) × TellsConfirmed is_confirmed form text (finding_status f) × O.keeps out.old text out.new) }
     ensures fails { FailsOnlyFor IsPutFailure O.failures O.stuck out.old out.new result }
 {
     let answer = answer_confirmed(alloc, is_confirmed, form)?;
