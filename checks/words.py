@@ -29,10 +29,9 @@ NONE = ""
 
 CONSTANT = re.compile(r"^(?:const|static) (\w+): [^=]*=\s(.*?);$", re.MULTILINE | re.DOTALL)
 # An argument or a command where it is written, or the name of the constant that has it.
-ARGUMENT = re.compile(r'\(\s*"([\w-]+)",\s*Takes::(\w+)(?:\((?:&\w+, )?"([^"]*)"\))?,\s*"[^"]*",?\s*\)|\b([A-Z_]+)\b')
+TAKES = r'Takes::(\w+)(?:\(\s*"([^"]*)"(?:,\s*Choice::\w+(?:\([^()]*\))?)?,?\s*\))?'
+ARGUMENT = re.compile(rf'\(\s*"([\w-]+)",\s*{TAKES},\s*"[^"]*",?\s*\)|\b([A-Z_]+)\b')
 COMMAND = re.compile(r'\(\s*"(\w+)",\s*"([^"]*)",\s*&(\w+),?\s*\)|\b([A-Z_]+)\b')
-# What an option takes, and the name of its value.
-TAKEN = re.compile(r'Takes::(\w+)(?:\([\w, ]+\))? => option\(arg, id, "(\w+)"\)')
 
 
 def text_of(path):
@@ -60,7 +59,6 @@ class Source:
     def __init__(self, text):
         self.text = text
         self.items = dict(CONSTANT.findall(text))
-        self.values = dict(TAKEN.findall(text))
         known = len(re.findall(r"^(?:const|static) ", text, re.MULTILINE))
         if known != len(self.items):
             sys.exit(f"{GRAMMAR}: {len(self.items)} of {known} constants can be read")
@@ -92,10 +90,8 @@ class Source:
         for name, takes, word in self.arguments(item):
             if takes in ("Word", "Words"):
                 usage.arguments.append(f"{word}..." if takes == "Words" else word)
-            elif takes == "Nothing":
-                usage.options.append((name, None))
             else:
-                usage.options.append((name, word if takes == "Option" else self.values[takes]))
+                usage.options.append((name, word or None))
         return usage
 
 
