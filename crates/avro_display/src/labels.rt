@@ -1,4 +1,4 @@
-ghost use Rattle.std.specs.Prelude.{◌≡◌, IfOk, option_map, string_bytes, encode_utf8_all};
+ghost use Rattle.std.specs.Prelude.{◌≡◌, IfOk, option_map, string_bytes};
 ghost use Rattle.json.specs.Print.{token_text};
 ghost use Rattle.json.specs.Token.Token.{boolean};
 ghost use Rattle.avro_schema.specs.Fits.{is_null_node};
@@ -16,17 +16,6 @@ fn copy_of_text(alloc: Global, text: &str) -> Result<String, Memory>
     ensures { IfOk result (λ copy. string_bytes copy ≡ text.now) }
 {
     Ok(String::from_str(alloc, text)?)
-}
-
-/// A string with one character per byte, whose code point is the byte's value.
-pub(crate) fn bytes_text(alloc: Global, bytes: &[u8]) -> Result<String, Memory>
-    ensures { IfOk result (λ text. string_bytes text ≡ encode_utf8_all bytes.now) }
-{
-    let mut text = String::new(alloc);
-    for byte in bytes {
-        text.push(char::from(*byte))?;
-    }
-    Ok(text)
 }
 
 /// The text of a boolean.

@@ -10,6 +10,7 @@
 
 mod display;
 mod displayed;
+mod escapes;
 mod labels;
 mod member;
 mod members;

@@ -1,10 +1,10 @@
-ghost use Rattle.std.specs.Prelude.{◌≡◌, ◌++◌, ◌∷◌, [], OnErr, OnOk, encode_utf8_all, length, take};
+ghost use Rattle.std.specs.Prelude.{◌≡◌, ◌++◌, ◌∷◌, [], OnErr, OnOk, encode_utf8_all, length, string_bytes, take};
 ghost use Rattle.json.specs.Print.{quoted};
 ghost use Rattle.serde_json.specs.Find.{of_integer};
 ghost use Rattle.serde_json.specs.Written.{comma_if, number_text};
 ghost use Rattle.avro_display.specs.Table.{head_text};
 
-use crate::labels::bytes_text;
+use crate::escapes::is_plain;
 use itoa::Buffer;
 use json::Writer;
 use std::alloc::{AllocError, Global};
@@ -15,8 +15,10 @@ use std::mem::replace;
 #[derive(Drop)]
 pub struct Text {
     held: Vec<u8>,
-    // what the last quoted text was written to
+    // what the last text with escapes was written to
     quoted: Vec<u8>,
+    // the last text of one character per byte
+    characters: String,
 }
 
 impl Model for Text {
@@ -40,7 +42,12 @@ impl Text {
         ensures { result ≡ held.items }
     {
         let quoted = Vec::new(*held.allocator());
-        Text { held, quoted }
+        let characters = String::new(*held.allocator());
+        Text {
+            held,
+            quoted,
+            characters,
+        }
     }
 
     /// Its bytes.
@@ -112,18 +119,15 @@ impl Text {
     pub fn append_quoted(&mut self, string: &str) -> Result<(), AllocError>
         ensures { OnOk result (self.new ≡ self.old ++ quoted string.now) }
     {
-        write_quoted(&mut self.quoted, string)?;
-        self.held.extend_from_slice(&self.quoted)
+        append_string(&mut self.held, &mut self.quoted, string)
     }
 
     /// Appends bytes as a quoted text of one character per byte. No clause says what the text holds after an error.
     pub fn append_characters(&mut self, bytes: &[u8]) -> Result<(), AllocError>
         ensures { OnOk result (self.new ≡ self.old ++ quoted (encode_utf8_all bytes.now)) }
     {
-        let Ok(characters) = bytes_text(self.allocator(), bytes) else {
-            return Err(AllocError);
-        };
-        self.append_quoted(characters.as_str())
+        write_characters(&mut self.characters, bytes)?;
+        append_string(&mut self.held, &mut self.quoted, self.characters.as_str())
     }
 
     /// Appends a key and its colon. No clause says what the text holds after an error.
@@ -152,6 +156,38 @@ impl Text {
         self.append_comma(later)?;
         self.append_key(key)
     }
+}
+
+/// Appends a quoted text to bytes. The buffer is for one with escapes.
+fn append_string(held: &mut Vec<u8>, buffer: &mut Vec<u8>, string: &str) -> Result<(), AllocError>
+    ensures { OnOk result (held.new.items ≡ held.old.items ++ quoted string.now) }
+{
+    if is_plain(string.as_bytes()) {
+        return append_in_quotes(held, string.as_bytes());
+    }
+    write_quoted(buffer, string)?;
+    held.extend_from_slice(buffer)
+}
+
+/// Appends bytes in quotes to bytes.
+fn append_in_quotes(held: &mut Vec<u8>, bytes: &[u8]) -> Result<(), AllocError>
+    ensures { OnOk result (held.new.items ≡ held.old.items ++ 34 ∷ (bytes.now ++ 34 ∷ [])) }
+{
+    held.push(b'"')?;
+    held.extend_from_slice(bytes)?;
+    held.push(b'"')?;
+    Ok(())
+}
+
+/// Writes a text of one character per byte, whose code point is the byte's value, in the place of a text.
+fn write_characters(text: &mut String, bytes: &[u8]) -> Result<(), AllocError>
+    ensures { OnOk result (string_bytes text.new ≡ encode_utf8_all bytes.now) }
+{
+    text.clear();
+    for byte in bytes {
+        text.push(char::from(*byte))?;
+    }
+    Ok(())
 }
 
 /// Writes a quoted text in the place of some bytes.
