@@ -1,5 +1,5 @@
 -- Names by number: lists of numbers as they grow, and a number's place in one as that of its name.
-use Rattle.std.proofs.Common.{◌≡◌, ◌∙◌, ℕ, zero, suc, ◌+◌, ◌<◌, ◌==◌, Bool, true, false, cond, List, [], ◌∷◌, ◌++◌, length, Option, Some, refl, sym, ap, subst, arith}
+use Rattle.std.proofs.Common.{◌≡◌, ◌∙◌, ℕ, zero, suc, ◌+◌, ◌<◌, ◌==◌, Bool, true, false, cond, List, [], ◌∷◌, ◌++◌, length, Option, Some, None, refl, sym, ap, subst, arith}
 use Rattle.std.specs.Prelude.{String, string_bytes, option_map, slice_get, slice_index_or, bytes_eq, position, unwrap_or}
 use Rattle.std.specs.Global.{Vec}
 use Rattle.std.specs.List.{IsDistinct, position_from}
@@ -14,7 +14,7 @@ use Rattle.avro_schema.specs.Seen.{texts_of}
 use Rattle.avro_compare.specs.Resolve.{fields_at, symbol_at}
 use Rattle.avro_compare.specs.Source.{field_index, first_index, or_else}
 use Rattle.avro_compare.specs.inside.NameTables.{symbols_at}
-use Rattle.avro_compare.specs.inside.PartNumbers.{AreAliases, AreLists, AreNumbersOf, AreParts, Grows, HasList, IsNumberAt, KeepsLists, Lists, first_number, first_of, names_of}
+use Rattle.avro_compare.specs.inside.PartNumbers.{aliases_at, AreAliases, AreLists, AreNumbersOf, AreParts, Grows, HasList, HasOwn, IsItemAt, KeepsLists, Lists, first_number, first_of, names_of}
 use Rattle.avro_compare.specs.declared.part_numbers.NodeParts.{NodeParts}
 use Rattle.avro_compare.proofs.Named.{symbol_text}
 use Rattle.avro_compare.proofs.public.Planning.{Holds, holds_push, same_some}
@@ -54,17 +54,21 @@ module _ (T U : List (List ℕ)) (g : Grows T U) where
     pub list_kept : (id : ℕ) (names : List (List ℕ)) → HasList T L id names → HasList U M id names
     list_kept id names h = record { list = h.list; there = f id h.list h.there; are = numbers_kept names h.list.items h.are }
 
-    pub lists_kept : (names : ℕ → List (List ℕ)) (ids : List ℕ) → AreLists T L names ids → AreLists U M names ids
-    lists_kept names ids h = λ k id got. list_kept id (names k) (h k id got)
+    pub own_kept : (id : Option ℕ) (names : List (List ℕ)) → HasOwn T L id names → HasOwn U M id names
+    own_kept None names h = h
+    own_kept (Some id) names h = list_kept id names h
 
-    pub aliases_kept : (nodes : List Node) (all : List (Vec ℕ)) → AreAliases T L nodes all → AreAliases U M nodes all
-    aliases_kept nodes all h = λ k ids got j id is. list_kept id _ (h k ids got j id is)
+    pub lists_kept : (names : ℕ → List (List ℕ)) (ids : List (Option ℕ)) → AreLists T L names ids → AreLists U M names ids
+    lists_kept names ids h = λ k id got. own_kept id (names k) (h k id got)
 
-    pub parts_kept : (N O : Lists) → KeepsLists N O → (nodes : List Node) (all : List NodeParts) → AreParts T L N nodes all → AreParts U M O nodes all
-    parts_kept N O s nodes all h = λ k parts got. let has = h k parts got in (list_kept parts.fields _ has.0, other N O s parts.symbols _ has.1)
-      where
-        other : (N O : Lists) → KeepsLists N O → (id : ℕ) (names : List (List ℕ)) → HasList T N id names → HasList U O id names
-        other N O s id names h = record { list = h.list; there = s id h.list h.there; are = numbers_kept names h.list.items h.are }
+    pub aliases_kept : (nodes : List Node) (all : List (Vec (Option ℕ))) → AreAliases T L nodes all → AreAliases U M nodes all
+    aliases_kept nodes all h = λ k ids got j id is. own_kept id (aliases_at (fields_at (node_at nodes k)) j) (h k ids got j id is)
+
+  pub parts_kept : (L M : Lists) → KeepsLists L M → (N O : Lists) → KeepsLists N O → (nodes : List Node) (all : List NodeParts) → AreParts T L N nodes all → AreParts U M O nodes all
+  parts_kept L M f N O s nodes all h = λ k parts got.
+      let has = h k parts got in
+      let n = node_at nodes k in
+      (own_kept L M f parts.fields (names_of (fields_at n)) has.0, own_kept N O s parts.symbols (symbols_at n) has.1)
 
 -- ---- The numbers of some names, as one is added
 
@@ -91,6 +95,10 @@ name_there (g ∷ fs) (suc i) f e = name_there fs i f e
 pub names_count : (fields : List FieldNode) → length (names_of fields) ≡ length fields
 names_count [] = refl
 names_count (f ∷ fs) = ap suc (names_count fs)
+
+pub none_where : (names : List (List ℕ)) (n : ℕ) → length names ≡ n → n ≡ 0 → names ≡ []
+none_where [] n e z = refl
+none_where (t ∷ ts) n e z = absurd (omega (arith, e, z))
 
 -- ---- A number's place is that of its name
 
@@ -146,7 +154,7 @@ none_distinct = tt
 
 -- ---- Numbers that are found
 
-pub number_of_list : (T : List (List ℕ)) (L : Lists) (id index n : ℕ) (names : List (List ℕ)) → HasList T L id names → IsNumberAt L id index n → (t : List ℕ) → slice_get names index ≡ Some t
+pub number_of_list : (T : List (List ℕ)) (L : Lists) (id index n : ℕ) (names : List (List ℕ)) → HasList T L id names → IsItemAt L id index n → (t : List ℕ) → slice_get names index ≡ Some t
     → slice_get T n ≡ Some t
 number_of_list T L id index n names has at t is =
     has.are.0 index n (subst (λ (v : Vec ℕ). slice_get v.items index ≡ Some n) (same_some at.there has.there) at.is) t is
@@ -156,13 +164,13 @@ got_there [] k low = absurd (omega (arith, low))
 got_there (x ∷ xs) zero low = refl
 got_there (x ∷ xs) (suc k) low = got_there xs k (omega (arith, low))
 
-pub number_of_symbol : (T : List (List ℕ)) (L : Lists) (id index n : ℕ) (w : Node) → HasList T L id (symbols_at w) → IsNumberAt L id index n → slice_get T n ≡ Some (symbol_at w index)
+pub number_of_symbol : (T : List (List ℕ)) (L : Lists) (id index n : ℕ) (w : Node) → HasList T L id (symbols_at w) → IsItemAt L id index n → slice_get T n ≡ Some (symbol_at w index)
 number_of_symbol T L id index n w has at =
     let low = got_low has.list.items n index (subst (λ (v : Vec ℕ). slice_get v.items index ≡ Some n) (same_some at.there has.there) at.is) in
     number_of_list T L id index n (symbols_at w) has at (symbol_at w index)
     (got_there (symbols_at w) index (omega (arith, low, has.are.1)) ∙ ap (λ (t : List ℕ). Some t) (sym (symbol_text w index (symbols_at w) refl)))
 
-pub aliases_of_field : (T : List (List ℕ)) (L : Lists) (nodes : List Node) (all : List (Vec ℕ)) (r index id : ℕ) (f : FieldNode) → AreAliases T L nodes all → IsNumberAt all r index id
-    → slice_get (fields_at (node_at nodes r)) index ≡ Some f → HasList T L id f.aliases
+pub aliases_of_field : (T : List (List ℕ)) (L : Lists) (nodes : List Node) (all : List (Vec (Option ℕ))) (r index : ℕ) (id : Option ℕ) (f : FieldNode) → AreAliases T L nodes all → IsItemAt all r index id
+    → slice_get (fields_at (node_at nodes r)) index ≡ Some f → HasOwn T L id f.aliases
 aliases_of_field T L nodes all r index id f are at is =
-    subst (λ (names : List (List ℕ)). HasList T L id names) (ap (λ (o : Option FieldNode). unwrap_or (option_map (λ (g : FieldNode). g.aliases) o) []) is) (are r at.list at.there index id at.is)
+    subst (λ (names : List (List ℕ)). HasOwn T L id names) (ap (λ (o : Option FieldNode). unwrap_or (option_map (λ (g : FieldNode). g.aliases) o) []) is) (are r at.list at.there index id at.is)

@@ -76,38 +76,51 @@ pub fn leads(alloc: Global, names: &Names, pair: &Comparison) -> Result<Vec<Lead
     requires { IsComparison (schema_nodes names.now.0) (schema_nodes names.now.1) pair.now }
     ensures { IfOk result (λ found. found.items ≡ leads_at (schema_nodes names.now.0) (schema_nodes names.now.1) pair.now.w.0 pair.now.r.0) }
 {
+    let mut found = Vec::new(alloc);
+    add_leads(names, pair, &mut found)?;
+    Ok(found)
+}
+
+/// Adds the pairs that a pair of nodes leads to, each with its step.
+///
+/// # Errors
+///
+/// Memory ran out.
+pub fn add_leads(names: &Names, pair: &Comparison, found: &mut Vec<Lead>) -> Result<(), Memory>
+    requires { IsComparison (schema_nodes names.now.0) (schema_nodes names.now.1) pair.now }
+    ensures { OnOk result (found.new.items ≡ found.old.items ++ leads_at (schema_nodes names.now.0) (schema_nodes names.now.1) pair.now.w.0 pair.now.r.0) }
+{
     let n = names.writer().get(pair.w);
     let q = names.reader().get(pair.r);
-    leads_of_nodes(alloc, names, n, q, pair)
+    add_of_nodes(names, n, q, pair, found)
 }
 
 /// The same, given the two nodes.
-fn leads_of_nodes(
-    alloc: Global,
+fn add_of_nodes(
     names: &Names,
     n: &Node,
     q: &Node,
     pair: &Comparison,
-) -> Result<Vec<Lead>, Memory>
+    found: &mut Vec<Lead>,
+) -> Result<(), Memory>
     requires pair { IsComparison (schema_nodes names.now.0) (schema_nodes names.now.1) pair.now }
     requires from { node_of n.now ≡ node_at (schema_nodes names.now.0) pair.now.w.0 }
     requires to { node_of q.now ≡ node_at (schema_nodes names.now.1) pair.now.r.0 }
-    ensures { IfOk result (λ found. found.items ≡ leads_of (schema_nodes names.now.0) (schema_nodes names.now.1) pair.now.w.0 pair.now.r.0 (node_of n.now) (node_of q.now)) }
+    ensures { OnOk result (found.new.items ≡ found.old.items ++ leads_of (schema_nodes names.now.0) (schema_nodes names.now.1) pair.now.w.0 pair.now.r.0 (node_of n.now) (node_of q.now)) }
 {
     match n {
-        Node::Union(ids) => branch_leads(alloc, ids, pair.r),
+        Node::Union(ids) => add_branches(ids, pair.r, found),
         _ => match q {
-            Node::Union(_) => choice_leads(alloc, pair.w, pair.target),
-            _ => leads_inside(alloc, names, n, q, pair),
+            Node::Union(_) => add_choice(pair.w, pair.target, found),
+            _ => add_inside(names, n, q, pair, found),
         },
     }
 }
 
 /// The branches of a writer's union.
-fn branch_leads(alloc: Global, ids: &[NodeId], r: NodeId) -> Result<Vec<Lead>, Memory>
-    ensures { IfOk result (λ found. found.items ≡ branch_leads 0 r.0 (ids_of ids.now)) }
+fn add_branches(ids: &[NodeId], r: NodeId, found: &mut Vec<Lead>) -> Result<(), Memory>
+    ensures { OnOk result (found.new.items ≡ found.old.items ++ branch_leads 0 r.0 (ids_of ids.now)) }
 {
-    let mut found = Vec::with_capacity(alloc, ids.len())?;
     for index in 0..ids.len() {
         found.push(Lead {
             step: Step::Branch(index),
@@ -115,84 +128,82 @@ fn branch_leads(alloc: Global, ids: &[NodeId], r: NodeId) -> Result<Vec<Lead>, M
             r,
         })?;
     }
-    Ok(found)
+    Ok(())
 }
 
 /// The branch of a reader's union that matches, if there is one.
-fn choice_leads(alloc: Global, w: NodeId, target: Target) -> Result<Vec<Lead>, Memory>
-    ensures { IfOk result (λ found. found.items ≡ led_by w.0 target) }
+fn add_choice(w: NodeId, target: Target, found: &mut Vec<Lead>) -> Result<(), Memory>
+    ensures { OnOk result (found.new.items ≡ found.old.items ++ led_by w.0 target) }
 {
     match target {
-        Target::To(Some(branch), node) => one_lead(alloc, Step::Choice(branch as usize), w, node),
-        Target::To(None, _) => Ok(Vec::new(alloc)),
-        Target::Fault(_) => Ok(Vec::new(alloc)),
+        Target::To(Some(branch), node) => add_one(Step::Choice(branch as usize), w, node, found),
+        Target::To(None, _) => Ok(()),
+        Target::Fault(_) => Ok(()),
     }
 }
 
 /// One step.
-fn one_lead(alloc: Global, step: Step, w: NodeId, r: NodeId) -> Result<Vec<Lead>, Memory>
-    ensures { IfOk result (λ found. found.items ≡ record { step = step; w = w; r = r } ∷ []) }
+fn add_one(step: Step, w: NodeId, r: NodeId, found: &mut Vec<Lead>) -> Result<(), Memory>
+    ensures { OnOk result (found.new.items ≡ found.old.items ++ record { step = step; w = w; r = r } ∷ []) }
 {
-    let mut found = Vec::new(alloc);
     found.push(Lead { step, w, r })?;
-    Ok(found)
+    Ok(())
 }
 
 /// The parts of two nodes that are no unions.
-fn leads_inside(
-    alloc: Global,
+fn add_inside(
     names: &Names,
     n: &Node,
     q: &Node,
     pair: &Comparison,
-) -> Result<Vec<Lead>, Memory>
+    found: &mut Vec<Lead>,
+) -> Result<(), Memory>
     requires pair { IsComparison (schema_nodes names.now.0) (schema_nodes names.now.1) pair.now }
     requires from { node_of n.now ≡ node_at (schema_nodes names.now.0) pair.now.w.0 }
     requires to { node_of q.now ≡ node_at (schema_nodes names.now.1) pair.now.r.0 }
-    ensures { IfOk result (λ found. found.items ≡ leads_inside (node_of n.now) (node_of q.now)) }
+    ensures { OnOk result (found.new.items ≡ found.old.items ++ leads_inside (node_of n.now) (node_of q.now)) }
 {
     match n {
         Node::Array(a) => match q {
-            Node::Array(b) => one_lead(alloc, Step::Items, *a, *b),
-            _ => Ok(Vec::new(alloc)),
+            Node::Array(b) => add_one(Step::Items, *a, *b, found),
+            _ => Ok(()),
         },
         Node::Map(a) => match q {
-            Node::Map(b) => one_lead(alloc, Step::Values, *a, *b),
-            _ => Ok(Vec::new(alloc)),
+            Node::Map(b) => add_one(Step::Values, *a, *b, found),
+            _ => Ok(()),
         },
         Node::Record(a) => match q {
-            Node::Record(b) => field_leads(alloc, names, &a.fields, &b.fields, pair),
-            _ => Ok(Vec::new(alloc)),
+            Node::Record(b) => add_fields(names, &a.fields, &b.fields, pair, found),
+            _ => Ok(()),
         },
-        _ => Ok(Vec::new(alloc)),
+        _ => Ok(()),
     }
 }
 
 /// The reader's fields that have a source.
-fn field_leads(
-    alloc: Global,
+fn add_fields(
     names: &Names,
     fields: &[Field],
     theirs: &[Field],
     pair: &Comparison,
-) -> Result<Vec<Lead>, Memory>
+    found: &mut Vec<Lead>,
+) -> Result<(), Memory>
     requires pair { IsComparison (schema_nodes names.now.0) (schema_nodes names.now.1) pair.now }
     requires from { seen_fields fields.now ≡ fields_at (node_at (schema_nodes names.now.0) pair.now.w.0) }
     requires to { seen_fields theirs.now ≡ fields_at (node_at (schema_nodes names.now.1) pair.now.r.0) }
-    ensures { IfOk result (λ found. found.items ≡ field_leads 0 (seen_fields fields.now) (seen_fields theirs.now)) }
+    ensures { OnOk result (found.new.items ≡ found.old.items ++ field_leads 0 (seen_fields fields.now) (seen_fields theirs.now)) }
 {
-    let mut found = Vec::new(alloc);
     if fields.len() == 0 {
-        return Ok(found);
+        return Ok(());
     }
     let mut left: &[(usize, usize)] = &pair.sources;
     for index in 0..theirs.len() {
         let field = &theirs[index];
         let source = source_by(names, pair, left, index, field);
         left = rest_entries(left, index);
-        add_field(&mut found, fields, source, field, index)?;
+        add_field(found, fields, source, field, index)?;
     }
-    Ok(found)
+    Ok(())
 }
 
 /// The source of the reader's field at an index, by what is kept of the pair from that index on, or else by name.

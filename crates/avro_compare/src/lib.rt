@@ -21,13 +21,14 @@ mod names;
 mod pairs;
 mod part_finding;
 mod part_numbers;
+mod place;
 mod reader_types;
 mod seed;
 mod sourcing;
 mod symbols;
 mod type_names;
 
-pub use children::{has_fault, leads};
+pub use children::{add_leads, has_fault, leads};
 pub use comparing::{compare, compare_all};
 pub use comparison::{At, Comparison, Lead, Step, Target};
 pub use entries::{first_entry, rest_entries};

@@ -6,11 +6,13 @@ ghost use Rattle.avro_schema.specs.Node.{FieldNode, Node as SeenNode, node_at};
 ghost use Rattle.avro_compare.specs.Resolve.{fields_at, symbol_at};
 ghost use Rattle.avro_compare.specs.Source.{first_index, source_of, or_else};
 ghost use Rattle.avro_compare.specs.inside.NameTables.{symbols_at};
-ghost use Rattle.avro_compare.specs.inside.PartNumbers.{ArePartLists, HasField, HasSymbol, IsNumberAt, IsTabled, FindsAll, FindsIn, Place, first_number, first_of, same_place};
+ghost use Rattle.avro_compare.specs.inside.PartNumbers.{ArePartLists, HasField, HasList, HasSymbol, IsItemAt, IsTabled, names_of, FindsAll, FindsIn, first_number, first_of, same_place};
+ghost use Rattle.avro_compare.specs.declared.place.Place.{Place};
 ghost use Rattle.indexmap.specs.IndexMap.{get};
 ghost use Rattle.avro_compare.specs.inside.Nearer.{field_in, nearer};
 
 use crate::part_numbers::{FieldNumbers, NodeParts, PartNumbers, SymbolNumbers};
+use crate::place::Place;
 use avro_schema::NodeId;
 use avro_texts::Seeded;
 use indexmap::IndexMap;
@@ -25,11 +27,20 @@ fn parts_at(all: &[NodeParts], id: NodeId) -> Option<NodeParts>
 
 /// The number at an index of a list.
 fn number_at(lists: &[Vec<u32>], id: u32, index: usize) -> Option<u32>
-    ensures { IfSome result (λ number. IsNumberAt lists.now id index number) }
+    ensures { IfSome result (λ number. IsItemAt lists.now id index number) }
 {
     let list = lists.get(id as usize)?;
     let number = list.get(index)?;
     Some(*number)
+}
+
+/// The list of the aliases of the field at an index of a node.
+fn aliases_at(all: &[Vec<Option<u32>>], r: NodeId, index: usize) -> Option<Option<u32>>
+    ensures { IfSome result (λ aliases. IsItemAt all.now r.0 index aliases) }
+{
+    let lists = all.get(r.0 as usize)?;
+    let aliases = lists.get(index)?;
+    Some(*aliases)
 }
 
 /// The list of an index.
@@ -54,10 +65,12 @@ pub(crate) fn field_numbers_at(
 {
     let writes = parts_at(&numbers.writes, w)?;
     let reads = parts_at(&numbers.reads, r)?;
-    let name = number_at(&numbers.plain, reads.fields, index)?;
-    let aliases = number_at(&numbers.aliases, r.0, index)?;
+    let fields = writes.fields?;
+    let own = reads.fields?;
+    let name = number_at(&numbers.plain, own, index)?;
+    let aliases = aliases_at(&numbers.aliases, r, index)?;
     Some(FieldNumbers {
-        fields: writes.fields,
+        fields,
         name,
         aliases,
     })
@@ -69,21 +82,25 @@ pub(crate) fn source_by_numbers(numbers: &PartNumbers, found: FieldNumbers) -> O
 {
     match place(&numbers.places, found.fields, found.name) {
         Some(index) => Some(index),
-        None => source_by_aliases(numbers, found),
+        None => match found.aliases {
+            Some(aliases) => source_by_aliases(numbers, found.fields, aliases),
+            None => None,
+        },
     }
 }
 
-/// The same by the aliases of the field alone. There is a step for each of them, or for each of the writer's fields if
-/// those are fewer.
-fn source_by_aliases(numbers: &PartNumbers, found: FieldNumbers) -> Option<usize>
-    ensures { (writes : List FieldNode) (field : FieldNode) → IsTabled numbers.now → HasField numbers.now writes field found → result ≡ first_index writes field.aliases }
+/// The same by a list of aliases alone. There is a step for each of them, or for each of the writer's fields if those are
+/// fewer.
+fn source_by_aliases(numbers: &PartNumbers, fields: u32, aliases: u32) -> Option<usize>
+    ensures { (writes : List FieldNode) (names : List (List ℕ)) → IsTabled numbers.now → HasList numbers.now.texts numbers.now.tabled.items fields (names_of writes)
+        → HasList numbers.now.texts numbers.now.tabled.items aliases names → result ≡ first_index writes names }
 {
-    let fields = list_at(&numbers.tabled, found.fields);
-    let aliases = list_at(&numbers.tabled, found.aliases);
-    if fields.len() < aliases.len() {
-        first_among(&numbers.places, found.aliases, fields)
+    let writes = list_at(&numbers.tabled, fields);
+    let names = list_at(&numbers.tabled, aliases);
+    if writes.len() < names.len() {
+        first_among(&numbers.places, aliases, writes)
     } else {
-        first_named(&numbers.places, found.fields, aliases)
+        first_named(&numbers.places, fields, names)
     }
 }
 
@@ -99,11 +116,10 @@ pub(crate) fn symbol_numbers_at(
 {
     let writes = parts_at(&numbers.writes, w)?;
     let reads = parts_at(&numbers.reads, q)?;
-    let symbol = number_at(&numbers.plain, writes.symbols, index)?;
-    Some(SymbolNumbers {
-        symbols: reads.symbols,
-        symbol,
-    })
+    let own = writes.symbols?;
+    let symbols = reads.symbols?;
+    let symbol = number_at(&numbers.plain, own, index)?;
+    Some(SymbolNumbers { symbols, symbol })
 }
 
 /// The numbers by which a symbol is found in a reader's enum, if its text has one.
@@ -116,11 +132,9 @@ pub(crate) fn symbol_numbers_of(
         → HasSymbol numbers.now (symbols_at (node_at reader q.0)) symbol.now found) }
 {
     let reads = parts_at(&numbers.reads, q)?;
+    let symbols = reads.symbols?;
     let symbol = numbers.texts.number(symbol)?;
-    Some(SymbolNumbers {
-        symbols: reads.symbols,
-        symbol,
-    })
+    Some(SymbolNumbers { symbols, symbol })
 }
 
 /// The first index of a symbol among the reader's, by number.
@@ -135,10 +149,10 @@ pub(crate) fn places_of(
     alloc: Global,
     seed: Seeded,
     lists: &[Vec<u32>],
-) -> Result<IndexMap<(u32, u32), usize, Seeded>, AllocError>
+) -> Result<IndexMap<Place, usize, Seeded>, AllocError>
     ensures { IfOk result (λ places. FindsAll places lists.now) }
 {
-    let mut places: IndexMap<(u32, u32), usize, Seeded> = IndexMap::with_hasher(alloc, seed);
+    let mut places: IndexMap<Place, usize, Seeded> = IndexMap::with_hasher(alloc, seed);
     for index in 0..lists.len() {
         let id = index_number(index)?;
         add_places(&mut places, id, &lists[index])?;
@@ -158,34 +172,34 @@ pub(crate) fn index_number(index: usize) -> Result<u32, AllocError>
 
 /// Adds those of a list. Numbers are gone through from the last, so that the first index of one is kept.
 fn add_places(
-    places: &mut IndexMap<(u32, u32), usize, Seeded>,
+    places: &mut IndexMap<Place, usize, Seeded>,
     id: u32,
     list: &[u32],
 ) -> Result<(), AllocError>
-    ensures { OnOk result ((key : Place) → get same_place places.new key ≡ or_else (cond (id == key.0) (first_of list.now key.1) None) (get same_place places.old key)) }
+    ensures { OnOk result ((key : Place) → get same_place places.new key ≡ or_else (cond (id == key.list) (first_of list.now key.number) None) (get same_place places.old key)) }
 {
     let mut left = list.len();
     while left > 0 {
         left -= 1;
-        places.insert((id, list[left]), left)?;
+        let key = Place {
+            list: id,
+            number: list[left],
+        };
+        places.insert(key, left)?;
     }
     Ok(())
 }
 
 /// The first index of a number in a list.
-pub(crate) fn place(
-    places: &IndexMap<(u32, u32), usize, Seeded>,
-    id: u32,
-    number: u32,
-) -> Option<usize>
-    ensures { result ≡ get same_place places.now (id, number) }
+pub(crate) fn place(places: &IndexMap<Place, usize, Seeded>, id: u32, number: u32) -> Option<usize>
+    ensures { result ≡ get same_place places.now (record { list = id; number = number }) }
 {
-    places.get(&(id, number)).copied()
+    places.get(&Place { list: id, number }).copied()
 }
 
 /// The index in a list of the first of some numbers that it has.
 pub(crate) fn first_named(
-    places: &IndexMap<(u32, u32), usize, Seeded>,
+    places: &IndexMap<Place, usize, Seeded>,
     id: u32,
     numbers: &[u32],
 ) -> Option<usize>
@@ -203,7 +217,7 @@ pub(crate) fn first_named(
 /// The same, where the numbers have places, and the list is gone through from the last, so that the first of two of one
 /// number is kept.
 pub(crate) fn first_among(
-    places: &IndexMap<(u32, u32), usize, Seeded>,
+    places: &IndexMap<Place, usize, Seeded>,
     id: u32,
     list: &[u32],
 ) -> Option<usize>

@@ -4,9 +4,10 @@ ghost use Rattle.std.specs.Prelude.{◌≡◌, Some, IfOk, OnOk, slice_get, List
 ghost use Rattle.avro_schema.specs.Node.{node_at, Node};
 ghost use Rattle.avro_schema.specs.Seen.{seen_fields, texts_of};
 ghost use Rattle.avro_schema.specs.SeenSchema.{schema_nodes};
-ghost use Rattle.avro_compare.specs.inside.PartNumbers.{AreAliases, AreLists, AreNumbersOf, AreParts, Grows, HasList, HasParts, KeepsLists, aliases_at, names_of, ArePartLists, ArePartNumbers};
+ghost use Rattle.avro_compare.specs.inside.PartNumbers.{AreAliases, AreLists, AreNumbersOf, AreParts, Grows, HasOwn, HasParts, KeepsLists, aliases_at, names_of, ArePartLists, ArePartNumbers};
 
 use crate::part_finding::{index_number, places_of};
+use crate::place::Place;
 use crate::sourcing::fields_of;
 use crate::symbols::symbols_of;
 use avro_schema::{Field, NodeId, Schema};
@@ -14,11 +15,11 @@ use avro_texts::{Seeded, Texts};
 use indexmap::IndexMap;
 use std::alloc::{AllocError, Global};
 
-/// The lists of the names of a node's fields and of its symbols, by their indices.
+/// The lists of the names of a node's fields and of its symbols, by their indices. Where there are none, there is no list.
 #[derive(Clone, Copy)]
 pub(crate) struct NodeParts {
-    pub fields: u32,
-    pub symbols: u32,
+    pub fields: Option<u32>,
+    pub symbols: Option<u32>,
 }
 
 /// The names of the fields and symbols of two schemas, and the aliases of the reader's fields, each text once, and lists
@@ -31,22 +32,22 @@ pub(crate) struct PartNumbers<'a> {
     // The lists that are searched, of the writer's fields and the reader's symbols and aliases, and the first index of
     // each of their numbers.
     pub tabled: Vec<Vec<u32>>,
-    pub places: IndexMap<(u32, u32), usize, Seeded>,
+    pub places: IndexMap<Place, usize, Seeded>,
     // The lists that are only read, of the writer's symbols and the reader's fields.
     pub plain: Vec<Vec<u32>>,
     // By nodes, and by the fields of the reader's.
     pub writes: Vec<NodeParts>,
     pub reads: Vec<NodeParts>,
-    pub aliases: Vec<Vec<u32>>,
+    pub aliases: Vec<Vec<Option<u32>>>,
 }
 
 /// The numbers by which the source of a reader's field is found: the lists of the writer's fields and of its aliases, by
-/// their indices, and the number of its name.
+/// their indices, and the number of its name. Where it has no alias, there is no list of them.
 #[derive(Clone, Copy)]
 pub(crate) struct FieldNumbers {
     pub fields: u32,
     pub name: u32,
-    pub aliases: u32,
+    pub aliases: Option<u32>,
 }
 
 /// The numbers by which the reader's symbol for a writer's is found: the list of the reader's symbols, by its index, and
@@ -101,36 +102,42 @@ fn add_list(lists: &mut Vec<Vec<u32>>, list: Vec<u32>) -> Result<u32, AllocError
     Ok(id)
 }
 
-/// Adds the list of some texts.
+/// Adds the list of some texts, if there are any.
 fn list_texts<'a>(
     alloc: Global,
     texts: &mut Texts<'a>,
     lists: &mut Vec<Vec<u32>>,
     names: &'a [String],
-) -> Result<u32, AllocError>
-    ensures has { IfOk result (λ id. HasList texts.new lists.new.items id (texts_of names.now)) }
+) -> Result<Option<u32>, AllocError>
+    ensures has { IfOk result (λ id. HasOwn texts.new lists.new.items id (texts_of names.now)) }
     ensures grows { OnOk result (Grows texts.old texts.new) }
     ensures kept { OnOk result (KeepsLists lists.old.items lists.new.items) }
 {
+    if names.len() == 0 {
+        return Ok(None);
+    }
     let numbers = text_numbers(alloc, texts, names)?;
     let id = add_list(lists, numbers)?;
-    Ok(id)
+    Ok(Some(id))
 }
 
-/// Adds the list of the names of some fields.
+/// Adds the list of the names of some fields, if there are any.
 fn list_fields<'a>(
     alloc: Global,
     texts: &mut Texts<'a>,
     lists: &mut Vec<Vec<u32>>,
     fields: &'a [Field],
-) -> Result<u32, AllocError>
-    ensures has { IfOk result (λ id. HasList texts.new lists.new.items id (names_of (seen_fields fields.now))) }
+) -> Result<Option<u32>, AllocError>
+    ensures has { IfOk result (λ id. HasOwn texts.new lists.new.items id (names_of (seen_fields fields.now))) }
     ensures grows { OnOk result (Grows texts.old texts.new) }
     ensures kept { OnOk result (KeepsLists lists.old.items lists.new.items) }
 {
+    if fields.len() == 0 {
+        return Ok(None);
+    }
     let numbers = field_numbers(alloc, texts, fields)?;
     let id = add_list(lists, numbers)?;
-    Ok(id)
+    Ok(Some(id))
 }
 
 /// Adds the lists of a node's fields and of its symbols, each to its own lists.
@@ -179,7 +186,7 @@ fn field_aliases<'a>(
     texts: &mut Texts<'a>,
     lists: &mut Vec<Vec<u32>>,
     fields: &'a [Field],
-) -> Result<Vec<u32>, AllocError>
+) -> Result<Vec<Option<u32>>, AllocError>
     ensures has { IfOk result (λ ids. AreLists texts.new lists.new.items (aliases_at (seen_fields fields.now)) ids.items) }
     ensures grows { OnOk result (Grows texts.old texts.new) }
     ensures kept { OnOk result (KeepsLists lists.old.items lists.new.items) }
@@ -197,7 +204,7 @@ pub(crate) fn schema_aliases<'a>(
     texts: &mut Texts<'a>,
     lists: &mut Vec<Vec<u32>>,
     schema: &'a Schema,
-) -> Result<Vec<Vec<u32>>, AllocError>
+) -> Result<Vec<Vec<Option<u32>>>, AllocError>
     ensures has { IfOk result (λ all. AreAliases texts.new lists.new.items (schema_nodes schema.now) all.items) }
     ensures grows { OnOk result (Grows texts.old texts.new) }
     ensures kept { OnOk result (KeepsLists lists.old.items lists.new.items) }

@@ -12,6 +12,7 @@ use Rattle.avro_compare.specs.declared.part_numbers.FieldNumbers.{FieldNumbers}
 use Rattle.avro_compare.specs.declared.part_numbers.NodeParts.{NodeParts}
 use Rattle.avro_compare.specs.declared.part_numbers.PartNumbers.{PartNumbers}
 use Rattle.avro_compare.specs.declared.part_numbers.SymbolNumbers.{SymbolNumbers}
+use Rattle.avro_compare.specs.declared.place.Place.{Place}
 
 -- the names of some fields, and the aliases of the one at an index
 abbrev pub names_of : List FieldNode → List (List ℕ)
@@ -43,20 +44,25 @@ pub record HasList (texts : List (List ℕ)) (lists : Lists) (index : ℕ) (name
   pub there : slice_get lists index ≡ Some list
   pub are : AreNumbersOf texts names list.items
 
+-- the same, where no names have no list
+abbrev pub HasOwn : List (List ℕ) → Lists → Option ℕ → List (List ℕ) → Type 0
+HasOwn texts lists None names = names ≡ []
+HasOwn texts lists (Some index) names = HasList texts lists index names
+
 -- each is the index of a list of the names at its own index
-abbrev pub AreLists : List (List ℕ) → Lists → (ℕ → List (List ℕ)) → List ℕ → Type 0
-AreLists texts lists names ids = (k id : ℕ) → slice_get ids k ≡ Some id → HasList texts lists id (names k)
+abbrev pub AreLists : List (List ℕ) → Lists → (ℕ → List (List ℕ)) → List (Option ℕ) → Type 0
+AreLists texts lists names ids = (k : ℕ) (id : Option ℕ) → slice_get ids k ≡ Some id → HasOwn texts lists id (names k)
 
 -- the lists of a node's fields and of its symbols
 abbrev pub HasParts : List (List ℕ) → Lists → Lists → Node → NodeParts → Type 0
-HasParts texts for_fields for_symbols n parts = HasList texts for_fields parts.fields (names_of (fields_at n)) × HasList texts for_symbols parts.symbols (symbols_at n)
+HasParts texts for_fields for_symbols n parts = HasOwn texts for_fields parts.fields (names_of (fields_at n)) × HasOwn texts for_symbols parts.symbols (symbols_at n)
 
 abbrev pub AreParts : List (List ℕ) → Lists → Lists → List Node → List NodeParts → Type 0
 AreParts texts for_fields for_symbols nodes all = (k : ℕ) (parts : NodeParts) → slice_get all k ≡ Some parts → HasParts texts for_fields for_symbols (node_at nodes k) parts
 
 -- the lists of the aliases of the fields of each node
-abbrev pub AreAliases : List (List ℕ) → Lists → List Node → List (Vec ℕ) → Type 0
-AreAliases texts lists nodes all = (k : ℕ) (ids : Vec ℕ) → slice_get all k ≡ Some ids → AreLists texts lists (aliases_at (fields_at (node_at nodes k))) ids.items
+abbrev pub AreAliases : List (List ℕ) → Lists → List Node → List (Vec (Option ℕ)) → Type 0
+AreAliases texts lists nodes all = (k : ℕ) (ids : Vec (Option ℕ)) → slice_get all k ≡ Some ids → AreLists texts lists (aliases_at (fields_at (node_at nodes k))) ids.items
 
 -- all lists of two schemas
 pub record ArePartLists (writer reader : List Node) (numbers : PartNumbers) : Type 0 where
@@ -67,12 +73,8 @@ pub record ArePartLists (writer reader : List Node) (numbers : PartNumbers) : Ty
 
 -- ---- Where a number is in a list
 
--- a list, by its index, and a number
-abbrev pub Place : Type 0
-Place = ℕ × ℕ
-
 abbrev pub same_place : Place → Place → Bool
-same_place a b = a.0 == b.0 && a.1 == b.1
+same_place a b = a.list == b.list && a.number == b.number
 
 abbrev pub Places : Type 0
 Places = IndexMap Place ℕ Seeded
@@ -82,7 +84,7 @@ first_of numbers n = position (λ k. k == n) numbers
 
 -- the first index of each number of a list, and no other
 abbrev pub FindsIn : Places → ℕ → List ℕ → Type 0
-FindsIn places id numbers = (n : ℕ) → get same_place places (id, n) ≡ first_of numbers n
+FindsIn places id numbers = (n : ℕ) → get same_place places (record { list = id; number = n }) ≡ first_of numbers n
 
 -- the same of each list
 abbrev pub FindsAll : Places → Lists → Type 0
@@ -104,17 +106,17 @@ IsTabled numbers = AreDistinct numbers.texts × FindsAll numbers.places numbers.
 
 -- ---- What is found of a pair
 
--- the number at an index of a list
-pub record IsNumberAt (lists : Lists) (id index number : ℕ) : Type 0 where
-  pub list : Vec ℕ
+-- what is at an index of a list
+pub record IsItemAt {T : Type 0} (lists : List (Vec T)) (id index : ℕ) (item : T) : Type 0 where
+  pub list : Vec T
   pub there : slice_get lists id ≡ Some list
-  pub is : slice_get list.items index ≡ Some number
+  pub is : slice_get list.items index ≡ Some item
 
 -- the numbers of a writer's fields and of a reader's field
 pub record HasField (numbers : PartNumbers) (writes : List FieldNode) (field : FieldNode) (found : FieldNumbers) : Type 0 where
   pub fields : HasList numbers.texts numbers.tabled.items found.fields (names_of writes)
   pub name : slice_get numbers.texts found.name ≡ Some field.name
-  pub aliases : HasList numbers.texts numbers.tabled.items found.aliases field.aliases
+  pub aliases : HasOwn numbers.texts numbers.tabled.items found.aliases field.aliases
 
 -- the numbers of a reader's symbols and of a symbol
 pub record HasSymbol (numbers : PartNumbers) (reads : List (List ℕ)) (text : List ℕ) (found : SymbolNumbers) : Type 0 where

@@ -1,6 +1,7 @@
 use Rattle.std.proofs.Common.{◌≡◌, ◌≤◌, length}
 use Rattle.indexmap.specs.IndexMap.{get}
-use Rattle.avro_compare.specs.inside.PartNumbers.{Place, same_place}
+use Rattle.avro_compare.specs.inside.PartNumbers.{same_place}
+use Rattle.avro_compare.specs.declared.place.Place.{Place}
 use Rattle.avro_compare.proofs.PlacesFound.{found_from}
 use Rattle.avro_compare.proofs.part_finding.add_places.Given as goal
 

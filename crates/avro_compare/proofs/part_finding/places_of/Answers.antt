@@ -19,8 +19,8 @@ loop-index-preserved c =
     (slice_get_read lists (length lists) l.index list refl c.loop-index-test.true c.index-lists-index.is)
     (λ key.
     c.in_ok-add_places.ensures key
-    ∙ ap (λ i. or_else (cond (i == key.0) (first_of c.deref.result.now key.1) None) (get same_place l.places key)) c.in_ok-id.ensures
-    ∙ ap (λ numbers. or_else (cond (l.index == key.0) (first_of numbers key.1) None) (get same_place l.places key)) c.deref.ensures.value) l.invariant
+    ∙ ap (λ i. or_else (cond (i == key.list) (first_of c.deref.result.now key.number) None) (get same_place l.places key)) c.in_ok-id.ensures
+    ∙ ap (λ numbers. or_else (cond (l.index == key.list) (first_of numbers key.number) None) (get same_place l.places key)) c.deref.ensures.value) l.invariant
 
 pub returns : goal.returns
 returns c =

@@ -1,4 +1,4 @@
-use Rattle.std.proofs.Common.{ℕ, subst, sym}
+use Rattle.std.proofs.Common.{ℕ, Option, subst, sym}
 use Rattle.std.specs.Global.{Vec}
 use Rattle.avro_texts.specs.Texts.{AreDistinct}
 use Rattle.avro_schema.specs.Node.{node_at}
@@ -18,7 +18,7 @@ returns c = λ writer reader.
         distinct = subst AreDistinct (sym c.new.ensures) none_distinct;
         writes = (holds_none (λ k parts. HasParts texts tabled plain (node_at writer k) parts) c.new-4.ensures.items).0;
         reads = (holds_none (λ k parts. HasParts texts plain tabled (node_at reader k) parts) c.new-5.ensures.items).0;
-        aliases = (holds_none (λ k (ids : Vec ℕ). AreLists texts tabled (aliases_at (fields_at (node_at reader k))) ids.items) c.new-6.ensures.items).0;
+        aliases = (holds_none (λ k (ids : Vec (Option ℕ)). AreLists texts tabled (aliases_at (fields_at (node_at reader k))) ids.items) c.new-6.ensures.items).0;
       };
       places = (holds_none (λ id (list : Vec ℕ). FindsIn c.with_hasher.result id list.items) c.new-2.ensures.items).0;
     }

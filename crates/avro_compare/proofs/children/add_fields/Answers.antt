@@ -1,16 +1,17 @@
-use Rattle.std.proofs.Common.{◌≡◌, ◌∙◌, ◌++◌, ◌+◌, ℕ, List, Some, drop, subst, sym, arith}
+use Rattle.std.proofs.Common.{◌≡◌, ◌∙◌, ◌++◌, ◌+◌, ℕ, List, Some, drop, ap, append-nil, subst, sym, arith}
 use Rattle.std.proofs.lemmas.Grind.{common_steps}
 use Rattle.std.specs.Prelude.{slice_get}
 use Rattle.avro_schema.specs.Node.{FieldNode, node_at}
 use Rattle.avro_schema.specs.Seen.{field_of, seen_fields}
 use Rattle.avro_schema.specs.SeenSchema.{schema_nodes}
 use Rattle.avro_compare.specs.Leads.{field_leads}
+use Rattle.avro_compare.specs.declared.comparison.Lead.{Lead}
 use Rattle.avro_compare.specs.Planned.{AreSourcesFrom}
 use Rattle.avro_compare.specs.Resolve.{fields_at}
 use Rattle.avro_compare.proofs.NoFields.{none_led, none_seen}
 use Rattle.avro_compare.proofs.public.Entries.{rest_sources}
 use Rattle.avro_compare.proofs.public.Lists.{seen_at}
-use Rattle.avro_compare.proofs.children.field_leads.Goals as goal
+use Rattle.avro_compare.proofs.children.add_fields.Goals as goal
 
 pub source_by-source-requires-clause-there : goal.source_by-source-requires-clause-there
 source_by-source-requires-clause-there c =
@@ -26,7 +27,7 @@ loop-index-preserved c =
     let i = c.loop-index.index in
     let ws = fields_at (node_at (schema_nodes c.args.names.now.0) c.args.pair.now.w.0) in
     let rs = fields_at (node_at (schema_nodes c.args.names.now.1) c.args.pair.now.r.0) in
-    let first : field_leads 0 (seen_fields c.args.fields.now) (seen_fields c.args.theirs.now)
+    let first : c.args.found.now.items ++ field_leads 0 (seen_fields c.args.fields.now) (seen_fields c.args.theirs.now)
     ≡ c.add_field.new.found.items ++ field_leads (i + 1) (seen_fields c.args.fields.now) (seen_fields (drop (i + 1) c.args.theirs.now)) = grind (arith, common_steps) in (
       first,
       λ q own. subst (λ (left : List (ℕ × ℕ)). AreSourcesFrom (i + 1) ws rs left) (sym c.rest_entries-left.ensures)
@@ -35,4 +36,5 @@ loop-index-preserved c =
 
 pub returns-then-fields-eq0 : goal.returns-then-fields-eq0
 returns-then-fields-eq0 c =
-    c.new-found.ensures.items ∙ sym (none_led (seen_fields c.args.fields.now) (seen_fields c.args.theirs.now) (none_seen c.args.fields.now (omega (arith, c.if-fields-eq0.true))))
+    let none = none_led (seen_fields c.args.fields.now) (seen_fields c.args.theirs.now) (none_seen c.args.fields.now (omega (arith, c.if-fields-eq0.true))) in
+    sym (ap (λ (leads : List Lead). c.args.found.now.items ++ leads) none ∙ append-nil c.args.found.now.items)

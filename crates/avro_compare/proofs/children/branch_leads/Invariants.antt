@@ -1,7 +1,0 @@
-use Rattle.std.proofs.Common.{◌≡◌, ◌++◌, drop}
-use Rattle.avro_schema.specs.Seen.{ids_of}
-use Rattle.avro_compare.specs.Leads.{branch_leads}
-use Rattle.avro_compare.proofs.children.branch_leads.Given as goal
-
-abbrev pub invariant-loop-index : goal.invariant-loop-index
-invariant-loop-index l = branch_leads 0 l.r.0 (ids_of l.ids) ≡ l.found.items ++ branch_leads l.index l.r.0 (ids_of (drop l.index l.ids))
