@@ -10,7 +10,7 @@ ghost use Rattle.avro_schema.specs.declared.fault.DraftError.TheVariants.{LimitE
 ghost use Rattle.avro_schema_json.specs.DeclaredAttributes.{unless};
 ghost use Rattle.avro_schema_json.specs.DeclaredFaults.{refusals_of_nodes, or_else};
 ghost use Rattle.avro_schema_json.specs.DeclaredSchema.{field_default, is_default_read, are_defaults_read, are_all_defaults_read, completed_nodes};
-ghost use Rattle.avro_schema_json.specs.inside.Repeats.{AreNamesDistinct};
+ghost use Rattle.avro_schema_json.specs.inside.Repeats.{AreNamesDistinct, IsRepeat};
 ghost use Rattle.avro_schema_json.specs.inside.Tables.{IsMarking};
 ghost use Rattle.avro_schema_json.specs.inside.OwnDefaults.{all_without_defaults};
 ghost use Rattle.avro_schema_json.specs.inside.SeenDefaults.{data_seen, lists_seen, defaults_of_node as node_defaults_by, first_or, others_of, fields_with_defaults, node_with_defaults, nodes_with_defaults};
@@ -22,9 +22,9 @@ use crate::defaults::{default_of, unmarked_default};
 use crate::error::SchemaError;
 use crate::raw::{RawEnum, RawField, RawNode, RawRecord};
 use crate::repeats::{has_repeated_branch, has_repeated_field};
+use crate::seeds::Seeds;
 use avro_schema::{Datum, Draft, DraftError, Field, Memory, Node, RecordNode, Schema};
 use avro_texts::Seeded;
-use serde_json::Value;
 use std::alloc::Global;
 use std::vec::IntoIter;
 
@@ -111,38 +111,6 @@ fn defaults_of_node(
     }
 }
 
-/// Whether tables help to read the default of a field: a text, or what has parts.
-fn is_helped(field: &RawField) -> bool {
-    match field.default {
-        Some(Value::String(_)) => true,
-        Some(Value::Array(items)) => items.len() > 0,
-        Some(Value::Object(members)) => members.len() > 0,
-        _ => false,
-    }
-}
-
-/// The tables of nodes, if they help to read a default.
-fn marking_for<'a>(
-    alloc: Global,
-    seed: Seeded,
-    raws: &'a [RawNode<'_>],
-) -> Result<Option<Marking<'a>>, Memory>
-    requires distinct { AreNamesDistinct (all_without_defaults raws.now) }
-    ensures { IfOk result (λ marking. IfSome marking (IsMarking (all_without_defaults raws.now))) }
-{
-    for raw in raws {
-        match raw {
-            RawNode::Record(record) => {
-                if record.fields.iter().any(|field| is_helped(field)) {
-                    return Ok(Some(marking_of(alloc, seed, raws)?));
-                }
-            }
-            _ => {}
-        }
-    }
-    Ok(None)
-}
-
 /// The defaults of all nodes, by the tables.
 fn defaults_by_tables(
     alloc: Global,
@@ -168,14 +136,43 @@ fn defaults_by_tables(
     Ok(Defaults { of_nodes, are_read })
 }
 
-/// The defaults of all nodes.
-fn defaults_of_nodes(alloc: Global, seed: Seeded, raws: &[RawNode]) -> Result<Defaults, Memory>
+/// The defaults of all nodes, for which tables are made.
+fn tabled_defaults(alloc: Global, seed: Seeded, raws: &[RawNode]) -> Result<Defaults, Memory>
     requires distinct { AreNamesDistinct (all_without_defaults raws.now) }
     ensures data { IfOk result (λ defaults. lists_seen defaults.of_nodes.items ≡ map (node_defaults_by (all_without_defaults raws.now)) (raw_nodes_of raws.now)) }
     ensures read { IfOk result (λ defaults. defaults.are_read ≡ are_all_defaults_read (raw_nodes_of raws.now)) }
 {
-    let mut marking = marking_for(alloc, seed, raws)?;
+    let mut marking = Some(marking_of(alloc, seed, raws)?);
     defaults_by_tables(alloc, seed, raws, &mut marking)
+}
+
+/// Refuses unions in which a branch occurs twice, and records with two fields of one name.
+fn check_repeats(alloc: Global, seed: Seeded, raws: &[RawNode]) -> Result<(), SchemaError>
+    ensures distinct { OnOk result (AreNamesDistinct (all_without_defaults raws.now)) }
+    ensures refused { IfErr result (IsRepeat (all_without_defaults raws.now)) }
+{
+    if has_repeated_branch(alloc, raws)? {
+        return Err(SchemaError::InvalidUnion);
+    }
+    if has_repeated_field(alloc, seed, raws)? {
+        return Err(SchemaError::DuplicateField);
+    }
+    Ok(())
+}
+
+/// The defaults of all nodes. Where tables are made for them, what repeats is refused first.
+fn defaults_of_nodes(alloc: Global, seeds: Seeds, raws: &[RawNode]) -> Result<Defaults, SchemaError>
+    ensures data { IfOk result (λ defaults. lists_seen defaults.of_nodes.items ≡ map (node_defaults_by (all_without_defaults raws.now)) (raw_nodes_of raws.now)) }
+    ensures read { IfOk result (λ defaults. defaults.are_read ≡ are_all_defaults_read (raw_nodes_of raws.now)) }
+    ensures refused { IfErr result (IsRepeat (all_without_defaults raws.now)) }
+{
+    match seeds.defaults {
+        Some(seed) => {
+            check_repeats(alloc, seed, raws)?;
+            Ok(tabled_defaults(alloc, seed, raws)?)
+        }
+        None => Ok(defaults_by_tables(alloc, seeds.names, raws, &mut None)?),
+    }
 }
 
 /// The next default, or none where the list ends.
@@ -281,7 +278,7 @@ fn draft_of(
 /// of the nodes is reported before it.
 pub(crate) fn schema_of(
     alloc: Global,
-    seed: Seeded,
+    seeds: Seeds,
     raws: Vec<RawNode<'_>>,
 ) -> Result<Schema, SchemaError>
     ensures found { IfOk result (λ schema. schema_nodes schema ≡ completed_nodes (raw_nodes_of raws.entry.items)) }
@@ -290,13 +287,7 @@ pub(crate) fn schema_of(
     ensures refused { IfErr result (λ e. (e ≡ OutOfMemory)
         ⊎ Contains (or_else (refusals_of_nodes (completed_nodes (raw_nodes_of raws.entry.items))) (unless (are_all_defaults_read (raw_nodes_of raws.entry.items)) InvalidDefault)) e) }
 {
-    if has_repeated_branch(alloc, &raws)? {
-        return Err(SchemaError::InvalidUnion);
-    }
-    if has_repeated_field(alloc, seed, &raws)? {
-        return Err(SchemaError::DuplicateField);
-    }
-    let Defaults { of_nodes, are_read } = defaults_of_nodes(alloc, seed, &raws)?;
+    let Defaults { of_nodes, are_read } = defaults_of_nodes(alloc, seeds, &raws)?;
     let draft = draft_of(alloc, raws, of_nodes)?;
     let schema = draft.finish()?;
     if !are_read {

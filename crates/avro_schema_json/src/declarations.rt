@@ -8,12 +8,12 @@ ghost use Rattle.avro_schema_json.specs.inside.SeenRaw.{raw_nodes_of, raw_field_
 ghost use Rattle.serde_json.specs.Data.{object};
 ghost use Rattle.serde_json.specs.View.{view, items_view, members_view};
 
-mod attributes;
+pub(crate) mod attributes;
 mod leaves;
 mod name_key;
 mod name_table;
 mod progress;
-mod words;
+pub(crate) mod words;
 
 use crate::declarations::attributes::{Members, alias_texts, aliases, field_name, form, member};
 use crate::declarations::name_table::{NameTable, Space};
@@ -21,9 +21,9 @@ use crate::declarations::progress::{Definition, Progress};
 use crate::declarations::words::Form;
 use crate::error::SchemaError;
 use crate::raw::{RawField, RawNode, RawRecord};
+use crate::seeds::Seeds;
 use avro_name::Namespace;
 use avro_schema::NodeId;
-use avro_texts::Seeded;
 use serde_json::Value;
 use std::alloc::Global;
 
@@ -226,19 +226,19 @@ impl<'a> Progress<'a> {
     }
 }
 
-/// The nodes that a tree declares, in the order in which they begin. The hashes of its names begin with the seed.
+/// The nodes that a tree declares, in the order in which they begin.
 pub(crate) fn declarations<'a>(
     alloc: Global,
-    seed: Seeded,
+    seeds: Seeds,
     tree: &'a Value,
 ) -> Result<Vec<RawNode<'a>>, SchemaError>
     ensures found { IfOk result (λ raws. ((made_of (view tree.now)).faults ≡ []) × (raw_nodes_of raws.items ≡ (made_of (view tree.now)).nodes)) }
     ensures refused { IfErr result (IsRefusal (made_of (view tree.now)).faults) }
 {
     let mut progress = Progress {
-        seed,
+        seed: seeds.defaults,
         nodes: Vec::new(alloc),
-        names: NameTable::new(alloc, seed),
+        names: NameTable::new(alloc, seeds.names),
     };
     let root = progress.names.space(&Namespace::null(alloc))?;
     progress.read_type(alloc, &root, tree)?;

@@ -29,13 +29,14 @@ mod completed;
 mod declarations;
 mod defaults;
 mod error;
-mod floats;
 pub mod laws;
 mod raw;
 mod raw_nodes;
 mod read;
 mod reader_text;
 mod repeats;
+mod seeds;
+mod survey;
 mod symbol_indices;
 mod texts;
 

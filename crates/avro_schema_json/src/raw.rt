@@ -1,3 +1,5 @@
+ghost use Rattle.std.proofs.Props.{props};
+ghost use Rattle.std.specs.Option.{IfSome};
 ghost use Rattle.avro_schema.specs.Seen.{texts_of};
 ghost use Rattle.avro_schema_json.specs.inside.SymbolIndices.{FindsSymbols};
 
@@ -36,12 +38,12 @@ pub(crate) enum RawNode<'a> {
     Fixed(FixedNode),
 }
 
-/// An enum, and the first index of each of its symbols.
+/// An enum, and the first index of each of its symbols if defaults are looked up in them.
 #[derive(Drop)]
 pub(crate) struct RawEnum {
     pub node: EnumNode,
-    pub indices: IndexMap<String, u32, Seeded>,
-    ghost agree: { FindsSymbols (texts_of node.symbols.items) indices },
+    pub indices: Option<IndexMap<String, u32, Seeded>>,
+    ghost agree: { IfSome indices (FindsSymbols (texts_of node.symbols.items)) } by { Prim.hlevel props },
 }
 
 /// A record whose defaults are still JSON.

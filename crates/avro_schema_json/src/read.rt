@@ -14,9 +14,9 @@ ghost use Rattle.serde_json.specs.View.{view};
 use crate::completed::schema_of;
 use crate::declarations::declarations;
 use crate::error::SchemaError;
-use crate::floats::has_float;
+use crate::seeds::Seeds;
+use crate::survey::Survey;
 use avro_schema::Schema;
-use avro_texts::Seeded;
 use serde_json::Value;
 use std::alloc::Global;
 
@@ -43,7 +43,7 @@ pub fn read_schema(alloc: Global, text: &[u8]) -> Result<Schema, SchemaError>
         return Err(SchemaError::LimitExceeded);
     }
     let tree = read_tree(alloc, text)?;
-    declared_schema(alloc, Seeded::of_text(text), &tree)
+    declared_schema(alloc, text, &tree)
 }
 
 /// The tree of a JSON text.
@@ -62,15 +62,17 @@ fn read_tree(alloc: Global, text: &[u8]) -> Result<Value, SchemaError>
     }
 }
 
-/// The schema that a tree declares, whose names are hashed by the seed.
-fn declared_schema(alloc: Global, seed: Seeded, tree: &Value) -> Result<Schema, SchemaError>
+/// The schema that a tree declares. The text only serves to hash names.
+fn declared_schema(alloc: Global, text: &[u8], tree: &Value) -> Result<Schema, SchemaError>
     ensures found { IfOk result (λ schema. DeclaresSchema (view tree.now) (schema_nodes schema)) }
     ensures refused { IfErr result (λ e. (e ≡ OutOfMemory) ⊎ HasFault (view tree.now) e) }
     ensures json { IfErr result (λ e. e ≢ NotJson) }
 {
-    if has_float(tree) {
+    let mut survey = Survey::new();
+    if survey.has_float(tree) {
         return Err(SchemaError::UnsupportedNumber);
     }
-    let raws = declarations(alloc, seed, tree)?;
-    schema_of(alloc, seed, raws)
+    let seeds = Seeds::of(text, survey);
+    let raws = declarations(alloc, seeds, tree)?;
+    schema_of(alloc, seeds, raws)
 }

@@ -1,11 +1,12 @@
 //! The indices of symbols.
 
-ghost use Rattle.std.specs.Prelude.{◌≡◌, ℕ, List, option_map, IfOk};
+ghost use Rattle.std.specs.Prelude.{◌≡◌, ℕ, List, option_map, IfOk, IfSome};
 ghost use Rattle.avro_schema.specs.Seen.{texts_of, value_of};
 ghost use Rattle.avro_schema.specs.Value.{Value as SeenValue};
 ghost use Rattle.avro_schema_json.specs.DeclaredAttributes.{symbol_index};
 ghost use Rattle.avro_schema_json.specs.inside.SymbolIndices.{FindsSymbols};
 
+use crate::raw::RawEnum;
 use crate::texts::copy_of_text;
 use avro_schema::{Datum, Memory};
 use avro_texts::Seeded;
@@ -38,20 +39,51 @@ pub(crate) fn symbol_indices(
     Ok(indices)
 }
 
-/// The index of a symbol, by the indices of all.
-pub(crate) fn index_of_symbol(indices: &IndexMap<String, u32, Seeded>, word: &str) -> Option<u32>
-    ensures { (symbols : List (List ℕ)) → FindsSymbols symbols indices.now → result ≡ symbol_index word.now symbols }
+/// The same, if there is a seed.
+pub(crate) fn known_indices(
+    alloc: Global,
+    seed: Option<Seeded>,
+    symbols: &[String],
+) -> Result<Option<IndexMap<String, u32, Seeded>>, Memory>
+    ensures { IfOk result (λ indices. IfSome indices (FindsSymbols (texts_of symbols.now))) }
 {
-    indices.get(word).copied()
+    match seed {
+        Some(seed) => Ok(Some(symbol_indices(alloc, seed, symbols)?)),
+        None => Ok(None),
+    }
 }
 
-/// The default of an enum that a word gives, by the indices of the enum's symbols.
-pub(crate) fn symbol_default(indices: &IndexMap<String, u32, Seeded>, word: &str) -> Option<Datum>
-    ensures { (symbols : List (List ℕ)) → FindsSymbols symbols indices.now
-        → option_map value_of result ≡ option_map SeenValue.enum (symbol_index word.now symbols) }
+/// The first index of a symbol. One past the range of numbers would exceed any memory.
+pub(crate) fn index_of_symbol(symbols: &[String], word: &str) -> Result<Option<u32>, Memory>
+    ensures { IfOk result (λ index. index ≡ symbol_index word.now (texts_of symbols.now)) }
 {
-    match index_of_symbol(indices, word) {
-        Some(index) => Some(Datum::Enum(index)),
-        None => None,
+    for index in 0..symbols.len() {
+        if word == symbols[index].as_str() {
+            let Ok(index) = u32::try_from(index) else {
+                return Err(Memory);
+            };
+            return Ok(Some(index));
+        }
+    }
+    Ok(None)
+}
+
+/// The index of a symbol of an enum.
+fn index_in(raw: &RawEnum, word: &str) -> Result<Option<u32>, Memory>
+    ensures { IfOk result (λ index. index ≡ symbol_index word.now (texts_of raw.now.node.symbols.items)) }
+{
+    match &raw.indices {
+        Some(indices) => Ok(indices.get(word).copied()),
+        None => index_of_symbol(&raw.node.symbols, word),
+    }
+}
+
+/// The default of an enum that a word gives.
+pub(crate) fn symbol_default(raw: &RawEnum, word: &str) -> Result<Option<Datum>, Memory>
+    ensures { IfOk result (λ datum. option_map value_of datum ≡ option_map SeenValue.enum (symbol_index word.now (texts_of raw.now.node.symbols.items))) }
+{
+    match index_in(raw, word)? {
+        Some(index) => Ok(Some(Datum::Enum(index))),
+        None => Ok(None),
     }
 }

@@ -1,8 +1,9 @@
 -- Unions in which a branch occurs twice, and records that have two fields of one name.
-use Rattle.std.specs.Prelude.{◌≡◌, ℕ, ◌+◌, ◌*◌, ◌<◌, true, List, length, map, Option, Some, None, slice_get, bytes_eq}
+use Rattle.std.specs.Prelude.{◌≡◌, ◌⊎◌, ℕ, ◌+◌, ◌*◌, ◌<◌, true, List, length, map, Option, Some, None, slice_get, bytes_eq}
 use Rattle.std.specs.List.{list_all, IsDistinct}
 use Rattle.avro_schema.specs.Node.{Node, FieldNode, node_at, branches_of}
 use Rattle.avro_schema.specs.WellFormed.{BranchKind, unnamed, named, branch_kind, is_edge}
+use Rattle.avro_schema_json.specs.declared.error.SchemaError.{SchemaError}
 
 -- an even number for each kind without a name, an odd one for each other node
 abbrev pub kind_code : ℕ → Option BranchKind → ℕ
@@ -45,3 +46,8 @@ HasDistinctNames _ = Unit
 
 abbrev pub AreNamesDistinct : List Node → Type 0
 AreNamesDistinct nodes = (m : ℕ) → HasDistinctNames (node_at nodes m)
+
+-- why nodes are refused before their defaults are read
+abbrev pub IsRepeat : List Node → SchemaError → Type 0
+IsRepeat nodes e =
+    (e ≡ SchemaError.OutOfMemory) ⊎ ((e ≡ SchemaError.InvalidUnion) × SomeRepeats nodes) ⊎ ((e ≡ SchemaError.DuplicateField) × SomeRepeatsName nodes)

@@ -13,10 +13,9 @@ ghost use Rattle.serde_json.specs.View.{view, items_view, members_view};
 
 use crate::declarations::words::{Form, form_of};
 use crate::error::SchemaError;
-use crate::symbol_indices::{index_of_symbol, symbol_indices};
+use crate::symbol_indices::index_of_symbol;
 use avro_name::{FullName, Namespace};
 use avro_schema::FixedNode;
-use avro_texts::Seeded;
 use serde_json::{Map, Value};
 use std::alloc::Global;
 
@@ -185,7 +184,6 @@ pub(crate) fn field_name(alloc: Global, members: &Members) -> Result<String, Sch
 /// The symbols of an enum, and the index of its default.
 pub(crate) fn symbols(
     alloc: Global,
-    seed: Seeded,
     members: &Members,
 ) -> Result<(Vec<String>, Option<u32>), SchemaError>
     ensures found { IfOk result (λ r. IsAttribute (symbols_in (members_view members.now.entries)) (texts_of r.0.items, r.1)) }
@@ -195,17 +193,12 @@ pub(crate) fn symbols(
         return Err(SchemaError::InvalidDeclaration);
     };
     let symbols = texts(alloc, value)?;
-    let default = default_symbol(alloc, seed, members, &symbols)?;
+    let default = default_symbol(members, &symbols)?;
     Ok((symbols, default))
 }
 
 /// The index of an enum's default among its symbols.
-fn default_symbol(
-    alloc: Global,
-    seed: Seeded,
-    members: &Members,
-    symbols: &[String],
-) -> Result<Option<u32>, SchemaError>
+fn default_symbol(members: &Members, symbols: &[String]) -> Result<Option<u32>, SchemaError>
     ensures found { IfOk result (IsAttribute (default_symbol_from (texts_of symbols.now) (get_member (codes "default") (members_view members.now.entries)))) }
     ensures refused { IfErr result (IsRefusal (default_symbol_from (texts_of symbols.now) (get_member (codes "default") (members_view members.now.entries))).faults) }
 {
@@ -213,13 +206,10 @@ fn default_symbol(
         return Ok(None);
     };
     match value.as_str() {
-        Some(word) => {
-            let indices = symbol_indices(alloc, seed, symbols)?;
-            match index_of_symbol(&indices, word) {
-                Some(index) => Ok(Some(index)),
-                None => Err(SchemaError::InvalidSymbols),
-            }
-        }
+        Some(word) => match index_of_symbol(symbols, word)? {
+            Some(index) => Ok(Some(index)),
+            None => Err(SchemaError::InvalidSymbols),
+        },
         None => Err(SchemaError::InvalidDeclaration),
     }
 }

@@ -12,7 +12,7 @@ use crate::declarations::progress::{Definition, Progress};
 use crate::declarations::words::{Word, word_of};
 use crate::error::SchemaError;
 use crate::raw::{RawEnum, RawNode};
-use crate::symbol_indices::symbol_indices;
+use crate::symbol_indices::known_indices;
 use avro_schema::{EnumNode, FixedNode, NodeId};
 use std::alloc::Global;
 
@@ -55,8 +55,8 @@ impl Progress<'_> {
     {
         let Definition { id, name, space } = self.begin(alloc, enclosing, members)?;
         let aliases = aliases(alloc, &space.namespace, members)?;
-        let (symbols, default) = symbols(alloc, self.seed, members)?;
-        let indices = symbol_indices(alloc, self.seed, &symbols)?;
+        let (symbols, default) = symbols(alloc, members)?;
+        let indices = known_indices(alloc, self.seed, &symbols)?;
         let node = EnumNode {
             name,
             aliases,

@@ -20,7 +20,7 @@ pub(crate) struct Space {
 ///
 /// The namespaces are numbered, and a name is found by the number of its namespace and its simple
 /// part, so that a long namespace is not looked at for each name in it. The hashes of names begin
-/// with a digest of the whole text, so that no choice of names makes it slow.
+/// with a digest of all of them, so that no choice of names makes it slow.
 #[derive(Drop)]
 pub(crate) struct NameTable {
     numbers: IndexSet<Namespace, Seeded>,

@@ -22,8 +22,8 @@ use std::alloc::{AllocError, Global};
 /// definitions that are known.
 #[derive(Drop)]
 pub(crate) struct Progress<'a> {
-    /// The seed of all tables of names.
-    pub seed: Seeded,
+    /// The seed of the tables of symbols, if defaults are looked up in them.
+    pub seed: Option<Seeded>,
     pub nodes: Vec<RawNode<'a>>,
     pub names: NameTable,
 }

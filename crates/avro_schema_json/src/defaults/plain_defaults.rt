@@ -82,7 +82,7 @@ pub(crate) fn text_default(
             Some(bytes) => Ok(fixed_datum(bytes, fixed.size)),
             None => Ok(None),
         },
-        RawNode::Enum(raw) => Ok(symbol_default(&raw.indices, text)),
+        RawNode::Enum(raw) => symbol_default(raw, text),
         _ => Ok(None),
     }
 }

@@ -1,4 +1,5 @@
-use Rattle.avro_schema_json.proofs.Words.{arith, ◌≡◌, ◌<◌, ◌⊎◌, inl, inr, true, false, List, length, map, refl, sym, ap, subst, ◌∙◌, Contains, Option, Some, None, IfSome, option_map, length-map, err_from_is_err_and, Node, NodeFault, invalid_union, duplicate_field, limit_exceeded, fault_of, IsThere, IsRefused, draft_nodes, is_schema, Value, SchemaError, KeptNode, RawNode, unless, refusals_of_nodes, or_else, nodes_without_defaults, completed_nodes, are_all_defaults_read, all_without_defaults, refusal_of_fault, refusal_of, defaults_of_node, nodes_with_defaults, raw_nodes_of, SomeRepeats, SomeRepeatsName, unwrap_or}
+use Rattle.avro_schema_json.proofs.Words.{arith, ◌≡◌, ◌<◌, ◌⊎◌, inl, inr, true, false, List, length, map, refl, sym, ap, subst, ◌∙◌, Contains, Option, Some, None, IfSome, option_map, length-map, err_from_is_err_and, Node, NodeFault, invalid_union, duplicate_field, limit_exceeded, fault_of, IsThere, IsRefused, draft_nodes, is_schema, Value, SchemaError, KeptNode, RawNode, unless, refusals_of_nodes, or_else, nodes_without_defaults, completed_nodes, are_all_defaults_read, all_without_defaults, refusal_of_fault, refusal_of, defaults_of_node, nodes_with_defaults, raw_nodes_of, unwrap_or}
+use Rattle.avro_schema_json.specs.inside.Repeats.{IsRepeat}
 use Rattle.avro_schema.specs.declared.fault.DraftError.{DraftError}
 use Rattle.avro_schema_json.proofs.RepeatsSeen.{repeated-there, repeated_field-there}
 use Rattle.avro_schema_json.proofs.DeclarationLaws.{no_refusals-from_is_schema}
@@ -43,19 +44,22 @@ of_length raws e r (inr limit) is =
     inr (subst (λ (x : SchemaError). Contains (faults_with (raw_nodes_of raws)) x) (sym same)
     (of_fault (raw_nodes_of raws) limit_exceeded (too_many-there nodes (rw count limit.1))))
 
-pub returns-then-branch-clause-refused : goal.returns-then-branch-clause-refused
-returns-then-branch-clause-refused c =
-    let repeats = c.in_ok-has_repeated_branch.ensures c.if-branch.true in
-    let raws = raw_nodes_of c.args.raws.items in
-    inr (of_fault raws invalid_union (repeated-there (nodes_without_defaults raws) raws
-    (subst (λ (ns : List KeptNode). SomeRepeats (all_without_defaults ns)) c.deref.ensures.value repeats)))
+-- what repeats is there in the completed nodes
+of_repeat : (raws : List KeptNode) (e : SchemaError) → IsRepeat (all_without_defaults raws) e
+    → (e ≡ SchemaError.OutOfMemory) ⊎ Contains (faults_with (raw_nodes_of raws)) e
+of_repeat raws e (inl memory) = inl memory
+of_repeat raws e (inr (inl repeats)) =
+    inr (subst (λ (x : SchemaError). Contains (faults_with (raw_nodes_of raws)) x) (sym repeats.0)
+    (of_fault (raw_nodes_of raws) invalid_union (repeated-there (nodes_without_defaults (raw_nodes_of raws)) (raw_nodes_of raws) repeats.1)))
+of_repeat raws e (inr (inr repeats)) =
+    inr (subst (λ (x : SchemaError). Contains (faults_with (raw_nodes_of raws)) x) (sym repeats.0)
+    (of_fault (raw_nodes_of raws) duplicate_field (repeated_field-there (nodes_without_defaults (raw_nodes_of raws)) (raw_nodes_of raws) repeats.1)))
 
-pub returns-then-branch-2-clause-refused : goal.returns-then-branch-2-clause-refused
-returns-then-branch-2-clause-refused c =
-    let repeats = c.in_ok-has_repeated_field.ensures.found c.if-branch-2.true in
-    let raws = raw_nodes_of c.args.raws.items in
-    inr (of_fault raws duplicate_field (repeated_field-there (nodes_without_defaults raws) raws
-    (subst (λ (ns : List KeptNode). SomeRepeatsName (all_without_defaults ns)) c.deref-2.ensures.value repeats)))
+pub returns-in_err-of_nodes-clause-refused : goal.returns-in_err-of_nodes-clause-refused
+returns-in_err-of_nodes-clause-refused c =
+    let p = err_from_is_err_and c.from_residual.result c.from_residual.ensures.1 in
+    rw (p.1, p.2) (of_repeat c.args.raws.items c.in_err-of_nodes.field-0.0
+    (subst (λ (ns : List KeptNode). IsRepeat (all_without_defaults ns) c.in_err-of_nodes.field-0.0) c.deref.ensures.value c.in_err-of_nodes.ensures.refused))
 
 pub returns-in_err-draft-clause-refused : goal.returns-in_err-draft-clause-refused
 returns-in_err-draft-clause-refused c =
@@ -64,7 +68,7 @@ returns-in_err-draft-clause-refused c =
 
 pub returns-in_err-schema-clause-refused : goal.returns-in_err-schema-clause-refused
 returns-in_err-schema-clause-refused c =
-    let completed = completed_draft c.deref-3.ensures.value c.in_ok-of_nodes.ensures.data c.in_ok-draft.ensures.nodes in
+    let completed = completed_draft c.deref.ensures.value c.in_ok-of_nodes.ensures.data c.in_ok-draft.ensures.nodes in
     let p = err_from_is_err_and c.from_residual-in_err-schema.result c.from_residual-in_err-schema.ensures.1 in
     rw p.1 (of_draft (raw_nodes_of c.args.raws.items) (draft_nodes c.in_ok-draft.draft) c.in_err-schema.field-0.0 p.0 completed
     c.in_err-schema.ensures.faulty p.2)
@@ -72,18 +76,18 @@ returns-in_err-schema-clause-refused c =
 pub returns-then-not-are_read-clause-refused : goal.returns-then-not-are_read-clause-refused
 returns-then-not-are_read-clause-refused c =
     let raws = raw_nodes_of c.args.raws.items in
-    let completed = completed_draft c.deref-3.ensures.value c.in_ok-of_nodes.ensures.data c.in_ok-draft.ensures.nodes in
+    let completed = completed_draft c.deref.ensures.value c.in_ok-of_nodes.ensures.data c.in_ok-draft.ensures.nodes in
     let formed : is_schema (completed_nodes raws) ≡ true = ap is_schema (sym completed) ∙ c.in_ok-schema.ensures.formed in
     let unread : are_all_defaults_read raws ≡ false =
-    ap (λ (ns : List KeptNode). are_all_defaults_read (raw_nodes_of ns)) (sym c.deref-3.ensures.value) ∙ sym c.in_ok-of_nodes.ensures.read ∙ c.if-not-are_read.true in
+    ap (λ (ns : List KeptNode). are_all_defaults_read (raw_nodes_of ns)) (sym c.deref.ensures.value) ∙ sym c.in_ok-of_nodes.ensures.read ∙ c.if-not-are_read.true in
     inr (or_else-unread (refusals_of_nodes (completed_nodes raws)) (are_all_defaults_read raws) SchemaError.InvalidDefault (no_refusals-from_is_schema (completed_nodes raws) formed) unread)
 
 pub returns-clause-found : goal.returns-clause-found
 returns-clause-found c =
-    let completed = completed_draft c.deref-3.ensures.value c.in_ok-of_nodes.ensures.data c.in_ok-draft.ensures.nodes in
+    let completed = completed_draft c.deref.ensures.value c.in_ok-of_nodes.ensures.data c.in_ok-draft.ensures.nodes in
     c.in_ok-schema.ensures.schema ∙ completed
 
 pub returns-clause-formed : goal.returns-clause-formed
 returns-clause-formed c =
-    let completed = completed_draft c.deref-3.ensures.value c.in_ok-of_nodes.ensures.data c.in_ok-draft.ensures.nodes in
+    let completed = completed_draft c.deref.ensures.value c.in_ok-of_nodes.ensures.data c.in_ok-draft.ensures.nodes in
     ap is_schema (sym completed) ∙ c.in_ok-schema.ensures.formed
