@@ -38,12 +38,13 @@ pub(crate) enum RawNode<'a> {
     Fixed(FixedNode),
 }
 
-/// An enum, and the first index of each of its symbols if defaults are looked up in them.
+/// An enum, and the first index of each of its symbols if defaults are looked up in them. They are apart, so that nodes
+/// stay small.
 #[derive(Drop)]
 pub(crate) struct RawEnum {
     pub node: EnumNode,
-    pub indices: Option<IndexMap<String, u32, Seeded>>,
-    ghost agree: { IfSome indices (FindsSymbols (texts_of node.symbols.items)) } by { Prim.hlevel props },
+    pub indices: Option<Box<IndexMap<String, u32, Seeded>>>,
+    ghost agree: { IfSome indices (λ i. FindsSymbols (texts_of node.symbols.items) i.value) } by { Prim.hlevel props },
 }
 
 /// A record whose defaults are still JSON.

@@ -44,11 +44,14 @@ pub(crate) fn known_indices(
     alloc: Global,
     seed: Option<Seeded>,
     symbols: &[String],
-) -> Result<Option<IndexMap<String, u32, Seeded>>, Memory>
-    ensures { IfOk result (λ indices. IfSome indices (FindsSymbols (texts_of symbols.now))) }
+) -> Result<Option<Box<IndexMap<String, u32, Seeded>>>, Memory>
+    ensures { IfOk result (λ indices. IfSome indices (λ i. FindsSymbols (texts_of symbols.now) i.value)) }
 {
     match seed {
-        Some(seed) => Ok(Some(symbol_indices(alloc, seed, symbols)?)),
+        Some(seed) => {
+            let indices = symbol_indices(alloc, seed, symbols)?;
+            Ok(Some(Box::new(alloc, indices)?))
+        }
         None => Ok(None),
     }
 }
