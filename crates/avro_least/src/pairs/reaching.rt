@@ -17,7 +17,7 @@ use crate::kept::Least;
 use crate::nodes::least::{count, entry};
 use crate::pairs::asking::{Ask, ask_of_pair};
 use crate::pairs::near::add_next;
-use avro_compare::{Comparison, Lead, Names, compare, has_fault, leads};
+use avro_compare::{Comparison, Lead, Names, add_leads, compare, has_fault};
 use avro_schema::{Memory, NodeId, Schema};
 use avro_texts::Seeded;
 use indexmap::IndexSet;
@@ -84,13 +84,14 @@ fn add_numbers(
     Ok(())
 }
 
-/// Replaces numbers by those of the pairs that a pair leads to: none where the pair fails by itself.
+/// Replaces numbers by those of the pairs that a pair leads to: none where the pair fails by itself. Its leads are listed
+/// in `leads`, which is filled again for each pair.
 fn steps(
-    alloc: Global,
     names: &Names,
     table: &[Option<Least>],
     count: u32,
     pair: &Comparison,
+    leads: &mut Vec<Lead>,
     numbers: &mut Vec<u64>,
 ) -> Result<(), Memory>
     requires { IsComparison (schema_nodes names.now.0) (schema_nodes names.now.1) pair.now }
@@ -101,8 +102,9 @@ fn steps(
     if has_fault(names, pair) {
         return Ok(());
     }
-    let leads = leads(alloc, names, pair)?;
-    add_numbers(numbers, table, count, &leads)
+    leads.clear();
+    add_leads(names, pair, leads)?;
+    add_numbers(numbers, table, count, leads)
 }
 
 /// The writer's node of a pair, by the pair's number.
@@ -132,6 +134,7 @@ fn visit(
     reader: &Schema,
     table: &[Option<Least>],
     key: u64,
+    leads: &mut Vec<Lead>,
     more: &mut Vec<u64>,
 ) -> Result<Comparison, Memory>
     requires of_these { names.now ≡ (writer.now, reader.now) }
@@ -142,7 +145,7 @@ fn visit(
     let w = writers(writer, reader, key);
     let r = readers(reader, key);
     let pair = compare(alloc, names, w, r)?;
-    steps(alloc, names, table, count(reader), &pair, more)?;
+    steps(names, table, count(reader), &pair, leads, more)?;
     Ok(pair)
 }
 
@@ -266,12 +269,15 @@ fn reach_by(
     let _ = count(writer);
     let _ = count(reader);
     let mut reached = start(alloc, names.seed())?;
+    let mut leads = Vec::new(alloc);
     let mut more = Vec::new(alloc);
     let mut near = 0;
     let mut next = 0;
     while next < reached.known.len() {
         let key = key_at(&reached.known, next);
-        let pair = visit(alloc, names, writer, reader, table, key, &mut more)?;
+        let pair = visit(
+            alloc, names, writer, reader, table, key, &mut leads, &mut more,
+        )?;
         keep(&mut reached, pair, &more, &mut near)?;
         next += 1;
     }
