@@ -21,7 +21,7 @@ use avro_schema::{Node, NodeId, Schema};
 use std::alloc::{AllocError, Global};
 
 /// What is made of a writer's leaf.
-#[inline(never)]
+#[inline(always)]
 pub(crate) fn make_leaf<M: Make<At = Place>>(
     alloc: Global,
     maker: &mut M,
