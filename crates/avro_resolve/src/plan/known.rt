@@ -47,6 +47,35 @@ pub(crate) fn index_in(known: &IndexSet<u64, Seeded>, count: u32, w: NodeId, r: 
     }
 }
 
+/// The same, where the pair is looked for first after the one that was found before, at `next`: mostly it is there.
+pub(crate) fn index_next(
+    known: &IndexSet<u64, Seeded>,
+    count: u32,
+    part: (NodeId, NodeId),
+    next: &mut usize,
+) -> u32 {
+    match index_near(known, number(count, part.0, part.1), *next) {
+        Some(index) => {
+            *next = index.saturating_add(1);
+            narrow(index)
+        }
+        None => 0,
+    }
+}
+
+/// The index of a number, if it is known, which is looked for at the index `near` first.
+fn index_near(known: &IndexSet<u64, Seeded>, number: u64, near: usize) -> Option<usize> {
+    match known.get_index(near) {
+        Some(own) => {
+            if *own == number {
+                return Some(near);
+            }
+            known.get_index_of(&number)
+        }
+        None => known.get_index_of(&number),
+    }
+}
+
 /// The numbers of the pairs that are kept, in their order. Where a pair is there before, a number that no pair has stands
 /// for it, so that each pair after it has its index.
 pub(crate) fn numbers_of(

@@ -1,11 +1,11 @@
 ghost use Rattle.std.specs.Prelude.{IfOk};
 ghost use Rattle.avro_schema.specs.SeenSchema.{schema_nodes};
-ghost use Rattle.avro_compare.specs.Planned.{AreComparisons, IsComparison};
+ghost use Rattle.avro_compare.specs.Planned.{AreComparisons};
 
 use crate::plan::known::Found;
-use crate::plan::ordering::parts_of;
+use crate::plan::ordering::Parts;
 use avro_compare::{Comparison, Names, compare};
-use avro_schema::{Memory, Schema};
+use avro_schema::{Memory, NodeId, Schema};
 use std::alloc::Global;
 
 /// What a plan keeps of the pairs of nodes that the roots lead to, and the indices of the pairs of their parts.
@@ -31,13 +31,15 @@ fn compare_from_roots(
     let (writer, reader) = (names.writer(), names.reader());
     let mut found = Found::new(alloc, names.seed());
     found.index_of(reader, writer.root(), reader.root())?;
+    let mut found_parts = Parts::new(alloc);
     let mut kept = Vec::new(alloc);
     let mut parts = Vec::new(alloc);
     for _round in 0..most_pairs(writer, reader) {
         match found.pair(reader, kept.len()) {
             Some((w, r)) => {
                 let comparison = compare(alloc, names, w, r)?;
-                parts.push(find_parts(alloc, names, &comparison, &mut found)?)?;
+                found_parts.find(names, &comparison)?;
+                parts.push(add_found(alloc, reader, &found_parts.pairs, &mut found)?)?;
                 kept.push(comparison)?;
             }
             None => return Ok((kept, parts)),
@@ -51,18 +53,16 @@ fn most_pairs(writer: &Schema, reader: &Schema) -> usize {
     writer.len().saturating_mul(reader.len())
 }
 
-/// The indices of the pairs of the parts of a pair, which are found with it.
-fn find_parts(
+/// The indices of some pairs, each of which is found with it where it is new.
+fn add_found(
     alloc: Global,
-    names: &Names,
-    pair: &Comparison,
+    reader: &Schema,
+    pairs: &[(NodeId, NodeId)],
     found: &mut Found,
-) -> Result<Vec<u32>, Memory>
-    requires { IsComparison (schema_nodes names.now.0) (schema_nodes names.now.1) pair.now }
-{
-    let mut indices = Vec::new(alloc);
-    for part in &parts_of(alloc, names, pair)? {
-        indices.push(found.index_of(names.reader(), part.0, part.1)?)?;
+) -> Result<Vec<u32>, Memory> {
+    let mut indices = Vec::with_capacity(alloc, pairs.len())?;
+    for pair in pairs {
+        indices.push(found.index_of(reader, pair.0, pair.1)?)?;
     }
     Ok(indices)
 }
