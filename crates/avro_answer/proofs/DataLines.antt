@@ -17,9 +17,8 @@ use Rattle.avro_answer.specs.DataRead.{error_text, fault_found, IsDatumTold}
 use Rattle.avro_answer.specs.HistoryAnswer.{cut_texts}
 use Rattle.avro_answer.specs.ReadAnswer.{Found, broken, unresolved, datum, IsAllFound, nodes_for}
 use Rattle.avro_answer.specs.ReadsAnswer.{LinesRead, all_status, found_line, is_datum}
-use Rattle.avro_answer.specs.declared.answer.Answer.{Answer}
 use Rattle.avro_answer.specs.declared.form.Form.{Form}
-use Rattle.avro_answer.specs.inside.AtFront.{IsFaultTold, IsLineTold}
+use Rattle.avro_answer.specs.inside.AtFront.{IsFaultTold, IsLinePut, IsLineTold}
 use Rattle.avro_answer.proofs.HistoryTexts.{cut_ahead}
 
 either : (a b : Bool) → (if (a && (b && true)) then 0 else 1) ≡ max (if (b && true) then 0 else 1) (if a then 0 else 1)
@@ -103,12 +102,16 @@ module _ (writer : List Node) (reader : Option (List Node)) (limits : LimitValue
   pub datum_line : (text : List ℕ) (status : ℕ) → status ≡ 0 → IsDatumTold writer reader limits Form.Json skip bytes text → IsLineTold writer reader limits skip bytes text status
   datum_line text status is h = record { found = datum h.value h.len; is_found = h.is_found; told = h.told; status_is = is }
 
-  pub fault_line : {E : Type 0} (e : ReadResolveError) → IfSome (fault_found e) (IsAllFound writer reader limits skip bytes) → (result : Result Answer E)
-      → IfOk result (λ a. IsFaultTold e a.text.items a.status) → IfOk result (λ a. IsLineTold writer reader limits skip bytes a.text.items a.status)
-  fault_line e is_found (Ok a) h = record {
+  fault_line : (e : ReadResolveError) → IfSome (fault_found e) (IsAllFound writer reader limits skip bytes) → (text : List ℕ) (status : ℕ) → IsFaultTold e text status → IsLineTold writer reader limits skip bytes text status
+  fault_line e is_found text status h = record {
     found = h.found;
     is_found = subst (λ o. IfSome o (IsAllFound writer reader limits skip bytes)) h.says is_found;
     told = h.told (nodes_for writer reader);
     status_is = h.status_is;
   }
-  fault_line e is_found (Err x) h = tt
+
+  -- the line of a fault was put where nothing had been
+  pub fault_put : {E : Type 0} (e : ReadResolveError) → IfSome (fault_found e) (IsAllFound writer reader limits skip bytes) → (from same to : List ℕ) → same ≡ from → (result : Result ℕ E)
+      → IfOk result (λ status. (line : List ℕ) × IsFaultTold e line status × (to ≡ same ++ line)) → IfOk result (IsLinePut writer reader limits skip bytes from to)
+  fault_put e is_found from same to is (Ok status) (line, told, put) = (line, fault_line e is_found line status told, put ∙ ap (λ (b : List ℕ). b ++ line) is)
+  fault_put e is_found from same to is (Err x) h = tt

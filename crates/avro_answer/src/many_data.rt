@@ -1,6 +1,6 @@
 //! What is answered of several encoded data.
 
-ghost use Rattle.std.specs.Prelude.{◌≡◌, ◌<◌, ◌++◌, length, codes, IfOk, OnOk, IsErrOf, option_map, option_copied};
+ghost use Rattle.std.specs.Prelude.{◌≡◌, ◌<◌, ◌++◌, ℕ, List, length, codes, IfOk, OnOk, IsErrOf, option_map, option_copied};
 ghost use Rattle.std.specs.Option.{IfSome};
 ghost use Rattle.std.specs.Result.{IfErr};
 ghost use Rattle.avro_schema.specs.SeenSchema.{schema_nodes};
@@ -10,18 +10,20 @@ ghost use Rattle.avro_answer.specs.DataRead.{error_text};
 ghost use Rattle.avro_answer.specs.HistoryAnswer.{cut_texts};
 ghost use Rattle.avro_answer.specs.ReadAnswer.{AreSchemas, RefusesTexts};
 ghost use Rattle.avro_answer.specs.ReadsAnswer.{LinesRead, ReadsAnswer};
-ghost use Rattle.avro_answer.specs.inside.AtFront.{IsFaultTold, IsLineTold};
+ghost use Rattle.avro_answer.specs.inside.AtFront.{IsFaultTold, IsLinePut};
 ghost use Rattle.avro_answer.specs.declared.form.Form.{Form};
 ghost use Rattle.avro_answer.specs.declared.refusal.Refusal.TheVariants.{Writer, OutOfMemory};
 
 use crate::answer::Answer;
 use crate::data_answers::read_reader_of;
+use crate::data_error::DataError;
 use crate::data_plan::DataPlan;
-use crate::datum_texts::{append_error, is_memory};
+use crate::datum_texts::{append_error, behind, is_memory};
 use crate::form::Form;
 use crate::history_texts::cut;
 use crate::reading::read_writer;
 use crate::refusal::Refusal;
+use avro_device::{WriteOutput, put_all};
 use avro_resolve::ReadResolveError;
 use avro_schema::{Limits, Memory, Schema};
 use avro_show::Scratch;
@@ -88,34 +90,56 @@ fn answer_each(
 ) -> Result<Answer, Memory>
     ensures { IfOk result (λ a. LinesRead (schema_nodes plan.now.0) (option_map schema_nodes plan.now.1) limits.now skip (cut_texts bytes.now lengths.now) a.text.items a.status) }
 {
-    let mut text = Vec::new(alloc);
+    let mut out = WriteOutput::new(Vec::new(alloc));
     let mut status = 0;
     let mut scratch = Scratch::new(alloc);
     let mut rest = bytes;
     for index in 0..lengths.len() {
         let (part, others) = cut(rest, lengths[index]);
-        let line = line_of(alloc, plan, part, skip, limits, &mut scratch)?;
-        text.extend_from_slice(&line.text)?;
-        status = line.status.max(status);
+        let told = put_line(&mut out, alloc, plan, part, skip, limits, &mut scratch)?;
+        status = told.max(status);
         rest = others;
     }
-    Ok(Answer { text, status })
+    Ok(Answer {
+        text: out.into_inner(),
+        status,
+    })
 }
 
-/// The line of one of them, and its status.
-fn line_of(
+/// Puts the line of one of them, and returns its status.
+fn put_line(
+    out: &mut WriteOutput<Vec<u8>>,
     alloc: Global,
     plan: &DataPlan<'_>,
     bytes: &[u8],
     skip: usize,
     limits: &Limits,
     scratch: &mut Scratch,
-) -> Result<Answer, Memory>
-    ensures { IfOk result (λ a. IsLineTold (schema_nodes plan.now.0) (option_map schema_nodes plan.now.1) limits.now skip bytes.now a.text.items a.status) }
+) -> Result<u8, Memory>
+    ensures { IfOk result (λ status. IsLinePut (schema_nodes plan.now.0) (option_map schema_nodes plan.now.1) limits.now skip bytes.now out.old.writer.items out.new.writer.items status) }
 {
-    match plan.tell(alloc, bytes, skip, limits, Form::Json, scratch) {
-        Ok(text) => Ok(Answer { text, status: 0 }),
-        Err(error) => fault_line(alloc, &error),
+    match behind(bytes, skip) {
+        Ok(data) => match plan.put(&mut *out, alloc, data, limits, Form::Json, scratch) {
+            Ok(()) => Ok(0),
+            Err(DataError::Refused(error)) => put_fault(out, alloc, &error),
+            Err(DataError::Put(_)) => Err(Memory),
+        },
+        Err(error) => put_fault(out, alloc, &error),
+    }
+}
+
+/// Puts the line of a fault, and returns its status.
+fn put_fault(
+    out: &mut WriteOutput<Vec<u8>>,
+    alloc: Global,
+    error: &ReadResolveError,
+) -> Result<u8, Memory>
+    ensures { IfOk result (λ status. (line : List ℕ) × IsFaultTold error.now line status × (out.new.writer.items ≡ out.old.writer.items ++ line)) }
+{
+    let line = fault_line(alloc, error)?;
+    match put_all(out, &line.text) {
+        Ok(()) => Ok(line.status),
+        Err(_) => Err(Memory),
     }
 }
 

@@ -38,7 +38,7 @@ impl<'a> Displaying<'a> {
 }
 
 impl<'a> Make for Displaying<'a> {
-    ghost use Rattle.std.specs.Prelude.{◌≡◌, refl};
+    ghost use Rattle.std.specs.Prelude.{◌≡◌, [], refl};
     ghost use Rattle.std.proofs.Common.{◌∙◌};
     ghost use Rattle.avro_binary.specs.Places.{alone, branch_place};
     ghost use Rattle.avro_show.specs.Spans.{EntriesStandFor, FieldsStandFor, ItemsStandFor, Keeps, StandsFor};
@@ -219,7 +219,16 @@ impl<'a> Make for Displaying<'a> {
         scratch.composed(opening)
     }
 
-    fn keep_slots(&mut self, _slots: Vec<Option<Span>>)
+    fn slots(&mut self, alloc: Global) -> Vec<Option<Span>>
         ensures kept { Keeps self.old.table.now self.old.scratch.now.text self.new.table.now self.new.scratch.now.text × (self.new.scratch.ghost_name ≡ self.old.scratch.ghost_name) }
-    {}
+        ensures none { result.items ≡ [] }
+    {
+        self.scratch.slots(alloc)
+    }
+
+    fn keep_slots(&mut self, slots: Vec<Option<Span>>)
+        ensures kept { Keeps self.old.table.now self.old.scratch.now.text self.new.table.now self.new.scratch.now.text × (self.new.scratch.ghost_name ≡ self.old.scratch.ghost_name) }
+    {
+        self.scratch.keep_slots(slots);
+    }
 }

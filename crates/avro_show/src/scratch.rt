@@ -30,6 +30,8 @@ pub struct Scratch {
     ends: Vec<usize>,
     // lists for the parts of wholes
     lists: Vec<Vec<Span>>,
+    // lists for the fields of records that are resolved
+    slots: Vec<Vec<Option<Span>>>,
 }
 
 impl Scratch {
@@ -43,6 +45,7 @@ impl Scratch {
             shown: Span { start: 0, end: 0 },
             ends: Vec::new(alloc),
             lists: Vec::new(alloc),
+            slots: Vec::new(alloc),
         }
     }
 
@@ -73,25 +76,31 @@ impl Scratch {
         ensures owner { result.owner ≡ owner }
         ensures none { result.parts.items ≡ [] }
     {
-        let mut parts = match self.lists.pop() {
-            Some(parts) => parts,
-            None => Vec::new(alloc),
-        };
-        parts.clear();
+        let parts = list(alloc, &mut self.lists);
         Spans { owner, parts }
     }
 
-    /// Keeps the list of some parts for later, where few are kept. If memory runs out it is dropped.
+    /// Keeps the list of some parts for later.
     pub(crate) fn keep_spans(&mut self, spans: Spans)
         ensures text { self.new.text ≡ self.old.text }
         ensures whole { self.new.whole ≡ self.old.whole }
     {
-        if self.lists.len() < LISTS {
-            match self.lists.push(spans.parts) {
-                Ok(()) => {}
-                Err(_) => {}
-            }
-        }
+        give_list(&mut self.lists, spans.parts);
+    }
+
+    /// An empty list for the fields of a record that is resolved.
+    pub(crate) fn slots(&mut self, alloc: Global) -> Vec<Option<Span>>
+        ensures text { self.new.text ≡ self.old.text }
+        ensures none { result.items ≡ [] }
+    {
+        list(alloc, &mut self.slots)
+    }
+
+    /// Keeps such a list for later.
+    pub(crate) fn keep_slots(&mut self, slots: Vec<Option<Span>>)
+        ensures { self.new.text ≡ self.old.text }
+    {
+        give_list(&mut self.slots, slots);
     }
 
     /// Begins a display, behind the text that opens the branch of a union, if it goes into one, and returns where.
@@ -144,5 +153,29 @@ impl Scratch {
         let start = self.begin(opening)?;
         self.text.append(self.whole.as_slice())?;
         self.end(opening, start)
+    }
+}
+
+/// An empty list, one of those that are kept if there is one.
+fn list<T: Drop>(alloc: Global, kept: &mut Vec<Vec<T>>) -> Vec<T>
+    ensures { result.items ≡ [] }
+{
+    match kept.pop() {
+        Some(list) => {
+            let mut list = list;
+            list.clear();
+            list
+        }
+        None => Vec::new(alloc),
+    }
+}
+
+/// Keeps a list for later, where few are kept. If memory runs out it is dropped.
+fn give_list<T: Drop>(kept: &mut Vec<Vec<T>>, list: Vec<T>) {
+    if kept.len() < LISTS {
+        match kept.push(list) {
+            Ok(()) => {}
+            Err(_) => {}
+        }
     }
 }

@@ -1,5 +1,5 @@
 -- What is found at the front of bytes.
-use Rattle.std.specs.Prelude.{◌≡◌, ℕ, List, [], ◌∷◌, codes, Option, Some, Result, Ok, Err}
+use Rattle.std.specs.Prelude.{◌≡◌, ℕ, List, [], ◌∷◌, ◌++◌, codes, Option, Some, Result, Ok, Err}
 use Rattle.avro_schema.specs.Node.{Node, root_of}
 use Rattle.avro_schema.specs.Value.{Value}
 use Rattle.avro_schema.specs.Fits.{LimitValues}
@@ -43,3 +43,7 @@ pub record IsLineTold (writer : List Node) (reader : Option (List Node)) (limits
   pub is_found : IsAllFound writer reader limits skip bytes found
   pub told : text ≡ found_line (nodes_for writer reader) found
   pub status_is : status ≡ all_status (found ∷ [])
+
+-- such a line is put behind the bytes that were there
+abbrev pub IsLinePut : List Node → Option (List Node) → LimitValues → ℕ → List ℕ → List ℕ → List ℕ → ℕ → Type 0
+IsLinePut writer reader limits skip bytes from to status = (line : List ℕ) × IsLineTold writer reader limits skip bytes line status × (to ≡ from ++ line)
