@@ -16,7 +16,7 @@ use Rattle.avro_answer.specs.declared.refusal.Refusal.{Refusal}
 use Rattle.avro_tool.specs.FailureText.{exit_status, IsPutFailure}
 use Rattle.avro_tool.specs.PlainAnswers.{Known}
 use Rattle.avro_tool.specs.PlainWords.{PlainWords}
-use Rattle.avro_tool.specs.TextsRefused.{RefusesCertificate, RefusesNothing, RefusesPlain, RefusesSchema, RefusesThree, RefusesTwo}
+use Rattle.avro_tool.specs.TextsRefused.{RefusesCertificateOf, RefusesNothing, RefusesPlain, RefusesSchema, RefusesThree, RefusesTwo}
 use Rattle.avro_tool.specs.declared.failure.Failure.{Failure}
 use Rattle.avro_tool.proofs.KnownTexts.{known_is, whole_text}
 
@@ -46,17 +46,17 @@ module _ (known : Known) where
 
   pub certificate_refused : (word : Bor (List ℕ)) (bytes : List ℕ) (e : CertError) (failure : Failure) → IfSome (known word.now) (λ all. bytes ≡ all) → Refuses e bytes
       → (e ≡ CertError.OutOfMemory → failure ≡ Failure.OutOfMemory) → (e ≢ CertError.OutOfMemory → failure ≡ Failure.Certificate word e)
-      → RefusesCertificate known word.now failure
-  certificate_refused word bytes CertError.OutOfMemory failure is refused memory other = subst (RefusesCertificate known word.now) (sym (memory refl)) tt
+      → RefusesCertificateOf known word.now failure
+  certificate_refused word bytes CertError.OutOfMemory failure is refused memory other = subst (RefusesCertificateOf known word.now) (sym (memory refl)) tt
   certificate_refused word bytes e failure is refused memory other =
-      subst (RefusesCertificate known word.now) (sym (other (λ h. absurd cc))) (refl, of_known (known word.now) is)
+      subst (RefusesCertificateOf known word.now) (sym (other (λ h. absurd cc))) (refl, of_known (known word.now) is)
     where
       of_known : (o : Option (List ℕ)) → IfSome o (λ all. bytes ≡ all) → IfSome o (λ text. (e ≢ CertError.OutOfMemory) × Refuses e text)
       of_known None h = tt
       of_known (Some all) h = ((λ m. absurd cc), subst (Refuses e) h refused)
 
   pub certificate_too_long : (word : Bor (List ℕ)) (bytes : List ℕ) → IfSome (known word.now) (λ all. bytes ≡ take 268435457 all) → 268435456 < length bytes
-      → RefusesCertificate known word.now (Failure.Certificate word CertError.Malformed)
+      → RefusesCertificateOf known word.now (Failure.Certificate word CertError.Malformed)
   certificate_too_long word bytes is long = (refl, of_known (known word.now) is)
     where
       of_known : (o : Option (List ℕ)) → IfSome o (λ all. bytes ≡ take 268435457 all) → IfSome o (λ text. (CertError.Malformed ≢ CertError.OutOfMemory) × Refuses CertError.Malformed text)
@@ -67,7 +67,7 @@ module _ (known : Known) where
   nothing_schema word (Failure.Schema named e) h = absurd h
   nothing_schema word failure h = h
 
-  pub nothing_certificate : (word : List ℕ) (failure : Failure) → RefusesNothing failure → RefusesCertificate known word failure
+  pub nothing_certificate : (word : List ℕ) (failure : Failure) → RefusesNothing failure → RefusesCertificateOf known word failure
   nothing_certificate word (Failure.Certificate named e) h = absurd h
   nothing_certificate word failure h = h
 
@@ -90,7 +90,7 @@ module _ (known : Known) where
     two_three certificate failure h = h
 
     pub certificate_three : (certificate : List ℕ) → IfSome (known writer) HasSchema → IfSome (known reader) HasSchema → (failure : Failure)
-        → RefusesCertificate known certificate failure → RefusesThree known writer reader certificate failure
+        → RefusesCertificateOf known certificate failure → RefusesThree known writer reader certificate failure
     certificate_three certificate written read (Failure.Certificate named e) h = (h.0, written, read, h.1)
     certificate_three certificate written read (Failure.Schema named e) h = absurd h
     certificate_three certificate written read failure h = h

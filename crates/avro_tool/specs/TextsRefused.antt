@@ -24,9 +24,9 @@ RefusesSchema known word (Failure.Schema named e) = (named.now ≡ word) × IfSo
 RefusesSchema known word failure = RefusesNothing failure
 
 -- a failure to read a certificate
-abbrev pub RefusesCertificate : Known → List ℕ → Failure → Type 0
-RefusesCertificate known word (Failure.Certificate named e) = (named.now ≡ word) × IfSome (known word) (λ text. (e ≢ CertError.OutOfMemory) × Refuses e text)
-RefusesCertificate known word failure = RefusesNothing failure
+abbrev pub RefusesCertificateOf : Known → List ℕ → Failure → Type 0
+RefusesCertificateOf known word (Failure.Certificate named e) = (named.now ≡ word) × IfSome (known word) (λ text. (e ≢ CertError.OutOfMemory) × Refuses e text)
+RefusesCertificateOf known word failure = RefusesNothing failure
 
 -- a failure to read two schemas: the first that is refused is this one
 abbrev pub RefusesTwo : Known → List ℕ → List ℕ → Failure → Type 0

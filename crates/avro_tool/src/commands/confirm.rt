@@ -9,7 +9,7 @@ ghost use Rattle.avro_tool.specs.FailsOnlyFor.{FailsOnlyFor};
 ghost use Rattle.avro_tool.specs.FailureText.{IsPutFailure};
 ghost use Rattle.avro_tool.specs.FilesAnswered.{ConfirmsFiles};
 ghost use Rattle.avro_tool.specs.FoundStatus.{finding_status};
-ghost use Rattle.avro_tool.specs.TextsRefused.{RefusesCertificate};
+ghost use Rattle.avro_tool.specs.TextsRefused.{RefusesCertificateOf};
 
 use crate::Finding;
 use crate::failure::Failure;
@@ -49,7 +49,7 @@ fn confirm_pair<'a, T: Texts, O: Output>(
 ) -> Result<Finding, Failure<'a>>
     ensures answered { form ≡ Form.Text → IfOk result (λ f. (w r c : List ℕ) → IsReadAs w (schema_nodes writer.now) → IsReadAs r (schema_nodes reader.now)
         → T.known texts.now certificate.now ≡ Some c → (text : List ℕ) × ConfirmAnswer w r c text (finding_status f) × O.keeps out.old text out.new) }
-    ensures refused { IfErr result (RefusesCertificate (T.known texts.now) certificate.now) }
+    ensures refused { IfErr result (RefusesCertificateOf (T.known texts.now) certificate.now) }
 {
     let certificate = read_certificate_file(texts, certificate)?;
     tell_confirmed(texts.alloc(), writer, reader, &certificate, form, out)

@@ -5,7 +5,7 @@ ghost use Rattle.std.specs.Option.{IfSome};
 ghost use Rattle.std.specs.Result.{IfErr};
 ghost use Rattle.avro_certificate.specs.CertificateText.{CertText, are_small};
 ghost use Rattle.avro_certificate.specs.SeenCertificate.{dead_of, pairs_in};
-ghost use Rattle.avro_tool.specs.TextsRefused.{RefusesCertificate, RefusesNothing};
+ghost use Rattle.avro_tool.specs.TextsRefused.{RefusesCertificateOf, RefusesNothing};
 
 use crate::failure::Failure;
 use crate::files::schema::bytes_of;
@@ -22,7 +22,7 @@ pub(crate) fn read_certificate_file<'a, T: Texts>(
 ) -> Result<Certificate, Failure<'a>>
     ensures found { IfOk result (λ c. IfSome (T.known texts.now word.now) (λ text. CertText (dead_of c) (pairs_in c) text)) }
     ensures small { IfOk result (λ c. are_small (dead_of c) (pairs_in c) ≡ true) }
-    ensures refused { IfErr result (RefusesCertificate (T.known texts.now) word.now) }
+    ensures refused { IfErr result (RefusesCertificateOf (T.known texts.now) word.now) }
 {
     let bytes = bytes_of_certificates(texts, word)?;
     match Certificate::read(texts.alloc(), &bytes) {
@@ -76,7 +76,7 @@ pub(crate) fn write_history_file<'a, R: Files + AllocGlobal>(
 /// longer text is refused.
 fn bytes_of_certificates<'a, T: Texts>(texts: &T, word: &'a str) -> Result<Vec<u8>, Failure<'a>>
     ensures found { IfOk result (λ bytes. IfSome (T.known texts.now word.now) (λ text. bytes.items ≡ text)) }
-    ensures refused { IfErr result (RefusesCertificate (T.known texts.now) word.now) }
+    ensures refused { IfErr result (RefusesCertificateOf (T.known texts.now) word.now) }
 {
     let bytes = bytes_of(texts, word, Certificate::MAX_LEN as u64 + 1)?;
     if bytes.len() > Certificate::MAX_LEN {
