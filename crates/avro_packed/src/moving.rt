@@ -7,7 +7,7 @@ ghost use Rattle.avro_binary.specs.Outputs.{Grows, StandsAt};
 ghost use Rattle.avro_packed.specs.Appended.{AppendsWithin, Holds};
 
 use crate::limit::Limit;
-use crate::numbers::{append_byte, append_number};
+use crate::numbers::{append_byte, append_bytes, append_number};
 use crate::spares::{buffer, give};
 use crate::written::{Apart, Written};
 use std::alloc::{AllocError, Global};
@@ -24,7 +24,7 @@ fn append_range(out: &[u8], start: usize, end: usize, to: &mut Vec<u8>) -> Resul
     }
     let (_, rest) = out.split_at(start);
     let (bytes, _) = rest.split_at(end - start);
-    to.extend_from_slice(bytes)
+    append_bytes(bytes, to)
 }
 
 /// Appends to other bytes what was written; if memory runs out, or it was only counted, a part of it.

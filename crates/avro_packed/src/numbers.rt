@@ -7,14 +7,30 @@ ghost use Rattle.avro_binary.specs.Outputs.{Grows};
 use avro_zigzag::to_zigzag;
 use std::alloc::AllocError;
 
-/// Appends a byte.
+/// Appends a byte. Where there is room for it, that takes no call.
 #[inline(always)]
 pub(crate) fn append_byte(byte: u8, out: &mut Vec<u8>) -> Result<(), AllocError>
     ensures appended { OnOk result (out.new.items ≡ out.old.items ++ byte ∷ []) }
     ensures stays { (front : List ℕ) → Grows front out.old.items → Grows front out.new.items }
 {
+    if out.len() < out.capacity() {
+        out.push_reserved(byte);
+        return Ok(());
+    }
     out.push(byte)?;
     Ok(())
+}
+
+/// Appends bytes at hand.
+#[inline(always)]
+pub(crate) fn append_bytes(content: &[u8], out: &mut Vec<u8>) -> Result<(), AllocError>
+    ensures appended { OnOk result (out.new.items ≡ out.old.items ++ content.now) }
+    ensures stays { (front : List ℕ) → Grows front out.old.items → Grows front out.new.items }
+{
+    if content.len() == 1 {
+        return append_byte(content[0], out);
+    }
+    out.extend_from_slice(content)
 }
 
 /// Appends a number in its shortest spelling.

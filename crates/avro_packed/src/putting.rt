@@ -10,7 +10,7 @@ ghost use Rattle.avro_binary.specs.Outputs.{Grows};
 use crate::appending::Appending;
 use crate::gathered::Gathered;
 use crate::moving::{append_measured, is_nothing, join, join_key, join_near};
-use crate::numbers::{append_byte, append_number};
+use crate::numbers::{append_byte, append_bytes, append_number};
 use crate::spares::{give_list, list};
 use crate::written::Written;
 use avro_binary::{Leaf, Make, Place, append_plain};
@@ -33,15 +33,6 @@ fn append_leaf(leaf: Leaf<'_>, out: &mut Vec<u8>) -> Result<(), AllocError>
         Leaf::Fixed(content) => append_bytes(content, out),
         Leaf::Symbol(index) => append_number(i64::from(index), out),
     }
-}
-
-/// Appends bytes at hand.
-#[inline(always)]
-fn append_bytes(content: &[u8], out: &mut Vec<u8>) -> Result<(), AllocError>
-    ensures appended { OnOk result (out.new.items ≡ out.old.items ++ content.now) }
-    ensures stays { (front : List ℕ) → Grows front out.old.items → Grows front out.new.items }
-{
-    out.extend_from_slice(content)
 }
 
 /// Appends a datum at hand.
