@@ -1,4 +1,4 @@
-ghost use Rattle.std.specs.Prelude.{◌≡◌, ◌≢◌, ◌⊎◌, ◌<◌, ◌≤◌, ◌↔◌, List, length, IfOk, IfErr, IsErrOf};
+ghost use Rattle.std.specs.Prelude.{◌≡◌, ◌≢◌, ◌⊎◌, ◌<◌, ◌≤◌, ◌↔◌, List, false, length, IfOk, IfErr, IsErrOf};
 ghost use Rattle.avro_schema.specs.Node.{Node};
 ghost use Rattle.avro_schema.specs.SeenSchema.{schema_nodes};
 ghost use Rattle.avro_schema_json.specs.Declaration.{max_text, HasTree, IsNoJson};
@@ -10,6 +10,7 @@ ghost use Rattle.avro_schema_json.specs.TextRefusals.{IsRefusalOf};
 ghost use Rattle.avro_schema_json.specs.declared.error.SchemaError.TheVariants.{NotJson, OutOfMemory};
 ghost use Rattle.serde_json.specs.Data.{Data};
 ghost use Rattle.serde_json.specs.View.{view};
+ghost use Rattle.serde_json.specs.Written.{has_float};
 
 use crate::completed::schema_of;
 use crate::declarations::declarations;
@@ -62,7 +63,8 @@ fn read_tree(alloc: Global, text: &[u8]) -> Result<Value, SchemaError>
     }
 }
 
-/// The schema that a tree declares. The text only serves to hash names.
+/// The schema that a tree declares. The text only serves to hash names. What repeats is told before other faults of nodes, whether or
+/// not defaults need tables: a tree that is refused without them is read once more with them.
 fn declared_schema(alloc: Global, text: &[u8], tree: &Value) -> Result<Schema, SchemaError>
     ensures found { IfOk result (λ schema. DeclaresSchema (view tree.now) (schema_nodes schema)) }
     ensures refused { IfErr result (λ e. (e ≡ OutOfMemory) ⊎ HasFault (view tree.now) e) }
@@ -73,6 +75,20 @@ fn declared_schema(alloc: Global, text: &[u8], tree: &Value) -> Result<Schema, S
         return Err(SchemaError::UnsupportedNumber);
     }
     let seeds = Seeds::of(text, survey);
+    let read = schema_by(alloc, seeds, tree);
+    if read.is_err() && seeds.defaults.is_none() {
+        return schema_by(alloc, seeds.with_tables(text), tree);
+    }
+    read
+}
+
+/// The schema that a tree declares, by tables with these seeds.
+fn schema_by(alloc: Global, seeds: Seeds, tree: &Value) -> Result<Schema, SchemaError>
+    requires whole { false ≡ has_float (view tree.now) }
+    ensures found { IfOk result (λ schema. DeclaresSchema (view tree.now) (schema_nodes schema)) }
+    ensures refused { IfErr result (λ e. (e ≡ OutOfMemory) ⊎ HasFault (view tree.now) e) }
+    ensures json { IfErr result (λ e. e ≢ NotJson) }
+{
     let raws = declarations(alloc, seeds, tree)?;
     schema_of(alloc, seeds, raws)
 }

@@ -28,4 +28,11 @@ impl Seeds {
             },
         }
     }
+    /// The same with tables for the defaults, also where they help to read none.
+    pub fn with_tables(self, text: &[u8]) -> Seeds {
+        Seeds {
+            names: self.names,
+            defaults: Some(Seeded::of_text(text)),
+        }
+    }
 }

@@ -1,7 +1,7 @@
 use Rattle.avro_schema_json.proofs.Words.{◌≡◌, ◌⊎◌, inl, inr, true, false, List, [], Result, Ok, Err, sym, ◌∙◌, Contains, IfOk, IfErr, OnOk, err_from_is_err_and, schema_nodes, is_schema, Schema, Data, has_float, view, SchemaError, RawNode, made_of, unless, refusals_of_nodes, or_else, HasFault, completed_nodes, are_all_defaults_read, DeclaresSchema, raw_nodes_of}
 use Rattle.avro_schema_json.proofs.MadeSound.{made_fault, fault-other}
 use Rattle.avro_schema_json.proofs.ReadSeen.{declared-found, fault-found}
-use Rattle.avro_schema_json.proofs.read.declared_schema.Goals as goal
+use Rattle.avro_schema_json.proofs.read.schema_by.Goals as goal
 
 schema_found : (tree : Data) (raws : List RawNode) (r : Result Schema SchemaError) → false ≡ has_float tree → (made_of tree).faults ≡ [] → raws ≡ (made_of tree).nodes
     → IfOk r (λ schema. schema_nodes schema ≡ completed_nodes raws) → OnOk r (is_schema (completed_nodes raws) ≡ true) → OnOk r (are_all_defaults_read raws ≡ true)
@@ -29,19 +29,19 @@ made_refused tree e (inr c) is = made_fault tree e c is
 
 pub returns-clause-found : goal.returns-clause-found
 returns-clause-found c =
-    let float = sym c.if-has_float.false ∙ c.has_float.ensures in
+    let float = c.requires.whole in
     schema_found (view c.args.tree.now) (raw_nodes_of c.in_ok-raws.raws.items) c.schema_of.result float c.in_ok-raws.ensures.found.0 c.in_ok-raws.ensures.found.1
     c.schema_of.ensures.found c.schema_of.ensures.formed c.schema_of.ensures.read
 
 pub returns-clause-refused : goal.returns-clause-refused
 returns-clause-refused c =
-    let float = sym c.if-has_float.false ∙ c.has_float.ensures in
+    let float = c.requires.whole in
     schema_refused (view c.args.tree.now) (raw_nodes_of c.in_ok-raws.raws.items) c.schema_of.result float c.in_ok-raws.ensures.found.0 c.in_ok-raws.ensures.found.1
     c.schema_of.ensures.refused
 
 pub returns-clause-json : goal.returns-clause-json
 returns-clause-json c =
-    let float = sym c.if-has_float.false ∙ c.has_float.ensures in
+    let float = c.requires.whole in
     no_json (view c.args.tree.now) c.schema_of.result (schema_refused (view c.args.tree.now) (raw_nodes_of c.in_ok-raws.raws.items) c.schema_of.result float
     c.in_ok-raws.ensures.found.0 c.in_ok-raws.ensures.found.1 c.schema_of.ensures.refused)
 
