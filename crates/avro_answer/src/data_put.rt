@@ -15,7 +15,7 @@ ghost use Rattle.avro_answer.specs.inside.AtFront.{of_put};
 ghost use Rattle.avro_answer.specs.inside.DatumParts.{text_around};
 
 use crate::data_error::DataError;
-use crate::datum_texts::text_with;
+use crate::datum_texts::append_text;
 use crate::form::Form;
 use crate::putting::put_text;
 use avro_device::Output;
@@ -29,18 +29,21 @@ use std::alloc::Global;
 pub(crate) fn put_shown<O: Output>(
     out: &mut O,
     alloc: Global,
-    scratch: &Scratch,
+    scratch: &mut Scratch,
     len: usize,
     form: Form,
 ) -> Result<(), PutError>
-    ensures put { (display : List ℕ) → StandsIn scratch.now.text scratch.now.shown display → OnOk result (O.keeps out.old (text_around form display len) out.new) }
-    ensures front { (display : List ℕ) → StandsIn scratch.now.text scratch.now.shown display → OnErr result (PutsFrontOf O.keeps out.old out.new (text_around form display len)) }
+    ensures put { (display : List ℕ) → StandsIn scratch.old.text scratch.old.shown display → OnOk result (O.keeps out.old (text_around form display len) out.new) }
+    ensures front { (display : List ℕ) → StandsIn scratch.old.text scratch.old.shown display → OnErr result (PutsFrontOf O.keeps out.old out.new (text_around form display len)) }
     ensures works { OnOk result (O.failures out.new ≡ O.failures out.old) }
     ensures fails { IsErrOf result PutError.CannotWrite → (O.failures out.new ≢ O.failures out.old) ⊎ O.stuck out.new }
     ensures memory { IsErrOf result PutError.OutOfMemory → O.failures out.new ≡ O.failures out.old }
 {
-    let text = text_with(alloc, scratch.shown(), len, form)?;
-    put_text(out, &text)
+    let mut text = scratch.take_line(alloc);
+    append_text(&mut text, scratch.shown(), len, form)?;
+    put_text(out, &text)?;
+    scratch.keep_line(text);
+    Ok(())
 }
 
 /// Appends the display of what a writer's datum is for a plan's reader, whose schema the table's is, to a text that is put in pieces.

@@ -16,38 +16,27 @@ use avro_certificate::append_decimal;
 use avro_resolve::ReadResolveError;
 use std::alloc::{AllocError, Global};
 
-/// The most bytes that are around the display of a datum: its length has 20 digits at most.
-pub(crate) const AROUND: usize = 40;
-
-/// The text of a datum by its display and the length of its encoding.
-pub(crate) fn text_with(
-    alloc: Global,
+/// Appends the text of a datum by its display and the length of its encoding.
+pub(crate) fn append_text(
+    text: &mut Vec<u8>,
     display: &[u8],
     len: usize,
     form: Form,
-) -> Result<Vec<u8>, AllocError>
-    ensures { IfOk result (λ text. text.items ≡ text_around form display.now len) }
+) -> Result<(), AllocError>
+    ensures { OnOk result (text.new.items ≡ text.old.items ++ text_around form display.now len) }
 {
-    let mut text = head(alloc, AROUND + display.len(), len, form)?;
+    append_head(text, len, form)?;
     text.extend_from_slice(display)?;
-    text.extend_from_slice(tail(form))?;
-    Ok(text)
+    text.extend_from_slice(tail(form))
 }
 
-/// What is before the display of a datum, the length of its encoding, with room for so many bytes.
-pub(crate) fn head(
-    alloc: Global,
-    room: usize,
-    len: usize,
-    form: Form,
-) -> Result<Vec<u8>, AllocError>
-    ensures { IfOk result (λ text. text.items ≡ head_of form len) }
+/// Appends what is before the display of a datum: the length of its encoding.
+pub(crate) fn append_head(text: &mut Vec<u8>, len: usize, form: Form) -> Result<(), AllocError>
+    ensures { OnOk result (text.new.items ≡ text.old.items ++ head_of form len) }
 {
-    let mut text = Vec::with_capacity(alloc, room)?;
     text.extend_from_slice(before(form))?;
-    append_decimal(&mut text, len as u64)?;
-    text.extend_from_slice(between(form))?;
-    Ok(text)
+    append_decimal(text, len as u64)?;
+    text.extend_from_slice(between(form))
 }
 
 /// What is before the length.

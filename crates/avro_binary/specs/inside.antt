@@ -1,2 +1,3 @@
 pub mod PassesAtOnce
 pub mod PassesRun
+pub mod TakesNumbers

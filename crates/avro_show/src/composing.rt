@@ -49,6 +49,17 @@ pub(crate) fn append_items(whole: &mut Text, text: &[u8], items: &[Span]) -> Res
     whole.append_byte(b']')
 }
 
+/// Appends the displays of numbers, with commas between them.
+pub(crate) fn append_numbers(text: &mut Text, numbers: &[i64]) -> Result<(), AllocError> {
+    let mut later = false;
+    for number in numbers {
+        text.append_comma(later)?;
+        text.append_number(*number)?;
+        later = true;
+    }
+    Ok(())
+}
+
 /// Appends the display of an object, whose values stand in a text.
 pub(crate) fn append_entries(
     whole: &mut Text,

@@ -1,6 +1,8 @@
 //! The display of a datum, made while the datum is read.
 
-use crate::composing::{append_encoded, append_entries, append_items, append_members};
+use crate::composing::{
+    append_encoded, append_entries, append_items, append_members, append_numbers,
+};
 use crate::leaf::append_leaf;
 use crate::scratch::Scratch;
 use crate::spans::{KeyedSpans, Span, Spans};
@@ -144,6 +146,32 @@ impl<'a> Make for Displaying<'a> {
     fn item(&mut self, _alloc: Global, items: &mut Spans, value: Span) -> Result<(), AllocError> {
         items.parts.push(value)?;
         Ok(())
+    }
+
+    fn number_list(&mut self, alloc: Global, _items: &Spans, count: u32) -> Option<Vec<i64>> {
+        if self.scratch.is_full(count as usize) {
+            return None;
+        }
+        Some(self.scratch.take_numbers(alloc))
+    }
+
+    fn keep_numbers(&mut self, list: Vec<i64>) {
+        self.scratch.keep_numbers(list);
+    }
+
+    fn numbers(
+        &mut self,
+        _alloc: Global,
+        items: &mut Spans,
+        numbers: &[i64],
+    ) -> Result<bool, AllocError> {
+        if numbers.is_empty() {
+            return Ok(false);
+        }
+        let start = self.scratch.begin(None)?;
+        append_numbers(&mut self.scratch.text, numbers)?;
+        items.parts.push(self.scratch.end(None, start)?)?;
+        Ok(true)
     }
 
     fn array(&mut self, _alloc: Global, items: Spans) -> Result<Span, AllocError> {

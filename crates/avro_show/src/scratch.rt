@@ -32,6 +32,10 @@ pub struct Scratch {
     lists: Vec<Vec<Span>>,
     // lists for the fields of records that are resolved
     slots: Vec<Vec<Option<Span>>>,
+    // a list for numbers
+    numbers: Vec<i64>,
+    // what is put of a datum
+    line: Vec<u8>,
 }
 
 impl Scratch {
@@ -46,6 +50,8 @@ impl Scratch {
             ends: Vec::new(alloc),
             lists: Vec::new(alloc),
             slots: Vec::new(alloc),
+            numbers: Vec::new(alloc),
+            line: Vec::new(alloc),
         }
     }
 
@@ -54,6 +60,22 @@ impl Scratch {
         ensures { (bytes : List ℕ) → StandsIn self.now.text self.now.shown bytes → result.now ≡ bytes }
     {
         bytes_at(self.text.as_slice(), self.shown)
+    }
+
+    /// An empty list for what is put of the datum.
+    pub fn take_line(&mut self, alloc: Global) -> Vec<u8>
+        ensures text { self.new.text ≡ self.old.text }
+        ensures shown { self.new.shown ≡ self.old.shown }
+        ensures none { result.items ≡ [] }
+    {
+        let mut line = replace(&mut self.line, Vec::new(alloc));
+        line.clear();
+        line
+    }
+
+    /// Keeps such a list for later.
+    pub fn keep_line(&mut self, line: Vec<u8>) {
+        self.line = line;
     }
 
     /// A list for the ends of fields.
@@ -101,6 +123,23 @@ impl Scratch {
         ensures { self.new.text ≡ self.old.text }
     {
         give_list(&mut self.slots, slots);
+    }
+
+    /// An empty list for numbers.
+    pub(crate) fn take_numbers(&mut self, alloc: Global) -> Vec<i64>
+        ensures text { self.new.text ≡ self.old.text }
+        ensures none { result.items ≡ [] }
+    {
+        let mut list = replace(&mut self.numbers, Vec::new(alloc));
+        list.clear();
+        list
+    }
+
+    /// Keeps such a list for later.
+    pub(crate) fn keep_numbers(&mut self, list: Vec<i64>)
+        ensures { self.new.text ≡ self.old.text }
+    {
+        self.numbers = list;
     }
 
     /// Begins a display, behind the text that opens the branch of a union, if it goes into one, and returns where.

@@ -8,6 +8,7 @@ ghost use Rattle.avro_binary.specs.declared.place.Place.{Place as SeenPlace};
 ghost use Rattle.avro_resolve.specs.inside.Guided.{EntriesStandAs, ItemsStandAs, StandsAs, next_at, part_below};
 
 use crate::plan::plan_ref::PlanRef;
+use crate::plan::verbatim::is_copied;
 use crate::resolving::failing::{fault_apart, step_apart};
 use crate::resolving::guided::{Made, Part, Run};
 use crate::resolving::leaves::into_branch;
@@ -138,6 +139,61 @@ fn repeat_good<M: Make<At = Place>>(
             false
         }
         None => false,
+    }
+}
+
+/// A list for the numbers of the next items, where the maker of these takes them at once.
+pub(crate) fn list_for<M: Make<At = Place>>(
+    alloc: Global,
+    maker: &mut M,
+    items: &Run<M::Items>,
+    count: u32,
+) -> Option<Vec<i64>> {
+    match items {
+        Run::Good(kept, _, _, _, _) => maker.number_list(alloc, kept, count),
+        Run::Faulty(_) => None,
+        Run::Nothing => None,
+    }
+}
+
+/// Adds items that are numbers after those before, or adds none.
+pub(crate) fn put_numbers<M: Make<At = Place>>(
+    alloc: Global,
+    maker: &mut M,
+    plan: &PlanRef<'_>,
+    index: u32,
+    items: &mut Run<M::Items>,
+    numbers: &[i64],
+) -> Result<bool, AllocError> {
+    match items {
+        Run::Good(kept, known, _, a, b) => {
+            if !is_copied(plan, index, *a, *b) {
+                return Ok(false);
+            }
+            add_numbers(alloc, maker, kept, known, numbers)
+        }
+        Run::Faulty(_) => Ok(false),
+        Run::Nothing => Ok(false),
+    }
+}
+
+/// Adds items that are numbers after those before, and counts them, or adds none.
+fn add_numbers<M: Make<At = Place>>(
+    alloc: Global,
+    maker: &mut M,
+    kept: &mut M::Items,
+    known: &mut usize,
+    numbers: &[i64],
+) -> Result<bool, AllocError> {
+    match known.checked_add(numbers.len()) {
+        Some(next) => {
+            if maker.numbers(alloc, kept, numbers)? {
+                *known = next;
+                return Ok(true);
+            }
+            Ok(false)
+        }
+        None => Ok(false),
     }
 }
 
