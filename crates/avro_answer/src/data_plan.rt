@@ -6,7 +6,7 @@ ghost use Rattle.avro_schema.specs.SeenSchema.{schema_nodes};
 use crate::data_error::DataError;
 use crate::data_found::{display_for, display_plain, pass_for, pass_plain};
 use crate::data_put::{as_data, put_for, put_plain, put_shown};
-use crate::datum_texts::{append_head, behind, is_memory, tail};
+use crate::datum_texts::{behind, head, is_memory, tail};
 use crate::form::Form;
 use crate::putting::put_text;
 use avro_binary::{ReadError, decode};
@@ -259,8 +259,7 @@ impl<'a> DataPlan<'a> {
         ensures fails { IsErrOf result PutError.CannotWrite → (O.failures out.new ≢ O.failures out.old) ⊎ O.stuck out.new }
         ensures memory { IsErrOf result PutError.OutOfMemory → O.failures out.new ≡ O.failures out.old }
     {
-        let mut head = Vec::new(alloc);
-        append_head(&mut head, len, form)?;
+        let head = head(alloc, len, form)?;
         let mut text = Text::holding(head);
         self.put_datum(&mut *out, &mut text, datum)?;
         text.append(tail(form))?;

@@ -30,8 +30,17 @@ pub(crate) fn append_text(
     text.extend_from_slice(tail(form))
 }
 
-/// Appends what is before the display of a datum: the length of its encoding.
-pub(crate) fn append_head(text: &mut Vec<u8>, len: usize, form: Form) -> Result<(), AllocError>
+/// What is before the display of a datum: the length of its encoding.
+pub(crate) fn head(alloc: Global, len: usize, form: Form) -> Result<Vec<u8>, AllocError>
+    ensures { IfOk result (λ text. text.items ≡ head_of form len) }
+{
+    let mut text = Vec::new(alloc);
+    append_head(&mut text, len, form)?;
+    Ok(text)
+}
+
+/// Appends what is before the display of a datum.
+fn append_head(text: &mut Vec<u8>, len: usize, form: Form) -> Result<(), AllocError>
     ensures { OnOk result (text.new.items ≡ text.old.items ++ head_of form len) }
 {
     text.extend_from_slice(before(form))?;

@@ -1,16 +1,17 @@
 -- The display of a whole, part by part.
-use Rattle.std.proofs.Common.{◌≡◌, ◌<◌, ◌≤◌, ◌+◌, ℕ, List, [], ◌∷◌, ◌++◌, length, drop, get_or, Bool, true, sym, ap, subst, ◌∙◌, append_assoc, arith}
+use Rattle.std.proofs.Common.{◌≡◌, ◌<◌, ◌≤◌, ◌+◌, ℕ, ℤ, List, [], ◌∷◌, ◌++◌, length, drop, get_or, Bool, false, true, refl, sym, ap, subst, ◌∙◌, append_assoc, append-nil, arith}
 use Rattle.std.specs.Prelude.{String, string_bytes}
 use Rattle.std.specs.List.{AllByRecursion}
 use Rattle.std.specs.declared.alloc.Global.{Global}
 use Rattle.std.proofs.lemmas.List.{drop_more, drop_all}
 use Rattle.std.proofs.lemmas.Option.{get_or_from_slice_get}
-use Rattle.serde_json.specs.Data.{Data, Items, Members}
-use Rattle.serde_json.specs.Written.{comma_if, compact_text, items_text, members_text}
+use Rattle.serde_json.specs.Data.{Data, Items, no_items, item, Members}
+use Rattle.serde_json.specs.Find.{of_integer}
+use Rattle.serde_json.specs.Written.{comma_if, compact_text, items_text, members_text, number_text}
 use Rattle.avro_display.specs.Displayed.{members_left, object_text}
 use Rattle.avro_display.specs.Table.{head_text}
 use Rattle.avro_display.specs.declared.member.Member.{Member}
-use Rattle.avro_show.specs.Spans.{AreItemsAt, AreMembersAt, IsSpanAt, StandsIn}
+use Rattle.avro_show.specs.Spans.{AreItemsAt, AreMembersAt, IsSpanAt, StandsIn, number_items, run_text, then_items}
 use Rattle.avro_show.specs.declared.spans.Span.{Span}
 
 module _ (text all now : List ℕ) where
@@ -21,13 +22,18 @@ module _ (text all now : List ℕ) where
   abbrev pub EntriesLeft : Bool → List (String Global × Span) → Type 0
   EntriesLeft later spans = (left : Members) × AreMembersAt text spans left × (all ≡ now ++ members_text later left)
 
+-- the text of several items and of those after them
+run_then : (ds es : Items) → items_text true (then_items ds es) ≡ run_text true ds ++ items_text true es
+run_then no_items es = refl
+run_then (item d ds) es = rw (run_then ds es) (simp append_assoc)
+
 module _ (text all now next then : List ℕ) where
   pub items_more : (later : Bool) (spans : List Span) (i : ℕ) (s : Span) → i < length spans → next ≡ now ++ comma_if later
       → ((bytes : List ℕ) → StandsIn text (get_or spans i s) bytes → then ≡ next ++ bytes) → ItemsLeft text all now later (drop i spans) → ItemsLeft text all then true (drop (i + 1) spans)
   items_more later spans i s within has step left =
       let (ds, are, is) = subst (λ (l : List Span). ItemsLeft text all now later l) (drop_more spans i s within) left in
-      let (d, rest, e, stands, more) = are in
-      (rest, more, is ∙ ap (λ (x : Items). now ++ items_text later x) e ∙ rw (step (compact_text d) stands, has) (simp append_assoc))
+      let (d, more, rest, e, stands, others) = are in
+      (rest, others, is ∙ ap (λ (x : Items). now ++ items_text later x) e ∙ rw (step (run_text false (item d more)) stands, has, run_then more rest) (simp append_assoc))
 
   pub entries_more : (later : Bool) (spans rest : List (String Global × Span)) (k : String Global) (s : Span) → spans ≡ (k, s) ∷ rest → next ≡ now ++ (comma_if later ++ head_text (string_bytes k))
       → ((bytes : List ℕ) → StandsIn text s bytes → then ≡ next ++ bytes) → EntriesLeft text all now later spans → EntriesLeft text all then true rest
@@ -54,3 +60,16 @@ members_last front now then tree (m ∷ ms) i some past has is = has ∙ ap (λ 
 -- what stands where the span at an index says
 pub span_here : (text : List ℕ) (spans : List Span) (k : ℕ) (s : Span) (bytes : List ℕ) → s ≡ get_or spans k s → IsSpanAt text spans k bytes → StandsIn text s bytes
 span_here text spans k s bytes is (span, got, stands) = subst (λ (x : Span). StandsIn text x bytes) (sym (is ∙ get_or_from_slice_get spans k span s got)) stands
+
+-- ---- Numbers
+
+module _ (all now next then : List ℕ) where
+  pub numbers_more : (later : Bool) (is : List ℤ) (k : ℕ) (i : ℤ) → k < length is → i ≡ get_or is k i → next ≡ now ++ comma_if later → then ≡ next ++ number_text (of_integer i)
+      → all ≡ now ++ run_text later (number_items (drop k is)) → all ≡ then ++ run_text true (number_items (drop (k + 1) is))
+  numbers_more later is k i within at has step left =
+      let split : drop k is ≡ i ∷ drop (k + 1) is = drop_more is k i within ∙ ap (λ (x : ℤ). x ∷ drop (k + 1) is) (sym at) in
+      left ∙ rw (split, step, has) (simp append_assoc)
+
+-- after the last number
+pub numbers_all : (all now : List ℕ) (later : Bool) (is : List ℤ) (k : ℕ) → length is ≤ k → all ≡ now ++ run_text later (number_items (drop k is)) → now ≡ all
+numbers_all all now later is k past left = sym (left ∙ ap (λ (l : List ℤ). now ++ run_text later (number_items l)) (drop_all k is past) ∙ append-nil now)

@@ -1,8 +1,6 @@
 //! The display of a datum, made while the datum is read.
 
-use crate::composing::{
-    append_encoded, append_entries, append_items, append_members, append_numbers,
-};
+use crate::composing::{append_encoded, append_entries, append_items, append_members};
 use crate::leaf::append_leaf;
 use crate::scratch::Scratch;
 use crate::spans::{KeyedSpans, Span, Spans};
@@ -168,9 +166,8 @@ impl<'a> Make for Displaying<'a> {
         if numbers.is_empty() {
             return Ok(false);
         }
-        let start = self.scratch.begin(None)?;
-        append_numbers(&mut self.scratch.text, numbers)?;
-        items.parts.push(self.scratch.end(None, start)?)?;
+        let span = self.scratch.numbers(numbers)?;
+        items.parts.push(span)?;
         Ok(true)
     }
 

@@ -2,9 +2,9 @@
 
 ghost use Rattle.std.specs.Prelude.{◌≡◌, ◌+◌, ◌≤◌, ◌++◌, [], List, false, ℕ, IfOk, OnOk, length};
 ghost use Rattle.avro_binary.specs.Outputs.{Grows};
-ghost use Rattle.avro_show.specs.Spans.{StandsIn, closed, opened};
+ghost use Rattle.avro_show.specs.Spans.{StandsIn, closed, number_items, opened, run_text};
 
-use crate::composing::bytes_at;
+use crate::composing::{append_numbers, bytes_at};
 use crate::spans::{Span, Spans};
 use avro_binary::Place;
 use avro_display::Text;
@@ -125,14 +125,11 @@ impl Scratch {
         give_list(&mut self.slots, slots);
     }
 
-    /// An empty list for numbers.
+    /// A list for numbers.
     pub(crate) fn take_numbers(&mut self, alloc: Global) -> Vec<i64>
-        ensures text { self.new.text ≡ self.old.text }
-        ensures none { result.items ≡ [] }
+        ensures { self.new.text ≡ self.old.text }
     {
-        let mut list = replace(&mut self.numbers, Vec::new(alloc));
-        list.clear();
-        list
+        replace(&mut self.numbers, Vec::new(alloc))
     }
 
     /// Keeps such a list for later.
@@ -175,6 +172,16 @@ impl Scratch {
             return Err(AllocError);
         }
         Ok(Span { start, end })
+    }
+
+    /// Makes the displays of numbers, with commas between them.
+    pub(crate) fn numbers(&mut self, numbers: &[i64]) -> Result<Span, AllocError>
+        ensures kept { OnOk result (Grows self.old.text self.new.text) }
+        ensures stands { IfOk result (λ span. StandsIn self.new.text span (run_text false (number_items numbers.now))) }
+    {
+        let start = self.text.len();
+        append_numbers(&mut self.text, numbers)?;
+        self.end(None, start)
     }
 
     /// Whether so many bytes more would be too many.

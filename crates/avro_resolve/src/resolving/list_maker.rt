@@ -1,8 +1,9 @@
-ghost use Rattle.std.specs.Prelude.{◌≡◌, ◌++◌, ◌∷◌, [], ℕ, IfOk, List, OnOk, replicate, true, false, ◌+◌, ◌<◌};
+ghost use Rattle.std.specs.Prelude.{◌≡◌, ◌++◌, ◌∷◌, [], ℕ, IfOk, List, OnOk, length, map, replicate, true, false, ◌+◌, ◌<◌};
 ghost use Rattle.avro_schema.specs.Node.{Node, node_at};
 ghost use Rattle.avro_schema.specs.Seen.{entries_from, values_from};
 ghost use Rattle.avro_schema.specs.SeenSchema.{schema_nodes};
 ghost use Rattle.avro_schema.specs.Value.{Value};
+ghost use Rattle.avro_binary.specs.LeafValue.{has_numbers, number_value};
 ghost use Rattle.avro_binary.specs.Places.{AreTold};
 ghost use Rattle.avro_binary.specs.declared.place.Place.{Place as SeenPlace};
 ghost use Rattle.avro_resolve.specs.inside.Guided.{EntriesStandAs, ItemsStandAs, StandsAs, next_at, part_below};
@@ -148,7 +149,9 @@ pub(crate) fn list_for<M: Make<At = Place>>(
     maker: &mut M,
     items: &Run<M::Items>,
     count: u32,
-) -> Option<Vec<i64>> {
+) -> Option<Vec<i64>>
+    ensures { M.keeps maker.old maker.new }
+{
     match items {
         Run::Good(kept, _, _, _, _) => maker.number_list(alloc, kept, count),
         Run::Faulty(_) => None,
@@ -164,7 +167,12 @@ pub(crate) fn put_numbers<M: Make<At = Place>>(
     index: u32,
     items: &mut Run<M::Items>,
     numbers: &[i64],
-) -> Result<bool, AllocError> {
+) -> Result<bool, AllocError>
+    ensures kept { OnOk result (M.keeps maker.old maker.new) }
+    ensures added { (nodes : List Node) (id : ℕ) (at : At) (vs : List Value) → has_numbers (node_at nodes id) ≡ true → ItemsStandAs (M.items_stand_for maker.old) (schema_nodes plan.now.0) (schema_nodes plan.now.1) nodes id at items.old vs
+        → IfOk result (λ added. added ≡ true → ItemsStandAs (M.items_stand_for maker.new) (schema_nodes plan.now.0) (schema_nodes plan.now.1) nodes id at items.new (vs ++ map (number_value (node_at nodes id)) numbers.now)) }
+    ensures none { IfOk result (λ added. added ≡ false → items.new ≡ items.old) }
+{
     match items {
         Run::Good(kept, known, _, a, b) => {
             if !is_copied(plan, index, *a, *b) {
@@ -184,7 +192,13 @@ fn add_numbers<M: Make<At = Place>>(
     kept: &mut M::Items,
     known: &mut usize,
     numbers: &[i64],
-) -> Result<bool, AllocError> {
+) -> Result<bool, AllocError>
+    ensures kept { OnOk result (M.keeps maker.old maker.new) }
+    ensures added { (nodes : List Node) (id : ℕ) (at : SeenPlace) (vs : List Value) → has_numbers (node_at nodes id) ≡ true → M.items_stand_for maker.old nodes id at kept.old vs
+        → IfOk result (λ added. added ≡ true → M.items_stand_for maker.new nodes id at kept.new (vs ++ map (number_value (node_at nodes id)) numbers.now)) }
+    ensures counted { IfOk result (λ added. added ≡ true → known.new ≡ known.old + length numbers.now) }
+    ensures none { IfOk result (λ added. added ≡ false → (kept.new ≡ kept.old) × (known.new ≡ known.old)) }
+{
     match known.checked_add(numbers.len()) {
         Some(next) => {
             if maker.numbers(alloc, kept, numbers)? {
