@@ -24,12 +24,14 @@
 //! are calls. When data are read for a reader, a leaf other than a long is also a call: otherwise the dispatcher is too large to be
 //! inlined, and each part costs a call.
 //!
-//! Three shortcuts change the time, not the result. The items after one that takes no bytes are the same datum: they are
+//! Four shortcuts change the time, not the result. The items after one that takes no bytes are the same datum: they are
 //! added at once (`repeat`), and the cursor counts their nodes, so that a limit is exceeded exactly where reading them one
 //! by one would exceed it. A datum or a run of fields without bytes, which may have a million nodes, is passed at once, by
 //! what the `Schema` knows of it (`empty`, `empty_fields`). A record whose fields all are leaves is given to a maker that
 //! accepts it as its bytes and the offsets where fields end (`ends`, `pieces`); if a leaf fails or the maker declines, the
 //! record is read again part by part, so faults and limits are those of that way.
+//! Items that are ints or longs are read in one loop into a list (`number_list`), and added at once (`numbers`); if one
+//! of them fails or the maker declines, they are read again one by one.
 #![tactic(auto)]
 
 mod build;
@@ -43,6 +45,7 @@ mod pieces;
 mod place;
 mod read;
 mod reading;
+mod spare;
 mod tree;
 mod walking;
 mod wrapping;
@@ -59,6 +62,7 @@ pub use pieces::{Pieces, piece_of};
 pub use place::Place;
 pub use read::{decode, read_made, read_own};
 pub use reading::read_at;
+pub use spare::{give_list, list};
 pub use tree::Tree;
 pub use walking::walk;
 pub use wrapping::Wrapping;

@@ -11,9 +11,8 @@ use crate::appending::Appending;
 use crate::gathered::Gathered;
 use crate::moving::{append_measured, is_nothing, join, join_key, join_near};
 use crate::numbers::{append_byte, append_bytes, append_number};
-use crate::spares::{give_list, list};
 use crate::written::Written;
-use avro_binary::{Leaf, Make, Place, append_plain};
+use avro_binary::{Leaf, Make, Place, append_plain, give_list, list};
 use avro_schema::{Datum, NodeId};
 use std::alloc::{AllocError, Global};
 

@@ -40,36 +40,3 @@ pub(crate) fn give(spares: &mut Vec<Box<Apart>>, buffer: Box<Apart>) {
         }
     }
 }
-
-/// How many lists are kept at most, and how many items each has room for at most.
-const LISTS: usize = 16;
-
-const ITEMS: usize = 256;
-
-/// An empty list.
-#[inline(always)]
-pub(crate) fn list<T: Drop>(alloc: Global, kept: &mut Vec<Vec<T>>) -> Vec<T>
-    ensures { result.items ≡ [] }
-{
-    match kept.pop() {
-        Some(list) => {
-            let mut list = list;
-            list.clear();
-            list
-        }
-        None => Vec::new(alloc),
-    }
-}
-
-/// Keeps a list for later, where few are kept and it is small. Where memory runs out it is let go.
-#[inline(always)]
-pub(crate) fn give_list<T: Drop>(kept: &mut Vec<Vec<T>>, list: Vec<T>) {
-    if list.capacity() <= ITEMS && kept.len() < LISTS {
-        let mut list = list;
-        list.clear();
-        match kept.push(list) {
-            Ok(()) => {}
-            Err(_) => {}
-        }
-    }
-}

@@ -6,16 +6,13 @@ ghost use Rattle.avro_show.specs.Spans.{StandsIn, closed, number_items, opened, 
 
 use crate::composing::{append_numbers, bytes_at};
 use crate::spans::{Span, Spans};
-use avro_binary::Place;
+use avro_binary::{Place, give_list, list};
 use avro_display::Text;
 use std::alloc::{AllocError, Global};
 use std::mem::replace;
 
 /// More bytes are not made, so that not much is lost where a display turns out to be long.
 const MOST: usize = 65_536;
-
-/// So many lists are kept.
-const LISTS: usize = 16;
 
 /// Scratch space in which displays are made, reused from datum to datum; its content between calls is unspecified.
 #[derive(Drop)]
@@ -199,29 +196,5 @@ impl Scratch {
         let start = self.begin(opening)?;
         self.text.append(self.whole.as_slice())?;
         self.end(opening, start)
-    }
-}
-
-/// An empty list, one of those that are kept if there is one.
-fn list<T: Drop>(alloc: Global, kept: &mut Vec<Vec<T>>) -> Vec<T>
-    ensures { result.items ≡ [] }
-{
-    match kept.pop() {
-        Some(list) => {
-            let mut list = list;
-            list.clear();
-            list
-        }
-        None => Vec::new(alloc),
-    }
-}
-
-/// Keeps a list for later, where few are kept. If memory runs out it is dropped.
-fn give_list<T: Drop>(kept: &mut Vec<Vec<T>>, list: Vec<T>) {
-    if kept.len() < LISTS {
-        match kept.push(list) {
-            Ok(()) => {}
-            Err(_) => {}
-        }
     }
 }
