@@ -41,9 +41,9 @@ pub(crate) fn put_shown<O: Output>(
 {
     let mut text = scratch.take_line(alloc);
     append_text(&mut text, scratch.shown(), len, form)?;
-    put_text(out, &text)?;
+    let put = put_text(out, &text);
     scratch.keep_line(text);
-    Ok(())
+    put
 }
 
 /// Appends the display of what a writer's datum is for a plan's reader, whose schema the table's is, to a text that is put in pieces.

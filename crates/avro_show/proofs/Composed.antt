@@ -64,11 +64,9 @@ span_here text spans k s bytes is (span, got, stands) = subst (λ (x : Span). St
 -- ---- Numbers
 
 module _ (all now next then : List ℕ) where
-  pub numbers_more : (later : Bool) (is : List ℤ) (k : ℕ) (i : ℤ) → k < length is → i ≡ get_or is k i → next ≡ now ++ comma_if later → then ≡ next ++ number_text (of_integer i)
+  pub numbers_more : (later : Bool) (is : List ℤ) (k : ℕ) (i : ℤ) → k < length is → next ≡ now ++ comma_if later → then ≡ next ++ number_text (of_integer (get_or is k i))
       → all ≡ now ++ run_text later (number_items (drop k is)) → all ≡ then ++ run_text true (number_items (drop (k + 1) is))
-  numbers_more later is k i within at has step left =
-      let split : drop k is ≡ i ∷ drop (k + 1) is = drop_more is k i within ∙ ap (λ (x : ℤ). x ∷ drop (k + 1) is) (sym at) in
-      left ∙ rw (split, step, has) (simp append_assoc)
+  numbers_more later is k i within has step left = left ∙ rw (drop_more is k i within, step, has) (simp append_assoc)
 
 -- after the last number
 pub numbers_all : (all now : List ℕ) (later : Bool) (is : List ℤ) (k : ℕ) → length is ≤ k → all ≡ now ++ run_text later (number_items (drop k is)) → now ≡ all
