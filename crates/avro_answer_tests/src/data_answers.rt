@@ -70,7 +70,7 @@ fn wrong_row(alloc: Global, rows: &[Row]) -> Option<usize> {
     None
 }
 
-const ROWS: [Row; 14] = [
+const ROWS: [Row; 15] = [
     (
         TEXT,
         "\"int\"",
@@ -126,6 +126,21 @@ const ROWS: [Row; 14] = [
         b"",
         1,
         Ok((3, "avro: data: B1 at 0\n")),
+    ),
+    // numbers in two blocks, one of them padded; a block with its size; none; too few; and one that is no int
+    (
+        Asked::Each(&[7, 5, 1, 2, 7]),
+        r#"{"type":"array","items":"int"}"#,
+        Some(r#"{"type":"array","items":"long"}"#),
+        b"\x04\x02\x8a\0\x02\x05\0\x03\x04\x02\x04\0\0\x04\x02\x02\x80\x80\x80\x80\x10\0",
+        0,
+        Ok((
+            1,
+            concat!(
+                "{\"bytes\":7,\"datum\":[1,5,-3]}\n{\"bytes\":5,\"datum\":[1,2]}\n{\"bytes\":1,\"datum\":[]}\n",
+                "{\"fault\":\"B1 at 2\"}\n{\"fault\":\"B2 at 1\"}\n",
+            ),
+        )),
     ),
     (
         TEXT,
