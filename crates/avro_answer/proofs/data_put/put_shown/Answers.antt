@@ -10,17 +10,17 @@ use Rattle.avro_answer.proofs.data_put.put_shown.Goals as goal
 -- the text that is put
 the_text : (g : _) (c : goal.After-keep_line g) (display : List ℕ) → StandsIn c.args.scratch.now.text c.args.scratch.now.shown display → c.deref.result.now ≡ text_around c.args.form display c.args.len
 the_text g c display stands =
-    let here = subst (λ span. StandsIn c.take_line.new.self.text span display) (sym c.take_line.ensures.shown) (subst (λ (t : List ℕ). StandsIn t c.args.scratch.now.shown display) (sym c.take_line.ensures.text) stands) in
-    c.deref.ensures.value ∙ c.in_ok-append_text.ensures ∙ ap (λ (before : List ℕ). before ++ text_around c.args.form c.shown.result.now c.args.len) c.take_line.ensures.none
+    let here = subst (λ span. StandsIn c.take_line-text.new.self.text span display) (sym c.take_line-text.ensures.shown) (subst (λ (t : List ℕ). StandsIn t c.args.scratch.now.shown display) (sym c.take_line-text.ensures.text) stands) in
+    c.deref.ensures.value ∙ c.in_ok-append_text.ensures ∙ ap (λ (before : List ℕ). before ++ text_around c.args.form c.shown.result.now c.args.len) c.take_line-text.ensures.none
     ∙ ap (λ (d : List ℕ). text_around c.args.form d c.args.len) (c.shown.ensures display here)
 
 pub returns-clause-put : goal.returns-clause-put
 returns-clause-put g c = λ display stands.
-    subst (λ (t : List ℕ). OnOk c.put_text.result (g.O.Output.keeps c.args.out.now t c.put_text.new.out)) (the_text g c display stands) c.put_text.ensures.put
+    subst (λ (t : List ℕ). OnOk c.put_text-put.result (g.O.Output.keeps c.args.out.now t c.put_text-put.new.out)) (the_text g c display stands) c.put_text-put.ensures.put
 
 pub returns-clause-front : goal.returns-clause-front
 returns-clause-front g c = λ display stands.
-    subst (λ (t : List ℕ). OnErr c.put_text.result (PutsFrontOf g.O.Output.keeps c.args.out.now c.put_text.new.out t)) (the_text g c display stands) c.put_text.ensures.front
+    subst (λ (t : List ℕ). OnErr c.put_text-put.result (PutsFrontOf g.O.Output.keeps c.args.out.now c.put_text-put.new.out t)) (the_text g c display stands) c.put_text-put.ensures.front
 
 pub returns-in_err-append_text-clause-front : goal.returns-in_err-append_text-clause-front
 returns-in_err-append_text-clause-front g c = λ display stands.
