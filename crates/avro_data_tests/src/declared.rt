@@ -61,10 +61,35 @@ fn a_text_is_kept_with_its_schema(rt: HostRuntime) -> Result<(), Fail> {
     Ok(())
 }
 
+/// Texts that are refused. In the last two a symbol is no name and a branch is repeated: what repeats is told first, also where no default
+/// is a text.
+const REFUSED: [(&str, SchemaError); 3] = [
+    ("\"Foo\"", SchemaError::UnknownName),
+    (
+        r#"{"type":"record","name":"R","fields":[{"name":"b","type":{"type":"enum","name":"E","symbols":["1x"]}},
+            {"name":"u","type":["int","int"]}]}"#,
+        SchemaError::InvalidUnion,
+    ),
+    (
+        r#"{"type":"record","name":"R","fields":[{"name":"b","type":{"type":"enum","name":"E","symbols":["1x"]}},
+            {"name":"d","type":"string","default":"x"},{"name":"u","type":["int","int"]}]}"#,
+        SchemaError::InvalidUnion,
+    ),
+];
+
+/// The number of the first text, if any, that is not refused so.
+fn wrong_refusal(alloc: Global) -> Option<usize> {
+    for (number, row) in REFUSED.iter().enumerate() {
+        if ReaderText::read(alloc, row.0.as_bytes()).err() != Some(row.1) {
+            return Some(number);
+        }
+    }
+    None
+}
+
 #[test]
-fn a_refused_text_is_told(rt: HostRuntime) {
-    let refused = ReaderText::read(rt.alloc(), b"\"Foo\"").err();
-    assert_eq!(rt; refused, Some(SchemaError::UnknownName));
+fn refused_texts_are_told(rt: HostRuntime) {
+    assert_eq!(rt; wrong_refusal(rt.alloc()), None);
 }
 
 /// A record of three others, each of which is twice in the next one, and of what may take a byte.
