@@ -2,9 +2,10 @@
  * Reads encoded data that follow one another into a reader's schema: by avrojudge_read_texts, or by Apache Avro C's generic
  * reader.
  *
- *     messages library|peer WRITER READER DATA LENGTHS
+ *     messages library|calls|peer WRITER READER DATA LENGTHS
  *
- * LENGTHS has the length of each of the data, as a size_t. It prints the status, or how many were read.
+ * LENGTHS has the length of each of the data, as a size_t. It prints the status, or how many were read. `library` is one call,
+ * `calls` a call for 10,000 of the data each, whose lines go into the same buffer.
  */
 #include <avro.h>
 #include <avrojudge.h>
@@ -41,6 +42,30 @@ static unsigned by_library(file writer, file reader, file data, file lengths) {
     return status;
 }
 
+/* The number of bytes of some data. */
+static size_t length_of(const size_t *lengths, size_t count) {
+    size_t bytes = 0;
+    for (size_t i = 0; i < count; i++) bytes += lengths[i];
+    return bytes;
+}
+
+/* A call for so many data, with one buffer for the lines of each call. */
+static unsigned by_calls(file writer, file reader, file data, file lengths, size_t each) {
+    avrojudge_reading asked = {0, 1, 0, 0, 0};
+    const size_t *length = (const size_t *)lengths.bytes;
+    size_t count = lengths.length / sizeof(size_t), place = 0, wanted, room = 1024 * each;
+    uint8_t *out = malloc(room);
+    if (out == NULL) exit(5);
+    for (size_t i = 0; i < count; i += each) {
+        size_t part = count - i < each ? count - i : each, bytes = length_of(length + i, part);
+        unsigned status = avrojudge_read_texts(writer.bytes, writer.length, reader.bytes, reader.length, data.bytes + place,
+                                               bytes, length + i, part, &asked, out, room, &wanted);
+        if (status != 0 || wanted > room) exit(1);
+        place += bytes;
+    }
+    return 0;
+}
+
 /* One value, into which each is read. */
 static unsigned by_peer(file writer, file reader, file data, file lengths) {
     const size_t *length = (const size_t *)lengths.bytes;
@@ -67,7 +92,14 @@ static unsigned by_peer(file writer, file reader, file data, file lengths) {
 int main(int argc, char **argv) {
     if (argc != 6) return 64;
     file writer = read_file(argv[2]), reader = read_file(argv[3]), data = read_file(argv[4]), lengths = read_file(argv[5]);
-    int is_peer = strcmp(argv[1], "peer") == 0;
-    printf("%u\n", is_peer ? by_peer(writer, reader, data, lengths) : by_library(writer, reader, data, lengths));
+    unsigned answer;
+    if (strcmp(argv[1], "peer") == 0) {
+        answer = by_peer(writer, reader, data, lengths);
+    } else if (strcmp(argv[1], "calls") == 0) {
+        answer = by_calls(writer, reader, data, lengths, 10000);
+    } else {
+        answer = by_library(writer, reader, data, lengths);
+    }
+    printf("%u\n", answer);
     return 0;
 }
