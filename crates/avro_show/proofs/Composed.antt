@@ -6,12 +6,11 @@ use Rattle.std.specs.declared.alloc.Global.{Global}
 use Rattle.std.proofs.lemmas.List.{drop_more, drop_all}
 use Rattle.std.proofs.lemmas.Option.{get_or_from_slice_get}
 use Rattle.serde_json.specs.Data.{Data, Items, no_items, item, Members}
-use Rattle.serde_json.specs.Find.{of_integer}
-use Rattle.serde_json.specs.Written.{comma_if, compact_text, items_text, members_text, number_text}
+use Rattle.serde_json.specs.Written.{comma_if, compact_text, items_text, members_text}
 use Rattle.avro_display.specs.Displayed.{members_left, object_text}
 use Rattle.avro_display.specs.Table.{head_text}
 use Rattle.avro_display.specs.declared.member.Member.{Member}
-use Rattle.avro_show.specs.Spans.{AreItemsAt, AreMembersAt, IsSpanAt, StandsIn, number_items, run_text, then_items}
+use Rattle.avro_show.specs.Spans.{AreItemsAt, AreMembersAt, IsSpanAt, StandsIn, run_text, then_items}
 use Rattle.avro_show.specs.declared.spans.Span.{Span}
 
 module _ (text all now : List ℕ) where
@@ -60,14 +59,3 @@ members_last front now then tree (m ∷ ms) i some past has is = has ∙ ap (λ 
 -- what stands where the span at an index says
 pub span_here : (text : List ℕ) (spans : List Span) (k : ℕ) (s : Span) (bytes : List ℕ) → s ≡ get_or spans k s → IsSpanAt text spans k bytes → StandsIn text s bytes
 span_here text spans k s bytes is (span, got, stands) = subst (λ (x : Span). StandsIn text x bytes) (sym (is ∙ get_or_from_slice_get spans k span s got)) stands
-
--- ---- Numbers
-
-module _ (all now next then : List ℕ) where
-  pub numbers_more : (later : Bool) (is : List ℤ) (k : ℕ) (i : ℤ) → k < length is → next ≡ now ++ comma_if later → then ≡ next ++ number_text (of_integer (get_or is k i))
-      → all ≡ now ++ run_text later (number_items (drop k is)) → all ≡ then ++ run_text true (number_items (drop (k + 1) is))
-  numbers_more later is k i within has step left = left ∙ rw (drop_more is k i within, step, has) (simp append_assoc)
-
--- after the last number
-pub numbers_all : (all now : List ℕ) (later : Bool) (is : List ℤ) (k : ℕ) → length is ≤ k → all ≡ now ++ run_text later (number_items (drop k is)) → now ≡ all
-numbers_all all now later is k past left = sym (left ∙ ap (λ (l : List ℤ). now ++ run_text later (number_items l)) (drop_all k is past) ∙ append-nil now)

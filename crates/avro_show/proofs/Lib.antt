@@ -3,6 +3,7 @@ mod Made
 mod Taken
 mod Objects
 mod Composed
+mod Digits
 mod Opened
 mod Spelled
 mod Wholes

@@ -1,6 +1,6 @@
 //! The display of a whole from those of its parts.
 
-ghost use Rattle.std.specs.Prelude.{◌≡◌, ◌++◌, List, ℕ, false, true, OnOk};
+ghost use Rattle.std.specs.Prelude.{◌≡◌, ◌++◌, List, ℕ, true, OnOk};
 ghost use Rattle.std.specs.List.{AllByRecursion};
 ghost use Rattle.serde_json.specs.Data.{Data, Items, Members, array, object};
 ghost use Rattle.serde_json.specs.Written.{compact_text};
@@ -12,7 +12,7 @@ ghost use Rattle.avro_schema.specs.Value.{Value};
 ghost use Rattle.avro_cursor.specs.Encoding.{Spells};
 ghost use Rattle.avro_display.specs.DisplayTree.{display_text};
 ghost use Rattle.avro_binary.specs.Outputs.{Grows};
-ghost use Rattle.avro_show.specs.Spans.{AreItemsAt, AreMembersAt, IsSpanAt, StandsIn, number_items, run_text};
+ghost use Rattle.avro_show.specs.Spans.{AreItemsAt, AreMembersAt, IsSpanAt, StandsIn};
 
 use crate::leaf::append_leaf;
 use crate::spans::Span;
@@ -47,19 +47,6 @@ pub(crate) fn append_items(whole: &mut Text, text: &[u8], items: &[Span]) -> Res
         later = true;
     }
     whole.append_byte(b']')
-}
-
-/// Appends the displays of numbers, with commas between them.
-pub(crate) fn append_numbers(text: &mut Text, numbers: &[i64]) -> Result<(), AllocError>
-    ensures { OnOk result (text.new ≡ text.old ++ run_text false (number_items numbers.now)) }
-{
-    let mut later = false;
-    for number in numbers {
-        text.append_comma(later)?;
-        text.append_number(*number)?;
-        later = true;
-    }
-    Ok(())
 }
 
 /// Appends the display of an object, whose values stand in a text.

@@ -12,6 +12,7 @@ mod composing;
 mod displaying;
 mod leaf;
 mod line;
+mod numbers;
 mod opening;
 mod part;
 mod parts;

@@ -4,7 +4,8 @@ ghost use Rattle.std.specs.Prelude.{◌≡◌, ◌+◌, ◌≤◌, ◌++◌, [],
 ghost use Rattle.avro_binary.specs.Outputs.{Grows};
 ghost use Rattle.avro_show.specs.Spans.{StandsIn, closed, number_items, opened, run_text};
 
-use crate::composing::{append_numbers, bytes_at};
+use crate::composing::bytes_at;
+use crate::numbers::append_numbers;
 use crate::spans::{Span, Spans};
 use avro_binary::{Place, give_list, list};
 use avro_display::Text;
@@ -29,8 +30,9 @@ pub struct Scratch {
     lists: Vec<Vec<Span>>,
     // lists for the fields of records that are resolved
     slots: Vec<Vec<Option<Span>>>,
-    // a list for numbers
+    // a list for numbers, and room for their displays
     numbers: Vec<i64>,
+    digits: Vec<u8>,
     // what is put of a datum
     line: Vec<u8>,
 }
@@ -48,6 +50,7 @@ impl Scratch {
             lists: Vec::new(alloc),
             slots: Vec::new(alloc),
             numbers: Vec::new(alloc),
+            digits: Vec::new(alloc),
             line: Vec::new(alloc),
         }
     }
@@ -100,6 +103,7 @@ impl Scratch {
     }
 
     /// Keeps the list of some parts for later.
+    #[inline(always)]
     pub(crate) fn keep_spans(&mut self, spans: Spans)
         ensures text { self.new.text ≡ self.old.text }
         ensures whole { self.new.whole ≡ self.old.whole }
@@ -177,7 +181,7 @@ impl Scratch {
         ensures stands { IfOk result (λ span. StandsIn self.new.text span (run_text false (number_items numbers.now))) }
     {
         let start = self.text.len();
-        append_numbers(&mut self.text, numbers)?;
+        append_numbers(&mut self.text, &mut self.digits, numbers)?;
         self.end(None, start)
     }
 
@@ -189,6 +193,7 @@ impl Scratch {
     }
 
     /// Makes the whole that was put together.
+    #[inline(always)]
     pub(crate) fn composed(&mut self, opening: Option<&[u8]>) -> Result<Span, AllocError>
         ensures kept { OnOk result (Grows self.old.text self.new.text) }
         ensures stands { IfOk result (λ span. StandsIn self.new.text span (opened opening.entry self.old.whole)) }

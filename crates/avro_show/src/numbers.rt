@@ -1,0 +1,83 @@
+//! The displays of numbers, one after another.
+
+ghost use Rattle.std.specs.Prelude.{◌≡◌, ◌+◌, ◌*◌, ◌≤◌, ◌++◌, ◌∷◌, drop, false, length, true, OnOk};
+ghost use Rattle.serde_json.specs.Find.{of_integer};
+ghost use Rattle.serde_json.specs.Written.{number_text};
+ghost use Rattle.avro_show.specs.Spans.{number_items, run_text};
+
+use avro_display::Text;
+use itoa::write_digits;
+use std::alloc::AllocError;
+
+/// The most bytes of a number and of the comma before it.
+const LONGEST: usize = 21;
+
+/// Appends the displays of numbers, with commas between them. They are written into `room` from the last to the first, as digits are,
+/// so that all are appended at once.
+pub(crate) fn append_numbers(
+    text: &mut Text,
+    room: &mut Vec<u8>,
+    numbers: &[i64],
+) -> Result<(), AllocError>
+    ensures { OnOk result (text.new ≡ text.old ++ run_text false (number_items numbers.now)) }
+{
+    let Some(most) = numbers.len().checked_mul(LONGEST) else {
+        return Err(AllocError);
+    };
+    room.resize(most, 0)?;
+    append_written(text, room, numbers)
+}
+
+/// The same, where there is room for all.
+fn append_written(text: &mut Text, room: &mut [u8], numbers: &[i64]) -> Result<(), AllocError>
+    requires { length numbers.now * 21 ≤ length room.old }
+    ensures { OnOk result (text.new ≡ text.old ++ run_text false (number_items numbers.now)) }
+{
+    let comma = write_numbers(room, numbers);
+    match room.get(comma + 1..) {
+        Some(run) => text.append(run),
+        None => Ok(()),
+    }
+}
+
+/// Writes numbers at the end of some bytes, with a comma before each, and returns where they start.
+fn write_numbers(room: &mut [u8], numbers: &[i64]) -> usize
+    requires { length numbers.now * 21 ≤ length room.old }
+    ensures written { drop result room.new ≡ run_text true (number_items numbers.now) }
+    ensures within { result ≤ length room.new }
+{
+    let mut at = room.len();
+    let mut left = numbers.len();
+    while left > 0 {
+        left -= 1;
+        at = write_number(room, at, numbers[left]);
+    }
+    at
+}
+
+/// Writes a number with a comma before it, so that it ends at an offset, and returns where they start.
+#[inline(always)]
+fn write_number(room: &mut [u8], end: usize, number: i64) -> usize
+    requires { (21 ≤ end) × (end ≤ length room.old) }
+    ensures written { drop result room.new ≡ 44 ∷ (number_text (of_integer number) ++ drop end room.old) }
+    ensures short { (end ≤ result + 21) × (result ≤ end) }
+{
+    let start = write_signed(room, end, number);
+    room[start - 1] = b',';
+    start - 1
+}
+
+/// Writes a number so that it ends at an offset, and returns where it starts.
+#[inline(always)]
+fn write_signed(room: &mut [u8], end: usize, number: i64) -> usize
+    requires { (20 ≤ end) × (end ≤ length room.old) }
+    ensures written { drop result room.new ≡ number_text (of_integer number) ++ drop end room.old }
+    ensures short { (end ≤ result + 20) × (result ≤ end) }
+{
+    let start = write_digits(number.unsigned_abs(), room, end);
+    if number >= 0 {
+        return start;
+    }
+    room[start - 1] = b'-';
+    start - 1
+}
