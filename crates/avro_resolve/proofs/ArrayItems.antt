@@ -1,5 +1,6 @@
 -- Items of an array that are resolved as they are read.
 use Rattle.std.proofs.Common.{◌≡◌, ℕ, zero, suc, ◌+◌, ◌<◌, ℤ, Bool, true, List, [], ◌∷◌, ◌++◌, length, map, replicate, length-append, Option, Result, Ok, Err, refl, sym, ap, ◌∙◌, subst, arith}
+use lib.ListN.{length-map}
 use Rattle.std.specs.Prelude.{IfOk}
 use Rattle.std.specs.Global.{Box}
 use Rattle.std.specs.declared.alloc.AllocError.{AllocError}
@@ -41,10 +42,6 @@ counted_up vs v count next counted up = omega (arith, counted, up, one_longer vs
 
 counted_more : (vs more : List Value) (count next n : ℕ) → length more ≡ n → count ≡ length vs → next ≡ count + n → next ≡ length (vs ++ more)
 counted_more vs more count next n long counted up = omega (arith, long, counted, up, length-append vs more)
-
-length-mapped : {A B : Type 0} (f : A → B) (xs : List A) → length (map f xs) ≡ length xs
-length-mapped f [] = refl
-length-mapped f (x ∷ xs) = ap suc (length-mapped f xs)
 
 -- ---- Steps
 
@@ -228,7 +225,7 @@ module _ {I : Type 0} (S SN : List Node → ℕ → Place → I → List Value �
         arrives = good.arrives;
         of_writer = good.of_writer;
         of_reader = good.of_reader;
-        counted = counted_more vs (map (number_value n) is) count next (length is) (length-mapped (number_value n) is) good.counted up;
+        counted = counted_more vs (map (number_value n) is) count next (length is) (length-map is (number_value n)) good.counted up;
         made = good.made ++ map (number_value m) is;
         so_far = so_far_each writer reader n m (number_value n) (number_value m) (copied_number writer reader n m copied numbers) is vs good.made good.so_far;
         stands = law (placed branch good.to) good.made (copied_numbers writer reader n m copied numbers) good.stands;

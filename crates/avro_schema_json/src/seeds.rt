@@ -28,6 +28,7 @@ impl Seeds {
             },
         }
     }
+
     /// The same with tables for the defaults, also where they help to read none.
     pub fn with_tables(self, text: &[u8]) -> Seeds {
         Seeds {

@@ -157,7 +157,6 @@ impl<'a> Make for Displaying<'a> {
         self.scratch.keep_numbers(list);
     }
 
-    #[inline(always)]
     fn numbers(
         &mut self,
         _alloc: Global,
@@ -252,7 +251,6 @@ impl<'a> Make for Displaying<'a> {
         self.scratch.slots(alloc)
     }
 
-    #[inline(always)]
     fn keep_slots(&mut self, slots: Vec<Option<Span>>)
         ensures kept { Keeps self.old.table.now self.old.scratch.now.text self.new.table.now self.new.scratch.now.text × (self.new.scratch.ghost_name ≡ self.old.scratch.ghost_name) }
     {

@@ -12,11 +12,11 @@ use std::alloc::AllocError;
 /// The most bytes of a number and of the comma before it.
 const LONGEST: usize = 21;
 
-/// Appends the displays of numbers, with commas between them. They are written into `room` from the last to the first, as digits are,
+/// Appends the displays of numbers, with commas between them. They are written into `digits` from the last to the first, as digits are,
 /// so that all are appended at once.
 pub(crate) fn append_numbers(
     text: &mut Text,
-    room: &mut Vec<u8>,
+    digits: &mut Vec<u8>,
     numbers: &[i64],
 ) -> Result<(), AllocError>
     ensures { OnOk result (text.new ≡ text.old ++ run_text false (number_items numbers.now)) }
@@ -24,60 +24,60 @@ pub(crate) fn append_numbers(
     let Some(most) = numbers.len().checked_mul(LONGEST) else {
         return Err(AllocError);
     };
-    room.resize(most, 0)?;
-    append_written(text, room, numbers)
+    digits.resize(most, 0)?;
+    append_written(text, digits, numbers)
 }
 
-/// The same, where there is room for all.
-fn append_written(text: &mut Text, room: &mut [u8], numbers: &[i64]) -> Result<(), AllocError>
-    requires { length numbers.now * 21 ≤ length room.old }
+/// The same, where all have a place.
+fn append_written(text: &mut Text, digits: &mut [u8], numbers: &[i64]) -> Result<(), AllocError>
+    requires { length numbers.now * 21 ≤ length digits.old }
     ensures { OnOk result (text.new ≡ text.old ++ run_text false (number_items numbers.now)) }
 {
-    let comma = write_numbers(room, numbers);
-    match room.get(comma + 1..) {
+    let comma = write_numbers(digits, numbers);
+    match digits.get(comma + 1..) {
         Some(run) => text.append(run),
         None => Ok(()),
     }
 }
 
 /// Writes numbers at the end of some bytes, with a comma before each, and returns where they start.
-fn write_numbers(room: &mut [u8], numbers: &[i64]) -> usize
-    requires { length numbers.now * 21 ≤ length room.old }
-    ensures written { drop result room.new ≡ run_text true (number_items numbers.now) }
-    ensures within { result ≤ length room.new }
+fn write_numbers(digits: &mut [u8], numbers: &[i64]) -> usize
+    requires { length numbers.now * 21 ≤ length digits.old }
+    ensures written { drop result digits.new ≡ run_text true (number_items numbers.now) }
+    ensures within { result ≤ length digits.new }
 {
-    let mut at = room.len();
+    let mut at = digits.len();
     let mut left = numbers.len();
     while left > 0 {
         left -= 1;
-        at = write_number(room, at, numbers[left]);
+        at = write_number(digits, at, numbers[left]);
     }
     at
 }
 
 /// Writes a number with a comma before it, so that it ends at an offset, and returns where they start.
 #[inline(always)]
-fn write_number(room: &mut [u8], end: usize, number: i64) -> usize
-    requires { (21 ≤ end) × (end ≤ length room.old) }
-    ensures written { drop result room.new ≡ 44 ∷ (number_text (of_integer number) ++ drop end room.old) }
+fn write_number(digits: &mut [u8], end: usize, number: i64) -> usize
+    requires { (21 ≤ end) × (end ≤ length digits.old) }
+    ensures written { drop result digits.new ≡ 44 ∷ (number_text (of_integer number) ++ drop end digits.old) }
     ensures short { (end ≤ result + 21) × (result ≤ end) }
 {
-    let start = write_signed(room, end, number);
-    room[start - 1] = b',';
+    let start = write_signed(digits, end, number);
+    digits[start - 1] = b',';
     start - 1
 }
 
 /// Writes a number so that it ends at an offset, and returns where it starts.
 #[inline(always)]
-fn write_signed(room: &mut [u8], end: usize, number: i64) -> usize
-    requires { (20 ≤ end) × (end ≤ length room.old) }
-    ensures written { drop result room.new ≡ number_text (of_integer number) ++ drop end room.old }
+fn write_signed(digits: &mut [u8], end: usize, number: i64) -> usize
+    requires { (20 ≤ end) × (end ≤ length digits.old) }
+    ensures written { drop result digits.new ≡ number_text (of_integer number) ++ drop end digits.old }
     ensures short { (end ≤ result + 20) × (result ≤ end) }
 {
-    let start = write_digits(number.unsigned_abs(), room, end);
+    let start = write_digits(number.unsigned_abs(), digits, end);
     if number >= 0 {
         return start;
     }
-    room[start - 1] = b'-';
+    digits[start - 1] = b'-';
     start - 1
 }

@@ -103,7 +103,6 @@ impl Scratch {
     }
 
     /// Keeps the list of some parts for later.
-    #[inline(always)]
     pub(crate) fn keep_spans(&mut self, spans: Spans)
         ensures text { self.new.text ≡ self.old.text }
         ensures whole { self.new.whole ≡ self.old.whole }
@@ -193,7 +192,6 @@ impl Scratch {
     }
 
     /// Makes the whole that was put together.
-    #[inline(always)]
     pub(crate) fn composed(&mut self, opening: Option<&[u8]>) -> Result<Span, AllocError>
         ensures kept { OnOk result (Grows self.old.text self.new.text) }
         ensures stands { IfOk result (λ span. StandsIn self.new.text span (opened opening.entry self.old.whole)) }

@@ -4,12 +4,12 @@ use Rattle.avro_show.proofs.numbers.append_written.Goals as goal
 
 pub returns-in-Some : goal.returns-in-Some
 returns-in-Some c =
-    let room = c.write_numbers-comma.new.room in
-    let run = run_after room c.write_numbers-comma.result c.args.numbers.now c.write_numbers-comma.ensures.written c.in-Some.ensures.lookup.0.0 in
+    let digits = c.write_numbers-comma.new.digits in
+    let run = run_after digits c.write_numbers-comma.result c.args.numbers.now c.write_numbers-comma.ensures.written c.in-Some.ensures.lookup.0.0 in
     rw (sym run, sym c.in-Some.ensures.lookup.0.2) c.append.ensures.appended
 
 pub returns-in-None : goal.returns-in-None
 returns-in-None c =
-    let room = c.write_numbers-comma.new.room in
-    let past : length room ≤ c.write_numbers-comma.result = omega (arith, c.in-None.ensures.lookup.0) in
-    sym (ap (λ (l : List ℕ). c.args.text.now ++ l) (run_none room c.write_numbers-comma.result c.args.numbers.now c.write_numbers-comma.ensures.written past) ∙ append-nil c.args.text.now)
+    let digits = c.write_numbers-comma.new.digits in
+    let past : length digits ≤ c.write_numbers-comma.result = omega (arith, c.in-None.ensures.lookup.0) in
+    sym (ap (λ (l : List ℕ). c.args.text.now ++ l) (run_none digits c.write_numbers-comma.result c.args.numbers.now c.write_numbers-comma.ensures.written past) ∙ append-nil c.args.text.now)

@@ -5,7 +5,7 @@ use Rattle.avro_show.proofs.numbers.write_numbers.Given as goal
 -- the numbers that are written
 abbrev pub invariant-loop-left : goal.invariant-loop-left
 invariant-loop-left l =
-    (l.left ≤ length l.numbers) × (l.left * 21 ≤ l.at) × (l.at ≤ length l.room) × (drop l.at l.room ≡ run_text true (number_items (drop l.left l.numbers)))
+    (l.left ≤ length l.numbers) × (l.left * 21 ≤ l.at) × (l.at ≤ length l.digits) × (drop l.at l.digits ≡ run_text true (number_items (drop l.left l.numbers)))
 
 abbrev pub decreases-loop-left : goal.decreases-loop-left
 decreases-loop-left l = l.left

@@ -15,8 +15,8 @@ returns-then-number-ge0-clause-written c =
 pub returns-then-number-ge0-clause-short : goal.returns-then-number-ge0-clause-short
 returns-then-number-ge0-clause-short c = omega (arith, length-decimal-le 19 c.unsigned_abs.result (omega arith) (omega arith) (omega arith))
 
-pub overflow_sub-room : goal.overflow_sub-room
-overflow_sub-room c = omega (arith, length-decimal-le 19 c.unsigned_abs.result (omega arith) (omega arith) (omega arith))
+pub overflow_sub-digits : goal.overflow_sub-digits
+overflow_sub-digits c = omega (arith, length-decimal-le 19 c.unsigned_abs.result (omega arith) (omega arith) (omega arith))
 
 pub overflow_sub-result : goal.overflow_sub-result
 overflow_sub-result c = omega (arith, length-decimal-le 19 c.unsigned_abs.result (omega arith) (omega arith) (omega arith))
@@ -28,7 +28,7 @@ returns-clause-written c =
     let e : w.result - 1 + 1 ≡ w.result = omega arith in
     let back = to_z-of_z c.ranges.number in
     rw (drop-set w.new.buf (w.result - 1) 45 (omega arith), e, w.ensures.written, c.unsigned_abs.ensures.value, back)
-    (ap (λ (l : List ℕ). l ++ drop c.args.end c.args.room.now) (digits_signed c.args.number (rw back at c.if-number-ge0.false)))
+    (ap (λ (l : List ℕ). l ++ drop c.args.end c.args.digits.now) (digits_signed c.args.number (rw back at c.if-number-ge0.false)))
 
 pub returns-clause-short : goal.returns-clause-short
 returns-clause-short c = omega (arith, length-decimal-le 19 c.unsigned_abs.result (omega arith) (omega arith) (omega arith))

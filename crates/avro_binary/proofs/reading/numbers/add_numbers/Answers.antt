@@ -1,11 +1,11 @@
 use Rattle.std.proofs.Common.{◌≡◌, ◌∙◌, ◌++◌, [], List, length, map, sym, ap, subst}
+use lib.ListN.{length-map}
 use Rattle.avro_schema.specs.Seen.{node_of}
 use Rattle.avro_schema.specs.Node.{Node}
 use Rattle.avro_schema.specs.Value.{Value}
 use Rattle.avro_cursor.specs.CursorValue.{CursorValue}
 use Rattle.avro_binary.specs.CursorReads.{FindsRun, ValuesRun}
 use Rattle.avro_binary.specs.LeafValue.{has_numbers, number_value}
-use Rattle.avro_binary.proofs.NumberSteps.{numbers_counted}
 use Rattle.avro_binary.proofs.reading.numbers.add_numbers.Goals as goal
 
 pub returns-then-added-clause-takes : goal.returns-then-added-clause-takes
@@ -15,7 +15,7 @@ returns-then-added-clause-takes g c = λ nodes id is are added limits d b.
     let at_start = c.ahead-ahead.ensures in
     let read = c.in_ok-read_numbers.ensures nodes limits (d ∙ sym (ap (λ (k : CursorValue). k.depth) at_start)) (b ∙ sym (ap (λ (k : CursorValue). k.blob) at_start)) c.if-not-branch.false in (
       map (number_value n) numbers,
-      numbers_counted n numbers c.args.count read.0,
+      length-map numbers (number_value n) ∙ read.0,
       subst (λ (k : CursorValue). FindsRun (ValuesRun nodes limits n) k c.read_numbers.new.cursor [] [] (map (number_value n) numbers)) at_start read.1,
       λ at us stood.
           let made = c.in_ok-added.ensures.added nodes id at us (ap has_numbers is ∙ are) stood added in
