@@ -1,20 +1,12 @@
 -- Numbers of an array that are read one by one.
-use Rattle.std.proofs.Common.{◌≡◌, ◌⊎◌, inl, inr, ℕ, ℤ, Bool, true, Result, Ok, Err, List, [], ◌∷◌, ◌++◌, map, sym, ap, ◌∙◌, subst}
+use Rattle.std.proofs.Common.{◌≡◌, ℤ, List, [], ◌∷◌, ◌++◌, map, sym, ◌∙◌, subst}
 use mathlib.Core.List.{map-append}
 use Rattle.avro_schema.specs.Fits.{LimitValues}
 use Rattle.avro_schema.specs.Node.{Node}
-use Rattle.avro_schema.specs.Seen.{node_of}
 use Rattle.avro_schema.specs.Value.{Value}
-use Rattle.avro_schema.specs.declared.schema.Node.{Node as SeenNode}
-use Rattle.avro_schema.specs.declared.schema.Node.TheVariants.{Int, Long}
-use Rattle.std.specs.declared.alloc.AllocError.{AllocError}
-use Rattle.avro_cursor.specs.Breaks.{Left}
 use Rattle.avro_cursor.specs.CursorValue.{CursorValue}
-use Rattle.avro_cursor.specs.Fault.{ReadFault}
-use Rattle.avro_cursor.specs.declared.error.ReadError.{ReadError}
-use Rattle.avro_binary.specs.CursorReads.{FindsRun, FindsValue, ReadsRun, ValuesRun}
-use Rattle.avro_binary.specs.LeafValue.{has_numbers, number_value}
-use Rattle.avro_binary.specs.inside.TakesNumbers.{TakesNumbers}
+use Rattle.avro_binary.specs.CursorReads.{FindsRun, FindsValue, ValuesRun}
+use Rattle.avro_binary.specs.LeafValue.{number_value}
 use Rattle.avro_binary.proofs.RunLaws.{values_kind}
 use Rattle.avro_binary.proofs.RunSteps.{run_push, value_run}
 

@@ -1,5 +1,5 @@
 -- Numbers as text, from the last to the first.
-use Rattle.std.proofs.Common.{◌≡◌, ℕ, ℤ, pos, negsuc, ◌+◌, ◌≤◌, Bool, true, false, List, [], ◌∷◌, length, drop, refl, sym, ap, ◌∙◌, ◌-◌, arith, int_le, length-drop, take_all, unsigned_abs, true≢false}
+use Rattle.std.proofs.Common.{◌≡◌, ℕ, ℤ, pos, negsuc, ◌+◌, ◌≤◌, true, false, List, [], ◌∷◌, length, drop, refl, sym, ap, ◌∙◌, ◌-◌, arith, int_le, length-drop, take_all, unsigned_abs, true≢false}
 use lib.Dec.{leb-zero}
 use lib.Seq.{drop-drop}
 use Rattle.std.specs.List.{slice_range}

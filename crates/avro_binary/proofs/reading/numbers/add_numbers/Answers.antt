@@ -1,8 +1,7 @@
-use Rattle.std.proofs.Common.{◌≡◌, ◌∙◌, ◌++◌, [], List, length, map, sym, ap, subst}
+use Rattle.std.proofs.Common.{◌∙◌, ◌++◌, [], map, sym, ap, subst}
 use lib.ListN.{length-map}
 use Rattle.avro_schema.specs.Seen.{node_of}
 use Rattle.avro_schema.specs.Node.{Node}
-use Rattle.avro_schema.specs.Value.{Value}
 use Rattle.avro_cursor.specs.CursorValue.{CursorValue}
 use Rattle.avro_binary.specs.CursorReads.{FindsRun, ValuesRun}
 use Rattle.avro_binary.specs.LeafValue.{has_numbers, number_value}
