@@ -22,7 +22,7 @@ module _ (text all now : List ℕ) where
   EntriesLeft later spans = (left : Members) × AreMembersAt text spans left × (all ≡ now ++ members_text later left)
 
 -- the text of several items and of those after them
-run_then : (ds es : Items) → items_text true (then_items ds es) ≡ run_text true ds ++ items_text true es
+pub run_then : (ds es : Items) → items_text true (then_items ds es) ≡ run_text true ds ++ items_text true es
 run_then no_items es = refl
 run_then (item d ds) es = rw (run_then ds es) (simp append_assoc)
 

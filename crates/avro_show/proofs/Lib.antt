@@ -4,6 +4,7 @@ mod Taken
 mod Objects
 mod Composed
 mod Digits
+mod Enclosed
 mod Opened
 mod Spelled
 mod Wholes

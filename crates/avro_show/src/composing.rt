@@ -2,6 +2,7 @@
 
 ghost use Rattle.std.specs.Prelude.{◌≡◌, ◌++◌, List, ℕ, true, OnOk};
 ghost use Rattle.std.specs.List.{AllByRecursion};
+ghost use Rattle.std.specs.Option.{IfSome};
 ghost use Rattle.serde_json.specs.Data.{Data, Items, Members, array, object};
 ghost use Rattle.serde_json.specs.Written.{compact_text};
 ghost use Rattle.avro_display.specs.Displayed.{object_text};
@@ -33,6 +34,28 @@ pub(crate) fn bytes_at(text: &[u8], span: Span) -> &[u8]
     let (_, rest) = text.split_at(span.start);
     let (bytes, _) = rest.split_at(span.end - span.start);
     bytes
+}
+
+/// Where the display of an array stands in a text, if brackets are around the only place of its items.
+pub(crate) fn bracketed(text: &[u8], items: &[Span]) -> Option<Span>
+    ensures { (ds : Items) → AreItemsAt text.now items.now ds → IfSome result (λ span. StandsIn text.now span (compact_text (array ds))) }
+{
+    if items.len() != 1 {
+        return None;
+    }
+    let Span { start, end } = items[0];
+    if start == 0
+        || start > end
+        || end >= text.len()
+        || text[start - 1] != b'['
+        || text[end] != b']'
+    {
+        return None;
+    }
+    Some(Span {
+        start: start - 1,
+        end: end + 1,
+    })
 }
 
 /// Appends the display of an array, whose items stand in a text: in each place one, or several with commas between them.

@@ -1,6 +1,6 @@
 //! The display of a datum, made while the datum is read.
 
-use crate::composing::{append_encoded, append_entries, append_items, append_members};
+use crate::composing::{append_encoded, append_entries, append_members};
 use crate::leaf::append_leaf;
 use crate::scratch::Scratch;
 use crate::spans::{KeyedSpans, Span, Spans};
@@ -173,11 +173,9 @@ impl<'a> Make for Displaying<'a> {
 
     fn array(&mut self, _alloc: Global, items: Spans) -> Result<Span, AllocError> {
         let opening = self.opening(items.owner);
-        let scratch = &mut *self.scratch;
-        scratch.whole.clear();
-        append_items(&mut scratch.whole, scratch.text.as_slice(), &items.parts)?;
-        scratch.keep_spans(items);
-        scratch.composed(opening)
+        let array = self.scratch.array(opening, &items.parts)?;
+        self.scratch.keep_spans(items);
+        Ok(array)
     }
 
     fn entries(&mut self, alloc: Global, at: Place) -> Result<KeyedSpans, AllocError> {

@@ -1,10 +1,12 @@
 //! The text in which the display of a datum is made.
 
 ghost use Rattle.std.specs.Prelude.{◌≡◌, ◌+◌, ◌≤◌, ◌++◌, [], List, false, ℕ, IfOk, OnOk, length};
+ghost use Rattle.serde_json.specs.Data.{Items, array};
+ghost use Rattle.serde_json.specs.Written.{compact_text};
 ghost use Rattle.avro_binary.specs.Outputs.{Grows};
-ghost use Rattle.avro_show.specs.Spans.{StandsIn, closed, number_items, opened, run_text};
+ghost use Rattle.avro_show.specs.Spans.{AreItemsAt, StandsIn, closed, number_items, opened, run_text};
 
-use crate::composing::bytes_at;
+use crate::composing::{append_items, bracketed, bytes_at};
 use crate::numbers::append_numbers;
 use crate::spans::{Span, Spans};
 use avro_binary::{Place, give_list, list};
@@ -174,14 +176,18 @@ impl Scratch {
         Ok(Span { start, end })
     }
 
-    /// Makes the displays of numbers, with commas between them.
+    /// Makes the displays of numbers, with commas between them, within the display of an array of them.
     pub(crate) fn numbers(&mut self, numbers: &[i64]) -> Result<Span, AllocError>
         ensures kept { OnOk result (Grows self.old.text self.new.text) }
         ensures stands { IfOk result (λ span. StandsIn self.new.text span (run_text false (number_items numbers.now))) }
     {
         let start = self.text.len();
         append_numbers(&mut self.text, &mut self.digits, numbers)?;
-        self.end(None, start)
+        let array = self.end(None, start)?;
+        Ok(Span {
+            start: array.start + 1,
+            end: array.end - 1,
+        })
     }
 
     /// Whether so many bytes more would be too many.
@@ -189,6 +195,25 @@ impl Scratch {
         ensures { result ≡ false → length self.now.text + more ≤ 65_536 }
     {
         self.text.len().saturating_add(more) > MOST
+    }
+
+    /// Makes the display of an array, whose items stand in the text.
+    pub(crate) fn array(
+        &mut self,
+        opening: Option<&[u8]>,
+        items: &[Span],
+    ) -> Result<Span, AllocError>
+        ensures kept { OnOk result (Grows self.old.text self.new.text) }
+        ensures stands { (ds : Items) → AreItemsAt self.old.text items.now ds → IfOk result (λ span. StandsIn self.new.text span (opened opening.entry (compact_text (array ds)))) }
+    {
+        if opening.is_none() {
+            if let Some(span) = bracketed(self.text.as_slice(), items) {
+                return Ok(span);
+            }
+        }
+        self.whole.clear();
+        append_items(&mut self.whole, self.text.as_slice(), items)?;
+        self.composed(opening)
     }
 
     /// Makes the whole that was put together.

@@ -1,15 +1,10 @@
-use Rattle.std.proofs.Common.{◌≡◌, ◌≤◌, ◌∙◌, ◌++◌, List, ℕ, ap, arith, append-nil, length, sym}
-use Rattle.avro_show.proofs.Digits.{run_after, run_none}
+use Rattle.std.proofs.Common.{◌≡◌, ◌∙◌, ◌++◌, List, ℕ, subst}
+use Rattle.std.specs.Result.{OnOk}
+use Rattle.avro_show.proofs.Digits.{bracket_first}
 use Rattle.avro_show.proofs.numbers.append_written.Goals as goal
 
-pub returns-in-Some : goal.returns-in-Some
-returns-in-Some c =
-    let digits = c.write_numbers-comma.new.digits in
-    let run = run_after digits c.write_numbers-comma.result c.args.numbers.now c.write_numbers-comma.ensures.written c.in-Some.ensures.lookup.0.0 in
-    rw (sym run, sym c.in-Some.ensures.lookup.0.2) c.append.ensures.appended
-
-pub returns-in-None : goal.returns-in-None
-returns-in-None c =
-    let digits = c.write_numbers-comma.new.digits in
-    let past : length digits ≤ c.write_numbers-comma.result = omega (arith, c.in-None.ensures.lookup.0) in
-    sym (ap (λ (l : List ℕ). c.args.text.now ++ l) (run_none digits c.write_numbers-comma.result c.args.numbers.now c.write_numbers-comma.ensures.written past) ∙ append-nil c.args.text.now)
+pub returns : goal.returns
+returns c =
+    let w = c.write_numbers-start in
+    let written = bracket_first w.new.digits w.result c.args.numbers.now c.requires.0 w.ensures.within w.ensures.written in
+    subst (λ (l : List ℕ). OnOk c.append.result (c.append.new.self ≡ c.args.text.now ++ l)) (c.split_at.ensures.back ∙ written) c.append.ensures.appended
