@@ -36,12 +36,12 @@ widened text bytes start end stands some within opens closes =
 -- what stands with brackets stands between them
 pub narrowed : (text bytes : List ℕ) (start end : ℕ) → StandsAt text start end (91 ∷ (bytes ++ 93 ∷ [])) → StandsAt text (start + 1) (end - 1) bytes
 narrowed text bytes start end stands = record {
-    before = stands.before ++ 91 ∷ [];
-    rest = 93 ∷ stands.rest;
-    split = stands.split ∙ simp append_assoc;
-    starts = omega (arith, stands.starts, length-append stands.before (91 ∷ []));
-    ends = omega (arith, stands.ends, length-append bytes (93 ∷ []));
-  }
+  before = stands.before ++ 91 ∷ [];
+  rest = 93 ∷ stands.rest;
+  split = stands.split ∙ simp append_assoc;
+  starts = omega (arith, stands.starts, length-append stands.before (91 ∷ []));
+  ends = omega (arith, stands.ends, length-append bytes (93 ∷ []));
+}
 
 -- the items of an array, and the bracket after them
 pub run_closed : (later : Bool) (ds : Items) → items_text later ds ≡ run_text later ds ++ 93 ∷ []

@@ -10,7 +10,7 @@ use avro_display::Text;
 use itoa::write_digits;
 use std::alloc::AllocError;
 
-/// The most bytes of a number and of the comma before it.
+/// The most bytes of a number and the comma before it.
 const LONGEST: usize = 21;
 
 /// Appends the display of an array of numbers. It is written into `digits` from its end to its start, as the digits of a number are, and
@@ -54,21 +54,10 @@ fn write_numbers(digits: &mut [u8], numbers: &[i64]) -> usize
     let mut left = numbers.len();
     while left > 0 {
         left -= 1;
-        at = write_number(digits, at, numbers[left]);
+        at = write_signed(digits, at, numbers[left]) - 1;
+        digits[at] = b',';
     }
     at
-}
-
-/// Writes a number with a comma before it, so that it ends at an offset, and returns where they start.
-#[inline(always)]
-fn write_number(digits: &mut [u8], end: usize, number: i64) -> usize
-    requires { (21 ≤ end) × (end ≤ length digits.old) }
-    ensures written { drop result digits.new ≡ 44 ∷ (number_text (of_integer number) ++ drop end digits.old) }
-    ensures short { (end ≤ result + 21) × (result ≤ end) }
-{
-    let start = write_signed(digits, end, number);
-    digits[start - 1] = b',';
-    start - 1
 }
 
 /// Writes a number so that it ends at an offset, and returns where it starts.
