@@ -238,7 +238,7 @@ EXCEPTIONS = {
         ("avro_answer/src/fault_place.rt push_step", "an entry in a path, which is no JSON"),
         ("avro_answer/src/json_object.rt json", ADDED),
         ("avro_answer/src/json_object.rt new", ADDED),
-        ("avro_answer/src/many_data.rt fault_line", LINE),
+        ("avro_answer/src/many_data.rt append_fault_line", LINE),
         ("avro_canonical/src/opening.rt open_fields", SPELLED),
         ("avro_canonical/src/opening.rt open_node", SPELLED),
         ("avro_canonical/src/opening.rt open_record", SPELLED),

@@ -111,7 +111,8 @@ module _ (writer : List Node) (reader : Option (List Node)) (limits : LimitValue
   }
 
   -- the line of a fault was put where nothing had been
-  pub fault_put : {E : Type 0} (e : ReadResolveError) → IfSome (fault_found e) (IsAllFound writer reader limits skip bytes) → (from same to : List ℕ) → same ≡ from → (result : Result ℕ E)
-      → IfOk result (λ status. (line : List ℕ) × IsFaultTold e line status × (to ≡ same ++ line)) → IfOk result (IsLinePut writer reader limits skip bytes from to)
-  fault_put e is_found from same to is (Ok status) (line, told, put) = (line, fault_line e is_found line status told, put ∙ ap (λ (b : List ℕ). b ++ line) is)
+  pub fault_put : {E : Type 0} (e : ReadResolveError) → IfSome (fault_found e) (IsAllFound writer reader limits skip bytes) → (from same to : List ℕ) → IfSome (fault_found e) (λ _. same ≡ from)
+      → (result : Result ℕ E) → IfOk result (λ status. (line : List ℕ) × IsFaultTold e line status × (to ≡ same ++ line)) → IfOk result (IsLinePut writer reader limits skip bytes from to)
+  fault_put e is_found from same to is (Ok status) (line, told, put) =
+      (line, fault_line e is_found line status told, put ∙ ap (λ (b : List ℕ). b ++ line) (subst (λ o. IfSome o (λ _. same ≡ from)) told.says is))
   fault_put e is_found from same to is (Err x) h = tt

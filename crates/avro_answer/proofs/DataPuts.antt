@@ -1,27 +1,34 @@
 -- What was put of the text of a datum.
-use Rattle.std.proofs.Common.{◌≡◌, ◌≢◌, ◌∙◌, ℕ, List, [], ◌++◌, Option, Result, Ok, Err, refl, sym, ap, subst, append_assoc}
-use Rattle.std.specs.Prelude.{◌⊎◌, IfOk, IsErrOf, OnErr, OnOk}
+use Rattle.std.proofs.Common.{◌≡◌, ◌≢◌, ◌∙◌, ℕ, List, [], ◌++◌, Option, Some, None, Result, Ok, Err, refl, sym, ap, subst, append_assoc}
+use Rattle.std.specs.Prelude.{◌⊎◌, IsErrOf, OnErr, OnOk}
+use Rattle.std.specs.Option.{IfSome}
 use Rattle.std.specs.Result.{IfErr}
 use Rattle.avro_schema.specs.Fits.{LimitValues}
 use Rattle.avro_schema.specs.Node.{Node}
+use Rattle.avro_cursor.specs.declared.error.ReadError.{ReadError}
 use Rattle.avro_device.specs.PutFront.{PutsFrontOf}
+use Rattle.avro_resolve.specs.declared.error.ReadResolveError.{ReadResolveError}
+use Rattle.avro_resolve.specs.declared.error.ReadResolveError.TheVariants.{Read}
 use Rattle.avro_display.specs.Pieces.{PutsText}
 use Rattle.avro_display.specs.declared.put_error.PutError.{PutError}
 use Rattle.avro_display.proofs.public.Fronts.{fronts_both, fronts_held, fronts_longer}
 use Rattle.avro_answer.specs.DataPut.{DatumPut}
-use Rattle.avro_answer.specs.DataRead.{IsDatumTold}
+use Rattle.avro_answer.specs.ReadAnswer.{Found}
+use Rattle.avro_answer.specs.DataRead.{fault_found, IsDatumTold}
 use Rattle.avro_answer.specs.declared.data_error.DataError.{DataError}
 use Rattle.avro_answer.specs.declared.form.Form.{Form}
 use Rattle.avro_answer.specs.inside.AtFront.{of_put}
 use Rattle.avro_answer.specs.inside.DatumParts.{head_of, tail_of, text_around}
 
-pub if_ok : {A E : Type 0} {P Q : A → Type 0} → ((a : A) → P a → Q a) → (r : Result A E) → IfOk r P → IfOk r Q
-if_ok f (Ok a) h = f a h
-if_ok f (Err e) h = tt
+-- what is sure holds of a fault, too
+pub surely : {P : Type 0} (o : Option Found) → P → IfSome o (λ _. P)
+surely (Some f) h = h
+surely None h = tt
 
-pub if_err : {A E : Type 0} {P Q : E → Type 0} → ((e : E) → P e → Q e) → (r : Result A E) → IfErr r P → IfErr r Q
-if_err f (Ok a) h = tt
-if_err f (Err e) h = f e h
+-- no fault is found where memory runs out
+pub no_fault : {A : Type 0} (P : Found → Type 0) (r : Result A ReadResolveError) → IfErr r (λ e. e ≡ Read ReadError.OutOfMemory) → IfErr r (λ e. IfSome (fault_found e) P)
+no_fault P (Ok a) h = tt
+no_fault P (Err e) h = subst (λ x. IfSome (fault_found x) P) (sym h) tt
 
 -- ---- A result of putting, as one of data
 

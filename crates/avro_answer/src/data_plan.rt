@@ -5,7 +5,7 @@ ghost use Rattle.avro_schema.specs.SeenSchema.{schema_nodes};
 
 use crate::data_error::DataError;
 use crate::data_found::{display_for, display_plain, pass_for, pass_plain};
-use crate::data_put::{as_data, put_for, put_plain, put_shown};
+use crate::data_put::{append_shown, as_data, put_for, put_plain, put_shown};
 use crate::datum_texts::{behind, head, is_memory, tail};
 use crate::form::Form;
 use crate::putting::put_text;
@@ -17,6 +17,7 @@ use avro_schema::{Datum, Limits, Memory, Schema};
 use avro_show::Scratch;
 use std::alloc::Global;
 use std::marker::Model;
+use std::mem::replace;
 
 /// A writer's schema, the plan by which its data are read for a reader's, where there is one, and the displays of what is
 /// read. Contracts see the schemas.
@@ -62,7 +63,7 @@ impl<'a> DataPlan<'a> {
     ghost use Rattle.avro_answer.specs.DataPut.{DatumPut};
     ghost use Rattle.avro_answer.specs.DataRead.{fault_found, IsDatumTold};
     ghost use Rattle.avro_answer.specs.ReadAnswer.{datum, IsAllFound, nodes_for, read_as};
-    ghost use Rattle.avro_answer.specs.inside.AtFront.{IsDisplayed};
+    ghost use Rattle.avro_answer.specs.inside.AtFront.{AppendsDatum, IsDisplayed};
     ghost use Rattle.avro_answer.specs.inside.DatumParts.{text_around};
     ghost use Rattle.avro_answer.specs.declared.data_error.DataError.{DataError};
 
@@ -108,26 +109,62 @@ impl<'a> DataPlan<'a> {
         ensures refused { IfErr result (λ e. IfSome (fault_found e) (IsAllFound (schema_nodes self.now.0) (option_map schema_nodes self.now.1) limits.now skip bytes.now)) }
     {
         match behind(bytes, skip) {
-            Ok(data) => self.text_of(alloc, data, limits, form, scratch),
+            Ok(data) => {
+                let mut text = Vec::new(alloc);
+                self.append(&mut text, alloc, data, limits, form, scratch)?;
+                Ok(text)
+            }
             Err(error) => Err(error),
         }
     }
 
-    /// The text of the datum at the front of bytes.
-    fn text_of(
+    /// Appends the text of the datum at the front of bytes.
+    ///
+    /// # Errors
+    ///
+    /// The first fault of the bytes, and else the first fault of resolution: nothing was appended. `OutOfMemory`.
+    pub(crate) fn append(
         &self,
+        text: &mut Vec<u8>,
         alloc: Global,
         bytes: &[u8],
         limits: &Limits,
         form: Form,
         scratch: &mut Scratch,
-    ) -> Result<Vec<u8>, ReadResolveError>
-        ensures read { IfOk result (λ text. IsDatumTold (schema_nodes self.now.0) (option_map schema_nodes self.now.1) limits.now form 0 bytes.now text.items) }
+    ) -> Result<(), ReadResolveError>
+        ensures read { OnOk result (AppendsDatum (schema_nodes self.now.0) (option_map schema_nodes self.now.1) limits.now form bytes.now text.old.items text.new.items) }
         ensures refused { IfErr result (λ e. IfSome (fault_found e) (IsAllFound (schema_nodes self.now.0) (option_map schema_nodes self.now.1) limits.now 0 bytes.now)) }
+        ensures unchanged { IfErr result (λ e. IfSome (fault_found e) (λ _. text.new.items ≡ text.old.items)) }
     {
-        let mut out = WriteOutput::new(Vec::new(alloc));
-        match self.put(&mut out, alloc, bytes, limits, form, scratch) {
-            Ok(()) => Ok(out.into_inner()),
+        match self.display(alloc, bytes, limits, &mut *scratch) {
+            Ok(len) => append_shown(text, scratch, len, form),
+            Err(error) => {
+                if is_memory(&error) {
+                    return self.append_long(text, alloc, bytes, limits, form);
+                }
+                Err(error)
+            }
+        }
+    }
+
+    /// The same of one that is put in pieces.
+    fn append_long(
+        &self,
+        text: &mut Vec<u8>,
+        alloc: Global,
+        bytes: &[u8],
+        limits: &Limits,
+        form: Form,
+    ) -> Result<(), ReadResolveError>
+        ensures read { OnOk result (AppendsDatum (schema_nodes self.now.0) (option_map schema_nodes self.now.1) limits.now form bytes.now text.old.items text.new.items) }
+        ensures refused { IfErr result (λ e. IfSome (fault_found e) (IsAllFound (schema_nodes self.now.0) (option_map schema_nodes self.now.1) limits.now 0 bytes.now)) }
+        ensures unchanged { IfErr result (λ e. IfSome (fault_found e) (λ _. text.new.items ≡ text.old.items)) }
+    {
+        let mut out = WriteOutput::new(replace(text, Vec::new(alloc)));
+        let put = self.put_long(&mut out, alloc, bytes, limits, form);
+        *text = out.into_inner();
+        match put {
+            Ok(()) => Ok(()),
             Err(DataError::Refused(error)) => Err(error),
             Err(DataError::Put(_)) => Err(ReadResolveError::Read(ReadError::OutOfMemory)),
         }

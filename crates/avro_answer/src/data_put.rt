@@ -1,10 +1,13 @@
 //! Putting the text of a datum.
 
-ghost use Rattle.std.specs.Prelude.{◌≡◌, ◌≢◌, ◌⊎◌, ◌++◌, ℕ, List, Ok, IfOk, OnOk, OnErr, IsErrOf};
+ghost use Rattle.std.specs.Prelude.{◌≡◌, ◌≢◌, ◌⊎◌, ◌++◌, ℕ, List, Ok, OnOk, OnErr, IsErrOf};
+ghost use Rattle.std.specs.Result.{IfErr};
 ghost use Rattle.avro_schema.specs.Node.{root_of};
 ghost use Rattle.avro_schema.specs.Seen.{value_of};
 ghost use Rattle.avro_schema.specs.SeenSchema.{schema_nodes};
 ghost use Rattle.avro_schema.specs.Value.{Value};
+ghost use Rattle.avro_cursor.specs.declared.error.ReadError.{ReadError};
+ghost use Rattle.avro_resolve.specs.declared.error.ReadResolveError.TheVariants.{Read};
 ghost use Rattle.avro_compare.specs.Resolve.{resolve_root};
 ghost use Rattle.avro_device.specs.PutFront.{PutsFrontOf};
 ghost use Rattle.avro_display.specs.DisplayTree.{display_text};
@@ -18,12 +21,29 @@ use crate::data_error::DataError;
 use crate::datum_texts::append_text;
 use crate::form::Form;
 use crate::putting::put_text;
+use avro_binary::ReadError;
 use avro_device::Output;
 use avro_display::{DisplayTable, Plain, PutError, Text, put_displayed};
-use avro_resolve::Plan;
+use avro_resolve::{Plan, ReadResolveError};
 use avro_schema::Datum;
 use avro_show::{Resolved, Scratch, put_resolved};
 use std::alloc::Global;
+
+/// Appends the text of a datum whose display a scratch shows. It fails only where memory runs out.
+pub(crate) fn append_shown(
+    text: &mut Vec<u8>,
+    scratch: &Scratch,
+    len: usize,
+    form: Form,
+) -> Result<(), ReadResolveError>
+    ensures appended { (display : List ℕ) → StandsIn scratch.now.text scratch.now.shown display → OnOk result (text.new.items ≡ text.old.items ++ text_around form display len) }
+    ensures memory { IfErr result (λ e. e ≡ Read ReadError.OutOfMemory) }
+{
+    match append_text(text, scratch.shown(), len, form) {
+        Ok(()) => Ok(()),
+        Err(_) => Err(ReadResolveError::Read(ReadError::OutOfMemory)),
+    }
+}
 
 /// Puts the text of a datum whose display a scratch shows.
 pub(crate) fn put_shown<O: Output>(

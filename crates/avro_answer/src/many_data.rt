@@ -1,12 +1,10 @@
 //! What is answered of several encoded data.
 
-ghost use Rattle.std.specs.Prelude.{◌≡◌, ◌<◌, ◌++◌, ℕ, List, length, codes, IfOk, OnOk, IsErrOf, option_map, option_copied};
-ghost use Rattle.std.specs.Option.{IfSome};
+ghost use Rattle.std.specs.Prelude.{◌≡◌, ◌<◌, ◌++◌, ℕ, List, length, IfOk, IsErrOf, option_map, option_copied};
 ghost use Rattle.std.specs.Result.{IfErr};
 ghost use Rattle.avro_schema.specs.SeenSchema.{schema_nodes};
 ghost use Rattle.avro_schema_json.specs.Declaration.{max_text};
 ghost use Rattle.avro_schema_json.specs.declared.error.SchemaError.{SchemaError};
-ghost use Rattle.avro_answer.specs.DataRead.{error_text};
 ghost use Rattle.avro_answer.specs.HistoryAnswer.{cut_texts};
 ghost use Rattle.avro_answer.specs.ReadAnswer.{AreSchemas, RefusesTexts};
 ghost use Rattle.avro_answer.specs.ReadsAnswer.{LinesRead, ReadsAnswer};
@@ -16,14 +14,12 @@ ghost use Rattle.avro_answer.specs.declared.refusal.Refusal.TheVariants.{Writer,
 
 use crate::answer::Answer;
 use crate::data_answers::read_reader_of;
-use crate::data_error::DataError;
 use crate::data_plan::DataPlan;
 use crate::datum_texts::{append_error, behind, is_memory};
 use crate::form::Form;
 use crate::history_texts::cut;
 use crate::reading::read_writer;
 use crate::refusal::Refusal;
-use avro_device::{WriteOutput, put_all};
 use avro_resolve::ReadResolveError;
 use avro_schema::{Limits, Memory, Schema};
 use avro_show::Scratch;
@@ -90,25 +86,22 @@ fn answer_each(
 ) -> Result<Answer, Memory>
     ensures { IfOk result (λ a. LinesRead (schema_nodes plan.now.0) (option_map schema_nodes plan.now.1) limits.now skip (cut_texts bytes.now lengths.now) a.text.items a.status) }
 {
-    let mut out = WriteOutput::new(Vec::new(alloc));
+    let mut text = Vec::new(alloc);
     let mut status = 0;
     let mut scratch = Scratch::new(alloc);
     let mut rest = bytes;
     for index in 0..lengths.len() {
         let (part, others) = cut(rest, lengths[index]);
-        let told = put_line(&mut out, alloc, plan, part, skip, limits, &mut scratch)?;
+        let told = append_line(&mut text, alloc, plan, part, skip, limits, &mut scratch)?;
         status = told.max(status);
         rest = others;
     }
-    Ok(Answer {
-        text: out.into_inner(),
-        status,
-    })
+    Ok(Answer { text, status })
 }
 
-/// Puts the line of one of them, and returns its status.
-fn put_line(
-    out: &mut WriteOutput<Vec<u8>>,
+/// Appends the line of one of them, and returns its status.
+fn append_line(
+    text: &mut Vec<u8>,
     alloc: Global,
     plan: &DataPlan<'_>,
     bytes: &[u8],
@@ -116,43 +109,26 @@ fn put_line(
     limits: &Limits,
     scratch: &mut Scratch,
 ) -> Result<u8, Memory>
-    ensures { IfOk result (λ status. IsLinePut (schema_nodes plan.now.0) (option_map schema_nodes plan.now.1) limits.now skip bytes.now out.old.writer.items out.new.writer.items status) }
+    ensures { IfOk result (λ status. IsLinePut (schema_nodes plan.now.0) (option_map schema_nodes plan.now.1) limits.now skip bytes.now text.old.items text.new.items status) }
 {
     match behind(bytes, skip) {
-        Ok(data) => match plan.put(&mut *out, alloc, data, limits, Form::Json, scratch) {
+        Ok(data) => match plan.append(&mut *text, alloc, data, limits, Form::Json, scratch) {
             Ok(()) => Ok(0),
-            Err(DataError::Refused(error)) => put_fault(out, alloc, &error),
-            Err(DataError::Put(_)) => Err(Memory),
+            Err(error) => append_fault_line(text, &error),
         },
-        Err(error) => put_fault(out, alloc, &error),
+        Err(error) => append_fault_line(text, &error),
     }
 }
 
-/// Puts the line of a fault, and returns its status.
-fn put_fault(
-    out: &mut WriteOutput<Vec<u8>>,
-    alloc: Global,
-    error: &ReadResolveError,
-) -> Result<u8, Memory>
-    ensures { IfOk result (λ status. (line : List ℕ) × IsFaultTold error.now line status × (out.new.writer.items ≡ out.old.writer.items ++ line)) }
-{
-    let line = fault_line(alloc, error)?;
-    match put_all(out, &line.text) {
-        Ok(()) => Ok(line.status),
-        Err(_) => Err(Memory),
-    }
-}
-
-/// The line of a fault.
-fn fault_line(alloc: Global, error: &ReadResolveError) -> Result<Answer, Memory>
-    ensures { IfOk result (λ a. IsFaultTold error.now a.text.items a.status) }
+/// Appends the line of a fault, and returns its status.
+fn append_fault_line(text: &mut Vec<u8>, error: &ReadResolveError) -> Result<u8, Memory>
+    ensures { IfOk result (λ status. (line : List ℕ) × IsFaultTold error.now line status × (text.new.items ≡ text.old.items ++ line)) }
 {
     if is_memory(error) {
         return Err(Memory);
     }
-    let mut text = Vec::new(alloc);
     text.extend_from_slice(b"{\"fault\":\"")?;
-    append_error(&mut text, error)?;
+    append_error(text, error)?;
     text.extend_from_slice(b"\"}\n")?;
-    Ok(Answer { text, status: 1 })
+    Ok(1)
 }

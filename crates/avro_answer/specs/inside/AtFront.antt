@@ -4,7 +4,7 @@ use Rattle.avro_schema.specs.Node.{Node, root_of}
 use Rattle.avro_schema.specs.Value.{Value}
 use Rattle.avro_schema.specs.Fits.{LimitValues}
 use Rattle.avro_resolve.specs.declared.error.ReadResolveError.{ReadResolveError}
-use Rattle.avro_answer.specs.DataRead.{fault_found}
+use Rattle.avro_answer.specs.DataRead.{fault_found, IsDatumTold}
 use Rattle.avro_display.specs.DisplayTree.{display_text}
 use Rattle.avro_display.specs.declared.put_error.PutError.{PutError}
 use Rattle.avro_answer.specs.ReadAnswer.{Found, datum, IsAllFound, found_text, found_status, nodes_for}
@@ -47,3 +47,7 @@ pub record IsLineTold (writer : List Node) (reader : Option (List Node)) (limits
 -- such a line is put behind the bytes that were there
 abbrev pub IsLinePut : List Node → Option (List Node) → LimitValues → ℕ → List ℕ → List ℕ → List ℕ → ℕ → Type 0
 IsLinePut writer reader limits skip bytes from to status = (line : List ℕ) × IsLineTold writer reader limits skip bytes line status × (to ≡ from ++ line)
+
+-- the text of the datum at the front is put behind the bytes that were there
+abbrev pub AppendsDatum : List Node → Option (List Node) → LimitValues → Form → List ℕ → List ℕ → List ℕ → Type 0
+AppendsDatum writer reader limits form bytes from to = (text : List ℕ) × IsDatumTold writer reader limits form 0 bytes text × (to ≡ from ++ text)

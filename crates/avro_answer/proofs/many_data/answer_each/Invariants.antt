@@ -5,4 +5,4 @@ use Rattle.avro_answer.proofs.many_data.answer_each.Given as goal
 
 abbrev pub invariant-loop-index : goal.invariant-loop-index
 invariant-loop-index l =
-    LinesSoFar (schema_nodes l.plan.0) (option_map schema_nodes l.plan.1) l.limits l.skip l.bytes l.lengths l.rest l.index l.out.writer.items l.status
+    LinesSoFar (schema_nodes l.plan.0) (option_map schema_nodes l.plan.1) l.limits l.skip l.bytes l.lengths l.rest l.index l.text.items l.status
