@@ -1,2 +1,3 @@
 pub mod CutTexts
 pub mod HistoryStatuses
+mod Pieces

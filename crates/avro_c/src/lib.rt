@@ -27,7 +27,7 @@ mod status;
 mod telling;
 
 use crate::asking::{are_lengths_of, limits_of, pairs_of, reader_of, reading_of, shown_of};
-use crate::buffer::{put, put_nothing};
+use crate::buffer::{put, put_all, put_nothing};
 use crate::telling::{tell, tell_cut, tell_refusal};
 pub use asking::{AvroLimits, AvroReading};
 use avro_answer::{
@@ -57,7 +57,7 @@ pub extern "C" fn avrojudge_judge_text(
         return put_nothing(status::USAGE, wanted);
     };
     match judge_text(alloc, writer, reader, &limits, Form::Text, out.len()) {
-        Ok(cut) => tell_cut(&cut, out, wanted),
+        Ok(cut) => tell_cut(cut, out, wanted),
         Err(refusal) => tell_refusal(alloc, refusal, out, wanted),
     }
 }
@@ -84,7 +84,7 @@ pub extern "C" fn avrojudge_judge_json_text(
         return put_nothing(status::USAGE, wanted);
     };
     match judge_text(alloc, writer, reader, &limits, Form::Json, out.len()) {
-        Ok(cut) => tell_cut(&cut, out, wanted),
+        Ok(cut) => tell_cut(cut, out, wanted),
         Err(refusal) => tell_refusal(alloc, refusal, out, wanted),
     }
 }
@@ -111,7 +111,7 @@ pub extern "C" fn avrojudge_explain_text(
         return put_nothing(status::USAGE, wanted);
     };
     match explain_text(alloc, writer, reader, pairs, Form::Text) {
-        Ok(answer) => tell(&answer, out, wanted),
+        Ok(answer) => tell(answer, out, wanted),
         Err(refusal) => tell_refusal(alloc, refusal, out, wanted),
     }
 }
@@ -138,7 +138,7 @@ pub extern "C" fn avrojudge_explain_json_text(
         return put_nothing(status::USAGE, wanted);
     };
     match explain_text(alloc, writer, reader, pairs, Form::Json) {
-        Ok(answer) => tell(&answer, out, wanted),
+        Ok(answer) => tell(answer, out, wanted),
         Err(refusal) => tell_refusal(alloc, refusal, out, wanted),
     }
 }
@@ -165,7 +165,7 @@ pub extern "C" fn avrojudge_certify_text(
         return put_nothing(status::USAGE, wanted);
     };
     match certify_text(alloc, writer, reader, &limits) {
-        Ok(answer) => tell(&answer, out, wanted),
+        Ok(answer) => tell(answer, out, wanted),
         Err(refusal) => tell_refusal(alloc, refusal, out, wanted),
     }
 }
@@ -187,7 +187,7 @@ pub extern "C" fn avrojudge_confirm_text(
     ensures complete { HaveSchemas writer.now reader.now → HasCertificate certificate.now → (result ≤ 1) ⊎ (result ≡ 5) }
 {
     match confirm_text(alloc, writer, reader, certificate, Form::Text) {
-        Ok(answer) => tell(&answer, out, wanted),
+        Ok(answer) => tell(answer, out, wanted),
         Err(refusal) => tell_refusal(alloc, refusal, out, wanted),
     }
 }
@@ -217,7 +217,7 @@ pub extern "C" fn avrojudge_history_text(
         return put_nothing(status::USAGE, wanted);
     };
     match history_text(alloc, texts, lengths, &limits, Form::Text) {
-        Ok(answer) => tell(&answer, out, wanted),
+        Ok(answer) => tell(answer, out, wanted),
         Err(refusal) => tell_refusal(alloc, refusal, out, wanted),
     }
 }
@@ -242,7 +242,7 @@ pub extern "C" fn avrojudge_schema_text(
     };
     match schema_text(alloc, text, shown) {
         Ok(answer) => {
-            *wanted = put(&answer, out);
+            *wanted = put_all(answer, out);
             status::GOOD
         }
         Err(refusal) => tell_refusal(alloc, refusal, out, wanted),
@@ -282,7 +282,7 @@ pub extern "C" fn avrojudge_read_text(
         &limits,
         Form::Text,
     ) {
-        Ok(answer) => tell(&answer, out, wanted),
+        Ok(answer) => tell(answer, out, wanted),
         Err(refusal) => tell_refusal(alloc, refusal, out, wanted),
     }
 }
@@ -315,7 +315,7 @@ pub extern "C" fn avrojudge_read_texts(
     };
     let reader = reader_of(asked.has_reader, reader);
     match read_texts(alloc, writer, reader, bytes, lengths, asked.skip, &limits) {
-        Ok(answer) => tell(&answer, out, wanted),
+        Ok(answer) => tell(answer, out, wanted),
         Err(refusal) => tell_refusal(alloc, refusal, out, wanted),
     }
 }

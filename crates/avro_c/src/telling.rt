@@ -6,27 +6,29 @@ ghost use Rattle.avro_c.specs.Buffer.{IsPut, IsUntouched};
 ghost use Rattle.avro_c.specs.Told.{refusal_line};
 ghost use Rattle.avro_answer.specs.declared.refusal.Refusal.TheVariants.{OutOfMemory};
 
-use crate::buffer::{put, put_nothing};
+use crate::buffer::{put_all, put_nothing};
 use crate::status;
 use avro_answer::{Answer, CutAnswer, Refusal, certificate_refusal, schema_refusal};
 use std::alloc::{AllocError, Global};
 
 /// Puts the text of an answer, and answers its status.
-pub(crate) fn tell(answer: &Answer, out: &mut [u8], wanted: &mut usize) -> u32
-    ensures status { result ≡ answer.now.status }
-    ensures put { IsPut answer.now.text.items out.old out.new wanted.new }
+pub(crate) fn tell(answer: Answer, out: &mut [u8], wanted: &mut usize) -> u32
+    ensures status { result ≡ answer.status }
+    ensures put { IsPut answer.text.items out.old out.new wanted.new }
 {
-    *wanted = put(&answer.text, out);
-    u32::from(answer.status)
+    let Answer { text, status } = answer;
+    *wanted = put_all(text, out);
+    u32::from(status)
 }
 
 /// Puts the text of an answer of which as much was kept as there is room for, and answers its status.
-pub(crate) fn tell_cut(cut: &CutAnswer, out: &mut [u8], wanted: &mut usize) -> u32
-    ensures status { result ≡ cut.now.answer.status }
-    ensures put { (text : List ℕ) → IsCut (length out.old) text cut.now → IsPut text out.old out.new wanted.new }
+pub(crate) fn tell_cut(cut: CutAnswer, out: &mut [u8], wanted: &mut usize) -> u32
+    ensures status { result ≡ cut.answer.status }
+    ensures put { (text : List ℕ) → IsCut (length out.old) text cut → IsPut text out.old out.new wanted.new }
 {
-    let status = tell(&cut.answer, out, wanted);
-    *wanted = cut.length;
+    let CutAnswer { answer, length } = cut;
+    let status = tell(answer, out, wanted);
+    *wanted = length;
     status
 }
 
@@ -44,7 +46,7 @@ pub(crate) fn tell_refusal(
 {
     match line_of(alloc, refusal) {
         Ok(line) => {
-            *wanted = put(&line, out);
+            *wanted = put_all(line, out);
             status::REFUSED
         }
         Err(_) => put_nothing(status::OUT_OF_MEMORY, wanted),
