@@ -1,6 +1,7 @@
 -- The display of an array whose items stand between brackets.
 use Rattle.std.proofs.Common.{◌≡◌, ◌∙◌, ℕ, ◌+◌, ◌-◌, ◌<◌, Bool, true, false, List, [], ◌∷◌, ◌++◌, length, take, drop, get_or, length-append, length-take, append_assoc, refl, sym, subst, ap, arith, take-append-drop}
 use Rattle.std.proofs.lemmas.List.{drop_more}
+use lib.Seq.{drop-append_seam}
 use Rattle.serde_json.specs.Data.{Items, no_items, item, array}
 use Rattle.serde_json.specs.Written.{compact_text, items_text}
 use Rattle.avro_binary.specs.Outputs.{StandsAt}
@@ -8,19 +9,15 @@ use Rattle.avro_show.specs.Spans.{AreItemsAt, run_text}
 use Rattle.avro_show.proofs.Composed.{run_then}
 use Rattle.avro_show.specs.declared.spans.Span.{Span}
 
-drop_front : (xs ys : List ℕ) → drop (length xs) (xs ++ ys) ≡ ys
-drop_front [] ys = refl
-drop_front (x ∷ xs) ys = drop_front xs ys
-
 -- what stands between brackets stands with them
 widened : (text bytes : List ℕ) (start end : ℕ) → StandsAt text start end bytes → 0 < start → end < length text → get_or text (start - 1) 0 ≡ 91 → get_or text end 0 ≡ 93
     → StandsAt text (start - 1) (end + 1) (91 ∷ (bytes ++ 93 ∷ []))
 widened text bytes start end stands some within opens closes =
     let before = stands.before in
     let rest = stands.rest in
-    let first : drop start text ≡ bytes ++ rest = rw (stands.split, stands.starts, append_assoc before bytes rest) (drop_front before (bytes ++ rest)) in
+    let first : drop start text ≡ bytes ++ rest = rw (stands.split, stands.starts, append_assoc before bytes rest) (drop-append_seam before (bytes ++ rest)) in
     let longer : length (before ++ bytes) ≡ end = length-append before bytes ∙ rw (sym stands.starts) (sym stands.ends) in
-    let last : drop end text ≡ rest = rw (sym longer, stands.split) (drop_front (before ++ bytes) rest) in
+    let last : drop end text ≡ rest = rw (sym longer, stands.split) (drop-append_seam (before ++ bytes) rest) in
     let up : start - 1 + 1 ≡ start = omega (arith, some) in
     let here : drop (start - 1) text ≡ 91 ∷ (bytes ++ rest) = drop_more text (start - 1) 0 (omega (arith, some, within, stands.ends)) ∙ rw (opens, up, first) refl in
     let there : rest ≡ 93 ∷ drop (end + 1) text = sym last ∙ drop_more text end 0 within ∙ rw closes refl in

@@ -130,19 +130,17 @@ pub fn readers(reader: &Schema, key: u64) -> NodeId
 fn visit(
     alloc: Global,
     names: &Names,
-    writer: &Schema,
-    reader: &Schema,
     table: &[Option<Least>],
     key: u64,
     leads: &mut Vec<Lead>,
     more: &mut Vec<u64>,
 ) -> Result<Comparison, Memory>
-    requires of_these { names.now ≡ (writer.now, reader.now) }
-    requires within { key < length (schema_nodes writer.now) * length (schema_nodes reader.now) }
-    ensures found { IfOk result (λ p. IsFound (schema_nodes writer.now) (schema_nodes reader.now) key p) }
-    ensures steps { OnOk result (more.new.items ≡ steps_at (schema_nodes writer.now) (schema_nodes reader.now) (table_of table.now) key) }
+    requires { key < length (schema_nodes names.now.0) * length (schema_nodes names.now.1) }
+    ensures found { IfOk result (λ p. IsFound (schema_nodes names.now.0) (schema_nodes names.now.1) key p) }
+    ensures steps { OnOk result (more.new.items ≡ steps_at (schema_nodes names.now.0) (schema_nodes names.now.1) (table_of table.now) key) }
 {
-    let w = writers(writer, reader, key);
+    let reader = names.reader();
+    let w = writers(names.writer(), reader, key);
     let r = readers(reader, key);
     let pair = compare(alloc, names, w, r)?;
     steps(names, table, count(reader), &pair, leads, more)?;
@@ -242,32 +240,25 @@ pub fn reach(
     ensures found { IfOk result (λ p. AreComparisons (schema_nodes writer.now) (schema_nodes reader.now) p.found.items) }
 {
     let names = Names::new(alloc, writer, reader)?;
-    reach_by(alloc, &names, writer, reader, table)
+    reach_by(alloc, &names, table)
 }
 
 /// The same by the tables of names.
-fn reach_by(
-    alloc: Global,
-    names: &Names,
-    writer: &Schema,
-    reader: &Schema,
-    table: &[Option<Least>],
-) -> Result<Reached, Memory>
-    requires { names.now ≡ (writer.now, reader.now) }
+fn reach_by(alloc: Global, names: &Names, table: &[Option<Least>]) -> Result<Reached, Memory>
     ensures root { IfOk result (λ p. is_key (keys p.known) 0 ≡ true) }
-    ensures below { IfOk result (λ p. list_all (λ k. nat_lt k (length (schema_nodes writer.now) * length (schema_nodes reader.now))) (keys p.known) ≡ true) }
-    ensures closed { IfOk result (λ p. AreFollowed (steps_at (schema_nodes writer.now) (schema_nodes reader.now) (table_of table.now)) (keys p.known) (length (keys p.known))) }
+    ensures below { IfOk result (λ p. list_all (λ k. nat_lt k (length (schema_nodes names.now.0) * length (schema_nodes names.now.1))) (keys p.known) ≡ true) }
+    ensures closed { IfOk result (λ p. AreFollowed (steps_at (schema_nodes names.now.0) (schema_nodes names.now.1) (table_of table.now)) (keys p.known) (length (keys p.known))) }
     ensures reached { IfOk result (λ p. (P : ℕ → Bool) → P 0 ≡ true
-        → ((k : ℕ) → P k ≡ true → list_all P (steps_at (schema_nodes writer.now) (schema_nodes reader.now) (table_of table.now) k) ≡ true) → list_all P (keys p.known) ≡ true) }
+        → ((k : ℕ) → P k ≡ true → list_all P (steps_at (schema_nodes names.now.0) (schema_nodes names.now.1) (table_of table.now) k) ≡ true) → list_all P (keys p.known) ≡ true) }
     ensures stepped { IfOk result (λ p. (k : ℕ) → is_key (keys p.known) k ≡ true
-        → IsSteppedTo (steps_at (schema_nodes writer.now) (schema_nodes reader.now) (table_of table.now)) k) }
+        → IsSteppedTo (steps_at (schema_nodes names.now.0) (schema_nodes names.now.1) (table_of table.now)) k) }
     ensures one_each { IfOk result (λ p. length p.found.items ≡ length (keys p.known)) }
-    ensures of_keys { IfOk result (λ p. AreFound (schema_nodes writer.now) (schema_nodes reader.now) (keys p.known) p.found.items) }
-    ensures found { IfOk result (λ p. AreComparisons (schema_nodes writer.now) (schema_nodes reader.now) p.found.items) }
+    ensures of_keys { IfOk result (λ p. AreFound (schema_nodes names.now.0) (schema_nodes names.now.1) (keys p.known) p.found.items) }
+    ensures found { IfOk result (λ p. AreComparisons (schema_nodes names.now.0) (schema_nodes names.now.1) p.found.items) }
 {
     // The contract of these calls bounds the number of nodes, which the proof needs.
-    let _ = count(writer);
-    let _ = count(reader);
+    let _ = count(names.writer());
+    let _ = count(names.reader());
     let mut reached = start(alloc, names.seed())?;
     let mut leads = Vec::new(alloc);
     let mut more = Vec::new(alloc);
@@ -275,9 +266,7 @@ fn reach_by(
     let mut next = 0;
     while next < reached.known.len() {
         let key = key_at(&reached.known, next);
-        let pair = visit(
-            alloc, names, writer, reader, table, key, &mut leads, &mut more,
-        )?;
+        let pair = visit(alloc, names, table, key, &mut leads, &mut more)?;
         keep(&mut reached, pair, &more, &mut near)?;
         next += 1;
     }

@@ -10,13 +10,13 @@ use Rattle.avro_least.proofs.pairs.reaching.reach_by.Given as goal
 
 abbrev pub invariant-loop-next : goal.invariant-loop-next
 invariant-loop-next l = (is_key (keys l.reached.known) 0 ≡ true)
-    × (list_all (λ x. nat_lt x (length (schema_nodes l.writer) * length (schema_nodes l.reader))) (keys l.reached.known) ≡ true)
-    × AreFollowed (steps_at (schema_nodes l.writer) (schema_nodes l.reader) (table_of l.table)) (keys l.reached.known) l.next
+    × (list_all (λ x. nat_lt x (length (schema_nodes l.names.0) * length (schema_nodes l.names.1))) (keys l.reached.known) ≡ true)
+    × AreFollowed (steps_at (schema_nodes l.names.0) (schema_nodes l.names.1) (table_of l.table)) (keys l.reached.known) l.next
     × (l.next ≤ length (keys l.reached.known))
     × (length l.reached.found.items ≡ l.next)
-    × AreFound (schema_nodes l.writer) (schema_nodes l.reader) (keys l.reached.known) l.reached.found.items
-    × ((P : ℕ → Bool) → P 0 ≡ true → ((k : ℕ) → P k ≡ true → list_all P (steps_at (schema_nodes l.writer) (schema_nodes l.reader) (table_of l.table) k) ≡ true) → list_all P (keys l.reached.known) ≡ true)
-    × ((k : ℕ) → is_key (keys l.reached.known) k ≡ true → IsSteppedTo (steps_at (schema_nodes l.writer) (schema_nodes l.reader) (table_of l.table)) k)
+    × AreFound (schema_nodes l.names.0) (schema_nodes l.names.1) (keys l.reached.known) l.reached.found.items
+    × ((P : ℕ → Bool) → P 0 ≡ true → ((k : ℕ) → P k ≡ true → list_all P (steps_at (schema_nodes l.names.0) (schema_nodes l.names.1) (table_of l.table) k) ≡ true) → list_all P (keys l.reached.known) ≡ true)
+    × ((k : ℕ) → is_key (keys l.reached.known) k ≡ true → IsSteppedTo (steps_at (schema_nodes l.names.0) (schema_nodes l.names.1) (table_of l.table)) k)
 
 abbrev pub decreases-loop-next : goal.decreases-loop-next
-decreases-loop-next l = length (schema_nodes l.writer) * length (schema_nodes l.reader) - l.next
+decreases-loop-next l = length (schema_nodes l.names.0) * length (schema_nodes l.names.1) - l.next
