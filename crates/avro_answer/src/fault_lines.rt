@@ -14,7 +14,7 @@ use crate::form::Form;
 use crate::json_object::{JsonObject, append_comma};
 use crate::named_fault::name_fault;
 use crate::putting::put_text;
-use avro_device::Output;
+use avro_device::{Output, WriteOutput};
 use avro_display::PutError;
 use avro_explain::{Explanation, Finding, Place};
 use avro_schema::{Memory, Schema};
@@ -52,7 +52,7 @@ pub fn put_faults<O: Output>(
     ensures memory { IsErrOf result PutError.OutOfMemory → O.failures out.new ≡ O.failures out.old }
 {
     let mut text = begin_faults(alloc, found.faults.len(), form)?;
-    put_lines(&mut *out, &mut text, alloc, writer, reader, found, form)?;
+    put_lines(&mut *out, &mut text, writer, reader, found, form)?;
     text.push_str(end_of_faults(form))?;
     put_text(out, text.as_bytes())
 }
@@ -68,39 +68,18 @@ pub(crate) fn faults_text(
     ensures { AreFaults (schema_nodes writer.now) (schema_nodes reader.now) found.now.places.items found.now.faults.items
         → IfOk result (λ text. AreTold form (schema_nodes writer.now) (schema_nodes reader.now) found.now.places.items found.now.faults.items text.items) }
 {
-    let mut text = begin_faults(alloc, found.faults.len(), form)?;
-    append_faults(&mut text, alloc, writer, reader, found, form)?;
-    text.push_str(end_of_faults(form))?;
-    Ok(text.into_bytes())
-}
-
-/// Appends all faults by names.
-fn append_faults(
-    text: &mut String,
-    alloc: Global,
-    writer: &Schema,
-    reader: &Schema,
-    found: &Explanation,
-    form: Form,
-) -> Result<(), Memory>
-    ensures { HavePlaces found.now.places.items found.now.faults.items → OnOk result (AreFaultsAdded form (schema_nodes writer.now)
-        (schema_nodes reader.now) found.now.places.items false found.now.faults.items (string_bytes text.old) (string_bytes text.new)) }
-{
-    let mut later = false;
-    for fault in &found.faults {
-        append_fault(
-            &mut *text, alloc, writer, reader, found, *fault, form, later,
-        )?;
-        later = true;
+    let mut out = WriteOutput::new(Vec::new(alloc));
+    let put = put_faults(&mut out, alloc, writer, reader, found, form);
+    match put {
+        Ok(()) => Ok(out.into_inner()),
+        Err(_) => Err(Memory),
     }
-    Ok(())
 }
 
 /// Puts all faults by name, except for what stays in the text. Where that fails, a prefix of some was put.
 fn put_lines<O: Output>(
     out: &mut O,
     text: &mut String,
-    alloc: Global,
     writer: &Schema,
     reader: &Schema,
     found: &Explanation,
@@ -117,9 +96,7 @@ fn put_lines<O: Output>(
 {
     let mut later = false;
     for fault in &found.faults {
-        append_fault(
-            &mut *text, alloc, writer, reader, found, *fault, form, later,
-        )?;
+        append_fault(&mut *text, writer, reader, found, *fault, form, later)?;
         later = true;
         put_piece(&mut *out, &mut *text)?;
     }
@@ -178,7 +155,6 @@ fn begin_lines(alloc: Global, count: usize) -> Result<String, AllocError>
 /// Appends a fault by names.
 fn append_fault(
     text: &mut String,
-    alloc: Global,
     writer: &Schema,
     reader: &Schema,
     found: &Explanation,
@@ -189,6 +165,7 @@ fn append_fault(
     ensures { fault.place < length found.now.places.items → OnOk result (IsFaultAdded form (schema_nodes writer.now) (schema_nodes reader.now)
         found.now.places.items later fault (string_bytes text.old) (string_bytes text.new)) }
 {
+    let alloc = *text.allocator();
     match form {
         Form::Text => append_line(text, alloc, writer, reader, &found.places, fault),
         Form::Json => append_json(text, alloc, writer, reader, &found.places, fault, later),
