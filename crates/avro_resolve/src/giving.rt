@@ -16,6 +16,7 @@ use std::alloc::{AllocError, Global};
 
 /// What a maker makes of a datum of a node. It fails only where memory runs out.
 #[cycle(giving)]
+#[inline(always)]
 pub fn give<M: Make>(
     alloc: Global,
     schema: &Schema,
@@ -39,22 +40,40 @@ pub fn give<M: Make>(
         Datum::Map(entries) => {
             give_entries(alloc, schema, values_of(schema, id), entries, maker, at)
         }
-        Datum::Union(branch, value) => {
-            // Its contract says that the schema is well formed.
-            let _root = schema.root();
-            let node = branch_of(schema, id, *branch);
-            let part = maker.branch_at(at, *branch, node);
-            let made = give(alloc, schema, node, value, maker, part)?;
-            maker.branch(alloc, *branch, made)
-        }
+        Datum::Union(branch, value) => give_branch(alloc, schema, id, *branch, value, maker, at),
         Datum::Record(values) => give_fields(alloc, schema, id, values, maker, at),
         Datum::Enum(symbol) => maker.leaf(alloc, at, Leaf::Symbol(*symbol)),
         Datum::Fixed(content) => maker.leaf(alloc, at, Leaf::Fixed(content)),
     }
 }
 
+/// What a maker makes of a union, from the value of its branch.
+#[cycle(giving)]
+#[inline(never)]
+fn give_branch<M: Make>(
+    alloc: Global,
+    schema: &Schema,
+    id: NodeId,
+    branch: u32,
+    value: &Datum,
+    maker: &mut M,
+    at: M::At,
+) -> Result<M::Out, AllocError>
+    ensures kept { OnOk result (M.keeps maker.old maker.new) }
+    ensures stands { fits (schema_nodes schema.now) (node_at (schema_nodes schema.now) id.0) (Value.union branch (value_of value.now)) ≡ true
+        → IfOk result (λ out. M.stands_for maker.new (schema_nodes schema.now) (node_at (schema_nodes schema.now) id.0) at out (Value.union branch (value_of value.now))) }
+{
+    // Its contract says that the schema is well formed.
+    let _root = schema.root();
+    let node = branch_of(schema, id, branch);
+    let part = maker.branch_at(at, branch, node);
+    let made = give(alloc, schema, node, value, maker, part)?;
+    maker.branch(alloc, branch, made)
+}
+
 /// What a maker makes of an array, from its items.
 #[cycle(giving)]
+#[inline(never)]
 fn give_items<M: Make>(
     alloc: Global,
     schema: &Schema,
@@ -78,6 +97,7 @@ fn give_items<M: Make>(
 
 /// What a maker makes of a map, from its entries.
 #[cycle(giving)]
+#[inline(never)]
 fn give_entries<M: Make>(
     alloc: Global,
     schema: &Schema,
@@ -102,6 +122,7 @@ fn give_entries<M: Make>(
 
 /// What a maker makes of a record, from the values of its fields.
 #[cycle(giving)]
+#[inline(never)]
 fn give_fields<M: Make>(
     alloc: Global,
     schema: &Schema,

@@ -75,23 +75,34 @@ give-returns-in-Map-clause-stands g t c = λ fit.
     stands_same (λ m. g.M.Make.stands_for c.give_entries.new.maker nodes m c.args.at) n (Node.map_of c.values_of.result.0) (value_of c.args.datum.now) entries c.give_entries.result
     is same (c.give_entries.ensures.stands (subst (λ m. fits nodes m entries ≡ true) is fit_here))
 
-pub give-returns-in_ok-made-in-Union-clause-stands : goal.give-returns-in_ok-made-in-Union-clause-stands
-give-returns-in_ok-made-in-Union-clause-stands g t c = λ fit.
+pub give-returns-in-Union-clause-stands : goal.give-returns-in-Union-clause-stands
+give-returns-in-Union-clause-stands g t c = λ fit.
     let nodes = schema_nodes c.args.schema.now in
     let n = node_at nodes c.args.id.0 in
     let k = c.in-Union.branch in
     let v = value_of c.deref-in-Union.result.now in
+    let same : value_of c.args.datum.now ≡ Value.union k v = ap value_of c.in-Union.is ∙ value_of-Union k c.in-Union.value ∙ ap (λ d. Value.union k (value_of d)) (sym c.deref-in-Union.ensures) in
+    stands_same (λ m. g.M.Make.stands_for c.give_branch.new.maker nodes m c.args.at) n n (value_of c.args.datum.now) (Value.union k v) c.give_branch.result
+    refl same (c.give_branch.ensures.stands (subst (λ x. fits nodes n x ≡ true) same fit))
+
+-- ---- Unions
+
+pub give_branch-returns-clause-stands : goal.give_branch-returns-clause-stands
+give_branch-returns-clause-stands g t c = λ fit.
+    let nodes = schema_nodes c.args.schema.now in
+    let n = node_at nodes c.args.id.0 in
+    let k = c.args.branch in
+    let v = value_of c.args.value.now in
     let at = c.args.at in
     let S = g.M.Make.stands_for c.give.new.maker in
-    let same : value_of c.args.datum.now ≡ Value.union k v = ap value_of c.in-Union.is ∙ value_of-Union k c.in-Union.value ∙ ap (λ d. Value.union k (value_of d)) (sym c.deref-in-Union.ensures) in
-    let f = UnionFits-from_fits nodes n k v (subst (λ x. fits nodes n x ≡ true) same fit) in
+    let f = UnionFits-from_fits nodes n k v fit in
     let there : c.branch_of-node.result.0 ≡ f.id = c.branch_of-node.ensures ∙ ap (λ (m : Node). branch_id m k) f.is_union ∙ ap (λ o. unwrap_or o 0) f.is_branch in
     let fit_there = subst (λ (i : ℕ). fits nodes (node_at nodes i) v ≡ true) (sym there) f.fitting in
-    let part = c.branch_at-part.ensures ∙ g.met.M.Make.branch_at_kept c.args.maker.now c.give.new.maker at k c.branch_of-node.result.0 c.in_ok-made-in-Union.ensures.kept in
-    let made = subst (λ (i : ℕ). S nodes (node_at nodes i) (g.M.Make.branch_at c.give.new.maker at k i) c.in_ok-made-in-Union.made v) there
-    (subst (λ a. S nodes (node_at nodes c.branch_of-node.result.0) a c.in_ok-made-in-Union.made v) part (c.in_ok-made-in-Union.ensures.stands fit_there)) in
-    stands_same (λ m. g.M.Make.stands_for c.branch-maker.new.self nodes m at) n (Node.union f.ids) (value_of c.args.datum.now) (Value.union k v) c.branch-maker.result
-    f.is_union same (c.branch-maker.ensures.stands nodes f.ids f.id at v f.is_branch (no_union_within nodes c.args.id.0 f.ids k f.id (MeetRules-from_is_schema nodes c.root-root.ensures.formed) f.is_union f.is_branch) made)
+    let part = c.branch_at-part.ensures ∙ g.met.M.Make.branch_at_kept c.args.maker.now c.give.new.maker at k c.branch_of-node.result.0 c.in_ok-made.ensures.kept in
+    let made = subst (λ (i : ℕ). S nodes (node_at nodes i) (g.M.Make.branch_at c.give.new.maker at k i) c.in_ok-made.made v) there
+    (subst (λ a. S nodes (node_at nodes c.branch_of-node.result.0) a c.in_ok-made.made v) part (c.in_ok-made.ensures.stands fit_there)) in
+    stands_same (λ m. g.M.Make.stands_for c.branch-maker.new.self nodes m at) n (Node.union f.ids) (Value.union k v) (Value.union k v) c.branch-maker.result
+    f.is_union refl (c.branch-maker.ensures.stands nodes f.ids f.id at v f.is_branch (no_union_within nodes c.args.id.0 f.ids k f.id (MeetRules-from_is_schema nodes c.root-root.ensures.formed) f.is_union f.is_branch) made)
 
 -- ---- Arrays
 
