@@ -1,4 +1,4 @@
-ghost use Rattle.std.specs.Prelude.{◌≡◌, ◌++◌, ◌∷◌, [], OnErr, OnOk, encode_utf8_all, length, string_bytes, take};
+ghost use Rattle.std.specs.Prelude.{◌≡◌, ◌++◌, ◌∷◌, [], IfOk, OnErr, OnOk, encode_utf8_all, false, length, string_bytes, take, true};
 ghost use Rattle.json.specs.Print.{quoted};
 ghost use Rattle.serde_json.specs.Find.{of_integer};
 ghost use Rattle.serde_json.specs.Written.{comma_if, number_text};
@@ -122,6 +122,18 @@ impl Text {
         append_string(&mut self.held, &mut self.quoted, string)
     }
 
+    /// Appends a quoted text by its bytes, if none needs an escape, and says so, or appends nothing.
+    pub fn append_plain(&mut self, bytes: &[u8]) -> Result<bool, AllocError>
+        ensures plain { IfOk result (λ appended. appended ≡ true → self.new ≡ self.old ++ quoted bytes.now) }
+        ensures none { IfOk result (λ appended. appended ≡ false → self.new ≡ self.old) }
+    {
+        if !is_plain(bytes) {
+            return Ok(false);
+        }
+        append_in_quotes(&mut self.held, bytes)?;
+        Ok(true)
+    }
+
     /// Appends bytes as a quoted text of one character per byte. No clause says what the text holds after an error.
     pub fn append_characters(&mut self, bytes: &[u8]) -> Result<(), AllocError>
         ensures { OnOk result (self.new ≡ self.old ++ quoted (encode_utf8_all bytes.now)) }
@@ -170,6 +182,7 @@ fn append_string(held: &mut Vec<u8>, buffer: &mut Vec<u8>, string: &str) -> Resu
 }
 
 /// Appends bytes in quotes to bytes.
+#[inline(always)]
 fn append_in_quotes(held: &mut Vec<u8>, bytes: &[u8]) -> Result<(), AllocError>
     ensures { OnOk result (held.new.items ≡ held.old.items ++ 34 ∷ (bytes.now ++ 34 ∷ [])) }
 {

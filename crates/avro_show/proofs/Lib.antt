@@ -6,6 +6,7 @@ mod Composed
 mod Digits
 mod Enclosed
 mod Opened
+mod PlainTexts
 mod Spelled
 mod Wholes
 mod Read

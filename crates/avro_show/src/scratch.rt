@@ -6,7 +6,7 @@ ghost use Rattle.serde_json.specs.Written.{compact_text};
 ghost use Rattle.avro_binary.specs.Outputs.{Grows};
 ghost use Rattle.avro_show.specs.Spans.{AreItemsAt, StandsIn, closed, number_items, opened, run_text};
 
-use crate::composing::{append_items, bracketed, bytes_at};
+use crate::composing::{append_items, bytes_at};
 use crate::numbers::append_numbers;
 use crate::spans::{Span, Spans};
 use avro_binary::{Place, give_list, list};
@@ -206,11 +206,6 @@ impl Scratch {
         ensures kept { OnOk result (Grows self.old.text self.new.text) }
         ensures stands { (ds : Items) → AreItemsAt self.old.text items.now ds → IfOk result (λ span. StandsIn self.new.text span (opened opening.entry (compact_text (array ds)))) }
     {
-        if opening.is_none() {
-            if let Some(span) = bracketed(self.text.as_slice(), items) {
-                return Ok(span);
-            }
-        }
         self.whole.clear();
         append_items(&mut self.whole, self.text.as_slice(), items)?;
         self.composed(opening)
