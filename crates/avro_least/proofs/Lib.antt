@@ -16,7 +16,6 @@ pub mod LeastErrors
 pub mod LeastOrder
 pub mod LoneValue
 pub mod LoweredNodes
-pub mod Lowering
 pub mod NoneFailing
 pub mod Others
 pub mod PairSteps
@@ -24,9 +23,7 @@ pub mod PairTable
 pub mod Rounds
 pub mod RowTotals
 pub mod Searching
-pub mod Settling
 pub mod ShownErrors
 pub mod Starting
 pub mod Taken
-pub mod UseRows
 pub mod public

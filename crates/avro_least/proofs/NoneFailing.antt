@@ -1,5 +1,5 @@
 -- Where no pair fails whatever becomes of its parts, no entry is low enough to be that of a datum that errs: none has one.
-use Rattle.std.proofs.Common.{◌≡◌, ◌*◌, ◌/◌, ℕ, [], true, false, List, Option, Some, None, length, refl, subst, slice_get, is_some, nat_lt, lt-ltb, replicate}
+use Rattle.std.proofs.Common.{◌≡◌, ◌*◌, ◌/◌, ℕ, true, false, List, Option, Some, None, length, refl, subst, slice_get, is_some, nat_lt, lt-ltb, replicate}
 use Rattle.std.proofs.lemmas.Bool.{true≢false}
 use Rattle.std.proofs.lemmas.Option.{slice_get_within}
 use Rattle.std.specs.List.{list_all}
@@ -13,7 +13,7 @@ use Rattle.avro_least.specs.Asked.{asked_at, steps_at}
 use Rattle.avro_least.specs.inside.Parts.{value_alone}
 use Rattle.avro_least.proofs.PairTable.{pairs_low}
 use Rattle.avro_least.proofs.Starting.{unknown_taken}
-use Rattle.avro_least.proofs.Taken.{all_low}
+use Rattle.avro_least.proofs.Taken.{index_low}
 
 pub none_seen : (e : Option KeptLeast) → is_some e ≡ false → seen e ≡ None
 none_seen None n = refl
@@ -27,7 +27,7 @@ pub none_low : (writer reader : List Node) (limit n : ℕ) (table : LeastTable) 
     → AreLow writer reader limit table (erring_of (length reader) table keys (seen_all (replicate {A = Option KeptLeast} n None)))
 none_low writer reader limit n table keys formed theirs same below closed least none =
     pairs_low writer reader limit table keys (seen_all (replicate {A = Option KeptLeast} n None)) least
-    (λ i k here. all_low writer reader limit table keys (seen_all (replicate {A = Option KeptLeast} n None)) [] (λ j. refl)
-    (λ j own s d there m. absurd (subst (λ (e : Option Least). AtMost e s d) (none j own there) m))
-    (unknown_taken writer reader limit n table keys [] formed theirs same below
-    (λ j own there. closed j own there (lt-ltb j (length keys) (slice_get_within keys j own there)))) i k here)
+    (λ i. index_low writer reader limit table keys (seen_all (replicate {A = Option KeptLeast} n None)) i
+    (λ own s d there m. absurd (subst (λ (e : Option Least). AtMost e s d) (none i own there) m))
+    (unknown_taken writer reader limit n table keys formed theirs same below
+    (λ j own there. closed j own there (lt-ltb j (length keys) (slice_get_within keys j own there))) i))

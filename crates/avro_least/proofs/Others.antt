@@ -1,9 +1,7 @@
 -- The parts of pairs, as the code finds them.
-use Rattle.std.proofs.Common.{◌≡◌, ℕ, zero, suc, ◌+◌, ◌<◌, true, false, ◌&&◌, ◌||◌, List, [], ◌∷◌, ◌++◌, drop, Option, Some, None, inl, inr, length, get_or, refl, sym, ◌∙◌, ap, arith, slice_get, unwrap_or, option_map, map, ◌==◌, set}
-use Rattle.std.proofs.lemmas.Bool.{and_from, cases_eq, eq-eqb}
+use Rattle.std.proofs.Common.{◌≡◌, ℕ, zero, suc, ◌+◌, ◌<◌, List, [], ◌∷◌, ◌++◌, drop, Option, Some, None, length, get_or, refl, sym, ◌∙◌, ap, arith, slice_get, unwrap_or, option_map, map}
 use Rattle.std.proofs.lemmas.List.{drop_more, drop-map, length-map}
-use Rattle.std.proofs.lemmas.List.Folds.{list_any-append}
-use Rattle.std.proofs.lemmas.Option.{slice_get-map, slice_get-get_or}
+use Rattle.std.proofs.lemmas.Option.{slice_get-map}
 use Rattle.std.specs.Global.{Vec}
 use Rattle.avro_schema.specs.Node.{Node, node_at, field_ids}
 use Rattle.avro_schema.specs.Seen.{ids_of, field_of, seen_fields}
@@ -13,15 +11,10 @@ use Rattle.avro_compare.specs.Children.{Pair}
 use Rattle.avro_least.specs.Tables.{Least, LeastTable, ErringTable, together, all_of, no_parts}
 use Rattle.avro_least.specs.Asked.{Row, Asked, asked}
 use Rattle.avro_least.specs.declared.kept.Least.{Least as KeptLeast}
-use Rattle.avro_least.specs.declared.pairs.leads.Lead.{Lead}
-use Rattle.avro_least.specs.declared.pairs.leads.LeadRow.{LeadRow}
 use Rattle.avro_least.specs.inside.Parts.{least_of_others, nodes_of, parts_of, part_at, row_items, AreOthersOf, AreOthers}
-use Rattle.avro_least.specs.inside.Leading.{is_lead, leads_at, row_leads}
-use Rattle.avro_certificate.proofs.public.Tests.{or_from_left, or_from_right}
 use Rattle.avro_least.proofs.AskedKinds.{asks}
 use Rattle.avro_least.proofs.AskedValue.{row_nodes}
 use Rattle.avro_least.proofs.RowTotals.{after_nothing, get_each, nothing_alone, together_around}
-use Rattle.avro_least.proofs.Rounds.{set_here, set_other}
 
 -- the branch at an index
 abbrev pub against : ℕ → ℕ → Option Pair
@@ -47,23 +40,6 @@ pub rows_nodes : (limit : ℕ) (table : LeastTable) (erring : ErringTable) (writ
 rows_nodes limit table erring writer reader n q rows e =
     let own = asks writer reader n q (Asked.fields rows) e in
     ap (map (λ row. row.node)) own.rows_is ∙ row_nodes limit table erring own.fields own.theirs 0 (field_ids own.fields) ∙ ap nodes_of (sym own.from_is)
-
--- a row that grows
-module _ (rows : List LeadRow) (j : ℕ) (lead : Lead) (row old : LeadRow) (within : j < length rows) (is : row_leads row ≡ row_leads (get_or rows j old) ++ lead ∷ []) where
-  pub lead_added : is_lead (leads_at (set rows j row) j) lead.pair lead.part ≡ true
-  lead_added = rw (set_here rows j row within, is)
-      (list_any-append (λ l. (lead.pair == l.pair) && (lead.part == l.part)) (row_leads (get_or rows j old)) (lead ∷ [])
-      ∙ or_from_right (is_lead (row_leads (get_or rows j old)) lead.pair lead.part) (((lead.pair == lead.pair) && (lead.part == lead.part)) || false)
-      (or_from_left ((lead.pair == lead.pair) && (lead.part == lead.part)) false
-      (and_from (lead.pair == lead.pair) (lead.part == lead.part) (eq-eqb lead.pair lead.pair refl) (eq-eqb lead.part lead.part refl))))
-
-  pub leads_kept : (k p n : ℕ) → is_lead (leads_at rows k) p n ≡ true → is_lead (leads_at (set rows j row) k) p n ≡ true
-  leads_kept k p n m = elim (cases_eq k j) [
-    | inl same ↦ rw (same, set_here rows j row within, is)
-        (list_any-append (λ l. (p == l.pair) && (n == l.part)) (row_leads (get_or rows j old)) (lead ∷ [])
-        ∙ or_from_left (is_lead (row_leads (get_or rows j old)) p n) (is_lead (lead ∷ []) p n) (rw (same, slice_get-get_or rows j old within) at m))
-    | inr apart ↦ rw (set_other rows j k row apart) m
-  ]
 
 -- the ids of the fields from one on
 pub field_rest : (fields : List Field) (i : ℕ) (d : Field) → i < length fields

@@ -1,5 +1,5 @@
 -- The entries of a graph of pairs, from a table without entries on.
-use Rattle.std.proofs.Common.{◌≡◌, inr, ℕ, ◌*◌, ◌/◌, ◌%◌, ◌<◌, Bool, true, false, cond, List, [], Option, Some, None, length, refl, sym, ◌∙◌, ap, subst, arith, slice_get, unwrap_or, is_some, nat_lt, set, replicate}
+use Rattle.std.proofs.Common.{◌≡◌, ℕ, ◌*◌, ◌/◌, ◌%◌, ◌<◌, Bool, true, false, cond, List, [], Option, Some, None, length, refl, sym, ◌∙◌, ap, subst, arith, slice_get, is_some, nat_lt, set, replicate}
 use Rattle.std.proofs.lemmas.Option.{slice_get_within}
 use Rattle.std.specs.List.{list_all}
 use Rattle.indexmap.specs.IndexSet.{keys}
@@ -7,7 +7,7 @@ use Rattle.avro_schema.specs.Node.{Node, node_at}
 use Rattle.avro_schema.specs.SeenSchema.{schema_nodes}
 use Rattle.avro_schema.specs.WellFormed.{is_schema}
 use Rattle.avro_compare.specs.Children.{Pair}
-use Rattle.avro_least.specs.Tables.{Least, LeastTable, ErringTable, AtMost, ShowsError, erring_of, no_parts}
+use Rattle.avro_least.specs.Tables.{Least, LeastTable, ErringTable, AtMost, ShowsError, erring_of}
 use Rattle.avro_least.specs.SeenLeast.{seen, seen_all, table_of, given_entry, improves}
 use Rattle.avro_least.specs.declared.kept.Least.{Least as KeptLeast}
 use Rattle.avro_least.specs.declared.pairs.graph.Graph.{Graph}
@@ -15,8 +15,8 @@ use Rattle.avro_least.specs.declared.queue.Search.{Search}
 use Rattle.avro_least.specs.Reached.{is_key}
 use Rattle.avro_least.specs.Asked.{Asked, asked_at, children_at, steps_at, is_known, ArePairsShown}
 use Rattle.avro_least.specs.inside.Parts.{part_at, entry_of_part, around_part, value_by_part}
-use Rattle.avro_least.specs.inside.Falling.{lowered, IsSearch}
-use Rattle.avro_least.specs.inside.Leading.{AreTakenBut, IsSearchOf}
+use Rattle.avro_least.specs.inside.Falling.{lowered}
+use Rattle.avro_least.specs.inside.Leading.{IsSearchOf, IsTaken}
 use Rattle.avro_least.proofs.PairSteps.{below_at, followed_known, pair_set_shown, unknown_none}
 use Rattle.avro_least.proofs.Searching.{length_lowered}
 use Rattle.avro_least.proofs.public.Stepping.{children_at_within}
@@ -40,13 +40,12 @@ by_part_is limit table erring w r x y k a b o e found first second third is entr
     ∙ ap (λ (c : Asked). value_by_part limit table erring x y c k) third
 
 -- at the start each pair has taken each of its parts
-pub unknown_taken : (writer reader : List Node) (limit n : ℕ) (table : LeastTable) (keys : List ℕ) (waiting : List Bool) → is_schema writer ≡ true → is_schema reader ≡ true
+pub unknown_taken : (writer reader : List Node) (limit n : ℕ) (table : LeastTable) (keys : List ℕ) → is_schema writer ≡ true → is_schema reader ≡ true
     → n ≡ length keys → list_all (λ k. nat_lt k (length writer * length reader)) keys ≡ true
     → ((i own : ℕ) → slice_get keys i ≡ Some own → list_all (is_key keys) (steps_at writer reader table own) ≡ true)
-    → AreTakenBut [] writer reader limit table keys (seen_all (replicate {A = Option KeptLeast} n None)) waiting
-unknown_taken writer reader limit n table keys waiting formed theirs same below followed i k =
-    inr (inr (λ own s d here m.
-    subst (λ (e : Option Least). AtMost e s d → AtMost (unwrap_or (slice_get (seen_all (replicate {A = Option KeptLeast} n None)) i) (Some no_parts)) s d) (sym (none own here)) (λ x. absurd x) m))
+    → (i k : ℕ) → IsTaken writer reader limit table keys (seen_all (replicate {A = Option KeptLeast} n None)) i k
+unknown_taken writer reader limit n table keys formed theirs same below followed i k own s d here m =
+    absurd (subst (λ (e : Option Least). AtMost e s d) (none own here) m)
   where
     by_part : (own : ℕ) → slice_get keys i ≡ Some own → (o : Option Pair) → part_at (own / length reader) (own % length reader) (asked_at writer reader own) k ≡ o
         → entry_of_part (erring_of (length reader) table keys (seen_all (replicate {A = Option KeptLeast} n None))) o ≡ None
@@ -74,13 +73,12 @@ lowered_shown writer reader limit table keys es new i key found within here same
     chosen false = shown
 
 -- a search of a graph whose entry falls so
-pub lowered_search : (g : Graph) (old new : Search) (i key : ℕ) (found : Option KeptLeast) → IsSearchOf g old → IsSearch new → slice_get (keys g.reached.now.known) i ≡ Some key
+pub lowered_search : (g : Graph) (old new : Search) (i key : ℕ) (found : Option KeptLeast) → IsSearchOf g old → slice_get (keys g.reached.now.known) i ≡ Some key
     → new.entries.items ≡ lowered old.entries.items i found
     → (is_some (seen found) ≡ true → ShowsError (schema_nodes g.writer.now) (schema_nodes g.reader.now) g.limit
     (node_at (schema_nodes g.writer.now) (key / length (schema_nodes g.reader.now))) (node_at (schema_nodes g.reader.now) (key % length (schema_nodes g.reader.now))) (seen found))
     → IsSearchOf g new
-lowered_search g old new i key found was is here same own = record {
-  search = is;
+lowered_search g old new i key found was here same own = record {
   one_each = ap length same ∙ length_lowered old.entries.items i found ∙ was.one_each;
   shown = lowered_shown (schema_nodes g.writer.now) (schema_nodes g.reader.now) g.limit (table_of g.table.now) (keys g.reached.now.known) old.entries.items new.entries.items i key found
       (omega (arith, was.one_each, slice_get_within (keys g.reached.now.known) i key here)) here same own was.shown;

@@ -5,4 +5,3 @@ pub mod Leading
 pub mod Leaf
 pub mod Parts
 pub mod Settled
-pub mod Uses

@@ -8,13 +8,13 @@
 //!
 //! An entry is the fewest nodes, and among those the least depth, of a datum. Both tables are filled by Knuth's
 //! generalization of Dijkstra's algorithm to functions of several arguments: an entry is the cost of a node or a pair,
-//! the entries that may still fall are in a queue, and the least of them is settled. A settled entry lowers those of the
-//! pairs that lead to it, each through the one part that is this pair, with the smallest data of a record's other fields.
-//! So each part of each pair is looked at once.
+//! the entries that fell are in a queue, and the least of them is taken. It lowers those of the pairs that lead to it,
+//! each through the one part that is this pair, with the smallest data of a record's other fields. So each part of each
+//! pair is looked at once.
 //!
-//! Two invariants hold: each entry is that of a datum, and a pair's entry is at most what each settled part gives. In the
-//! end all are settled, so no step lowers an entry, and by induction on the datum no failing datum is smaller than its
-//! pair's entry.
+//! Of this order nothing is proved. Each entry is that of a datum, since it falls only to what a step gives. Where the queue
+//! is empty each pair is looked at once more, by all of its parts: if no entry falls then, no step lowers an entry, and by
+//! induction on the datum no failing datum is smaller than its pair's entry. If one did, the search would go on from it.
 #![tactic(auto)]
 
 mod datum;

@@ -1,6 +1,7 @@
 //! Tables of least entries that are still to be found, the least of them first.
 
-ghost use Rattle.std.specs.Prelude.{◌≡◌, ◌<◌, ◌≤◌, ◌⊎◌, ℕ, true, false, None, length, slice_get, IfOk, OnOk, IfSome, IfNone};
+ghost use Rattle.std.specs.Prelude.{◌≡◌, ◌<◌, ◌≤◌, ◌==◌, false, None, slice_get, IfOk, OnOk, IfSome, IfNone};
+ghost use Rattle.std.specs.BinaryHeap.{heap_len};
 ghost use Rattle.std.proofs.Math.ListN.{replicate};
 ghost use Rattle.avro_least.specs.SeenLeast.{seen, given_entry, improves};
 
@@ -20,7 +21,8 @@ pub(crate) struct Fallen {
     index: usize,
 }
 
-/// The least entries that are found so far. Those that have fallen wait, until what depends on them takes them.
+/// The least entries that are found so far. Those that have fallen wait in a queue, until what depends on them takes
+/// them. What waits is a hint: where the queue is empty, all is looked at once more.
 #[derive(Drop)]
 pub(crate) struct Search {
     pub(crate) entries: Vec<Option<Least>>,
@@ -39,12 +41,11 @@ pub(crate) fn entry_at(entries: &[Option<Least>], i: usize) -> Option<Least>
 }
 
 impl Search {
-    ghost use Rattle.avro_least.specs.inside.Falling.{is_waiting, lowered, effort, IsSearch};
+    ghost use Rattle.avro_least.specs.inside.Falling.{lowered, effort, IsQuiet};
 
     /// A table of this many entries, none of them known.
     pub(crate) fn new(alloc: Global, count: usize) -> Result<Search, Memory>
-        ensures search { IfOk result IsSearch }
-        ensures entries { IfOk result (λ s. s.entries.items ≡ replicate count None) }
+        ensures { IfOk result (λ s. s.entries.items ≡ replicate count None) }
     {
         Ok(Search {
             entries: filled(alloc, count, None)?,
@@ -55,13 +56,9 @@ impl Search {
 
     /// Keeps an entry if it is better than the old one at its index, and lets it wait.
     pub(crate) fn lower(&mut self, i: usize, found: Option<Least>) -> Result<(), Memory>
-        requires search { IsSearch self.old }
-        requires within { i < length self.old.entries.items }
-        ensures search { OnOk result (IsSearch self.new) }
         ensures entries { OnOk result (self.new.entries.items ≡ lowered self.old.entries.items i found) }
-        ensures kept { OnOk result ((k : ℕ) → is_waiting self.old.waiting.items k ≡ true → is_waiting self.new.waiting.items k ≡ true) }
-        ensures marked { OnOk result (improves (seen found) (given_entry (slice_get self.old.entries.items i)) ≡ true → is_waiting self.new.waiting.items i ≡ true) }
         ensures effort { OnOk result (effort self.new ≤ effort self.old) }
+        ensures quiet { OnOk result (IsQuiet self.new → IsQuiet self.old × (improves (seen found) (given_entry (slice_get self.old.entries.items i)) ≡ false)) }
     {
         let Some(entry) = found else {
             return Ok(());
@@ -73,38 +70,49 @@ impl Search {
                 index: i,
             }))?;
             self.entries[i] = found;
-            self.waiting[i] = true;
+            self.mark(i, true);
         }
         Ok(())
     }
 
-    /// Whether the entry at an index waits.
-    pub(crate) fn waits(&self, i: usize) -> bool
-        ensures { result ≡ is_waiting self.now.waiting.items i }
+    /// Says of the entry at an index whether it waits.
+    fn mark(&mut self, i: usize, waits: bool)
+        ensures entries { self.new.entries ≡ self.old.entries }
+        ensures queue { self.new.queue ≡ self.old.queue }
     {
+        if i < self.waiting.len() {
+            self.waiting[i] = waits;
+        }
+    }
+
+    /// Whether the entry at an index waits.
+    pub(crate) fn waits(&self, i: usize) -> bool {
         match self.waiting.get(i) {
             None => false,
             Some(waits) => *waits,
         }
     }
 
-    /// The index of the least entry that waits. It waits no more.
-    pub(crate) fn next(&mut self) -> Option<usize>
-        requires search { IsSearch self.old }
-        ensures search { IsSearch self.new }
-        ensures entries { self.new.entries.items ≡ self.old.entries.items }
-        ensures within { IfSome result (λ i. i < length self.new.entries.items) }
-        ensures others { IfSome result (λ i. (k : ℕ) → is_waiting self.old.waiting.items k ≡ true → (k ≡ i) ⊎ (is_waiting self.new.waiting.items k ≡ true)) }
-        ensures none { IfNone result ((k : ℕ) → is_waiting self.old.waiting.items k ≡ false) }
+    /// Whether the queue is empty.
+    pub(crate) fn is_quiet(&self) -> bool
+        ensures { result ≡ (heap_len self.now.queue == 0) }
+    {
+        self.queue.is_empty()
+    }
+
+    /// The index of the least entry in the queue, and whether it waits. It waits no more.
+    pub(crate) fn next(&mut self) -> Option<(usize, bool)>
+        ensures entries { self.new.entries ≡ self.old.entries }
+        ensures quiet { IfNone result (IsQuiet self.old) }
         ensures effort { IfSome result (λ i. effort self.new < effort self.old) }
     {
-        while let Some(Reverse(fallen)) = self.queue.pop() {
-            let i = fallen.index;
-            if self.waits(i) {
-                self.waiting[i] = false;
-                return Some(i);
+        match self.queue.pop() {
+            None => None,
+            Some(Reverse(fallen)) => {
+                let waits = self.waits(fallen.index);
+                self.mark(fallen.index, false);
+                Some((fallen.index, waits))
             }
         }
-        None
     }
 }

@@ -1,7 +1,6 @@
 //! The pairs that were reached, and what the least data that fail at each of them are found from.
 
 use crate::kept::Least;
-use crate::pairs::leads::LeadRow;
 use crate::pairs::reaching::Reached;
 use avro_schema::Schema;
 
@@ -20,6 +19,4 @@ pub(crate) struct Graph<'a> {
     pub(crate) others: &'a [Vec<Option<Least>>],
     /// The pairs that were reached.
     pub(crate) reached: &'a Reached,
-    /// For each of them the pairs that lead to it.
-    pub(crate) leads: &'a [LeadRow],
 }
