@@ -49,9 +49,9 @@ impl FaultKind {
     }
 }
 
-/// A fault of resolution, and where it is in the writer's datum. Its text is written by hand, since a derive cannot write
-/// a path.
-#[derive(Debug, PartialEq, Eq, Drop)]
+/// A fault of resolution, and where it is in the writer's datum.
+#[derive(Debug, PartialEq, Eq, Drop, Error)]
+#[error("{kind} at {path}", path = self.steps())]
 pub struct Fault {
     /// What is wrong.
     pub kind: FaultKind,
@@ -59,13 +59,22 @@ pub struct Fault {
     pub path: Vec<usize>,
 }
 
-impl fmt::Display for Fault {
+impl Fault {
+    fn steps(&self) -> Steps<'_> {
+        Steps(&self.path)
+    }
+}
+
+/// A path as text: its steps, each after a slash.
+#[derive(Drop)]
+struct Steps<'a>(&'a [usize]);
+
+impl fmt::Display for Steps<'_> {
     fn fmt<W: fmt::Write>(&self, f: &mut fmt::Formatter<W>) -> fmt::Result {
-        write!(f, "{} at ", self.kind)?;
-        if self.path.is_empty() {
+        if self.0.is_empty() {
             return write!(f, "/");
         }
-        for step in &self.path {
+        for step in self.0 {
             write!(f, "/{step}")?;
         }
         Ok(())
