@@ -1,5 +1,5 @@
 -- Which datum a leaf is.
-use Rattle.std.specs.Prelude.{◌≡◌, ℤ, Bool, true, false}
+use Rattle.std.specs.Prelude.{◌≡◌, Bool, true, false}
 use Rattle.avro_schema.specs.Node.{Node}
 use Rattle.avro_schema.specs.Value.{Value}
 use Rattle.avro_binary.specs.declared.leaf.Leaf.{Leaf}
@@ -26,14 +26,3 @@ has_no_parts (Node.map_of id) = false
 has_no_parts (Node.union ids) = false
 has_no_parts (Node.record_of name aliases fields) = false
 has_no_parts n = true
-
--- whether the data of a node are ints or longs
-abbrev pub has_numbers : Node → Bool
-has_numbers Node.int = true
-has_numbers Node.long = true
-has_numbers n = false
-
--- the datum of such a node that is a number
-abbrev pub number_value : Node → ℤ → Value
-number_value Node.int i = Value.int i
-number_value n i = Value.long i

@@ -1,3 +1,2 @@
 pub mod PassesAtOnce
 pub mod PassesRun
-pub mod TakesNumbers

@@ -136,9 +136,9 @@ fn index_of(bytes: &[u8]) -> Option<u32>
     }
 }
 
-/// The content behind its length in these bytes. No clause says that there is one.
+/// The content behind its length in these bytes.
 #[inline(always)]
-pub fn content_of(bytes: &[u8]) -> Option<&[u8]>
+fn content_of(bytes: &[u8]) -> Option<&[u8]>
     ensures { (content : List ℕ) → SpellsBytes content bytes.now → IfSome result (λ c. c.now ≡ content) }
 {
     match read_long(bytes) {

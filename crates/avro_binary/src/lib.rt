@@ -55,7 +55,7 @@ pub use avro_cursor::{Block, Cursor, Keys, ReadError};
 pub use build::Build;
 pub use encode_error::EncodeError;
 pub use leaf::Leaf;
-pub use leaves::{content_of, leaf_of};
+pub use leaves::leaf_of;
 pub use make::Make;
 pub use nothing::Nothing;
 pub use pieces::{Pieces, piece_of};

@@ -1,4 +1,4 @@
-ghost use Rattle.std.specs.Prelude.{◌≡◌, ◌<◌, ℕ, List, [], ◌∷◌, ◌++◌, Option, Some, true, false, length, map, replicate, take, drop, slice_get, IfOk, IfSome, OnOk};
+ghost use Rattle.std.specs.Prelude.{◌≡◌, ◌<◌, ℕ, List, [], ◌∷◌, ◌++◌, Option, Some, true, false, length, replicate, take, drop, slice_get, IfOk, IfSome, OnOk};
 ghost use Rattle.avro_name.specs.Name.{Name};
 ghost use Rattle.avro_schema.specs.Empty.{are_empty, is_empty};
 ghost use Rattle.avro_schema.specs.Fits.{fields_fit, fits};
@@ -6,7 +6,7 @@ ghost use Rattle.avro_schema.specs.Node.{Node, FieldNode, node_at, field_ids};
 ghost use Rattle.avro_schema.specs.Seen.{values_from, entries_from, value_of};
 ghost use Rattle.avro_schema.specs.Value.{Value};
 ghost use Rattle.avro_cursor.specs.Encoding.{plain};
-ghost use Rattle.avro_binary.specs.LeafValue.{has_no_parts, has_numbers, leaf_value, number_value};
+ghost use Rattle.avro_binary.specs.LeafValue.{has_no_parts, leaf_value};
 ghost use Rattle.avro_binary.specs.Pieces.{ArePieces};
 ghost use Rattle.avro_binary.specs.Places.{is_union};
 
@@ -200,37 +200,6 @@ pub trait Make {
         ensures none { result ≡ false → _items.new ≡ _items.old }
     {
         false
-    }
-
-    /// A list for the numbers of the next items of an array, so many of them, where the maker may add them at once, or `None` where each
-    /// is added by itself.
-    fn number_list(&mut self, _alloc: Global, _items: &Self::Items, _count: u32) -> Option<Vec<i64>>
-        ensures kept { keeps self.old self.new }
-        ensures stays { (front : List ℕ) → begins self.old front → begins self.new front }
-    {
-        None
-    }
-
-    /// Keeps such a list for later, or lets it go.
-    fn keep_numbers(&mut self, _list: Vec<i64>)
-        ensures kept { keeps self.old self.new }
-        ensures stays { (front : List ℕ) → begins self.old front → begins self.new front }
-    {}
-
-    /// Adds items that are ints or longs after those before, and says so, or adds none.
-    fn numbers(
-        &mut self,
-        _alloc: Global,
-        _items: &mut Self::Items,
-        _numbers: &[i64],
-    ) -> Result<bool, AllocError>
-        ensures kept { OnOk result (keeps self.old self.new) }
-        ensures stays { (front : List ℕ) → begins self.old front → begins self.new front }
-        ensures added { (nodes : List Node) (id : ℕ) (at : Self.At) (vs : List Value) → has_numbers (node_at nodes id) ≡ true → items_stand_for self.old nodes id at _items.old vs
-            → IfOk result (λ added. added ≡ true → items_stand_for self.new nodes id at _items.new (vs ++ map (number_value (node_at nodes id)) _numbers.now)) }
-        ensures none { IfOk result (λ added. added ≡ false → _items.new ≡ _items.old) }
-    {
-        Ok(false)
     }
 
     /// Makes an array from its items.

@@ -11,7 +11,6 @@ ghost use Rattle.avro_binary.specs.Places.{HoldsNoUnion};
 
 mod fields;
 mod maps;
-mod numbers;
 mod pieces;
 mod records;
 
@@ -19,7 +18,6 @@ use crate::leaves::read_leaf;
 use crate::make::Make;
 use crate::reading::fields::read_parts;
 use crate::reading::maps::read_map;
-use crate::reading::numbers::take_numbers;
 use crate::reading::records::read_record;
 use avro_cursor::{Cursor, ReadError};
 use avro_schema::{Field, Node, NodeId, Schema};
@@ -91,33 +89,10 @@ fn read_item_blocks<M: Make>(
     let _nodes = cursor.nodes();
     let mut items = maker.items(alloc, at)?;
     while let Some(block) = cursor.block()? {
-        read_block(alloc, schema, id, block.count(), cursor, maker, &mut items)?;
+        read_items(alloc, schema, id, block.count(), cursor, maker, &mut items)?;
         cursor.end_block(&block)?;
     }
     Ok(maker.array(alloc, items)?)
-}
-
-/// Reads a number of items, and adds them to those before: at once where they are numbers and the maker takes these.
-#[cycle(reading)]
-#[inline(always)]
-fn read_block<M: Make>(
-    alloc: Global,
-    schema: &Schema,
-    id: NodeId,
-    count: u32,
-    cursor: &mut Cursor<'_>,
-    maker: &mut M,
-    items: &mut M::Items,
-) -> Result<(), ReadError>
-    ensures reads { (limits : LimitValues) → limits.depth ≡ cursor.old.depth → limits.blob ≡ cursor.old.blob → (let nodes = schema_nodes schema.now in let n = node_at nodes id.0 in
-        ReadsRun (ValuesRun nodes limits n) (value_breaks nodes limits n)
-        (λ vs after. M.keeps maker.old maker.new × ((at : M.At) (us : List Value) → M.items_stand_for maker.old nodes id.0 at items.old us → M.items_stand_for maker.new nodes id.0 at items.new (us ++ vs))) count [] cursor.old cursor.new result) }
-    ensures stays { (front : List ℕ) → M.begins maker.old front → M.begins maker.new front }
-{
-    if take_numbers(alloc, schema.get(id), count, cursor, maker, items)? {
-        return Ok(());
-    }
-    read_items(alloc, schema, id, count, cursor, maker, items)
 }
 
 /// Reads a number of items, and adds them to those before.

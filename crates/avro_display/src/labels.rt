@@ -1,6 +1,4 @@
 ghost use Rattle.std.specs.Prelude.{◌≡◌, IfOk, option_map, string_bytes};
-ghost use Rattle.json.specs.Print.{token_text};
-ghost use Rattle.json.specs.Token.Token.{boolean};
 ghost use Rattle.avro_schema.specs.Fits.{is_null_node};
 ghost use Rattle.avro_schema.specs.Seen.{node_of};
 ghost use Rattle.avro_display.specs.DisplayTree.{name_text, branch_key as key_of_branch, symbol_at};
@@ -16,13 +14,6 @@ fn copy_of_text(alloc: Global, text: &str) -> Result<String, Memory>
     ensures { IfOk result (λ copy. string_bytes copy ≡ text.now) }
 {
     Ok(String::from_str(alloc, text)?)
-}
-
-/// The text of a boolean.
-pub fn bool_text(value: bool) -> &'static [u8]
-    ensures { result.now ≡ token_text (boolean value) }
-{
-    if value { b"true" } else { b"false" }
 }
 
 /// The symbol of an enum at an index; empty if there is none.

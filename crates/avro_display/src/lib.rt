@@ -10,7 +10,6 @@
 
 mod display;
 mod displayed;
-mod escapes;
 mod labels;
 mod member;
 mod members;
@@ -24,7 +23,7 @@ mod text;
 
 pub use display::{put_display, put_line, show, show_by};
 pub use displayed::{Displayed, Opened};
-pub use labels::{bool_text, symbol_text};
+pub use labels::symbol_text;
 pub use member::Member;
 pub use parts::{entry_key, node_fields};
 pub use pieces::put_byte;

@@ -1,7 +1,8 @@
 //! Text that goes out in pieces.
 
 ghost use Rattle.std.specs.Prelude.{◌≡◌, ◌≢◌, ◌⊎◌, ◌++◌, ◌∷◌, [], OnOk, OnErr, IsErrOf, encode_utf8_all};
-ghost use Rattle.json.specs.Print.{quoted};
+ghost use Rattle.json.specs.Print.{quoted, token_text};
+ghost use Rattle.json.specs.Token.{boolean, null};
 ghost use Rattle.serde_json.specs.Find.{of_integer};
 ghost use Rattle.serde_json.specs.Written.{number_text};
 ghost use Rattle.avro_device.specs.PutFront.{PutsFrontOf};
@@ -64,6 +65,37 @@ pub fn put_byte<O: Output>(out: &mut O, text: &mut Text, byte: u8) -> Result<(),
     ensures memory { IsErrOf result PutError.OutOfMemory → O.failures out.new ≡ O.failures out.old }
 {
     text.append_byte(byte)?;
+    put_piece(out, text)
+}
+
+/// Appends null, and puts all if it is long.
+pub(crate) fn put_null<O: Output>(
+    out: &mut O,
+    text: &mut Text,
+) -> Result<(), PutError>
+    ensures put { OnOk result (PutsText O.keeps out.old text.old (token_text null) out.new text.new) }
+    ensures front { OnErr result (PutsFrontOf O.keeps out.old out.new (text.old ++ token_text null)) }
+    ensures works { OnOk result (O.failures out.new ≡ O.failures out.old) }
+    ensures fails { IsErrOf result PutError.CannotWrite → (O.failures out.new ≢ O.failures out.old) ⊎ O.stuck out.new }
+    ensures memory { IsErrOf result PutError.OutOfMemory → O.failures out.new ≡ O.failures out.old }
+{
+    text.append_null()?;
+    put_piece(out, text)
+}
+
+/// Appends a boolean, and puts all if it is long.
+pub(crate) fn put_bool<O: Output>(
+    out: &mut O,
+    text: &mut Text,
+    value: bool,
+) -> Result<(), PutError>
+    ensures put { OnOk result (PutsText O.keeps out.old text.old (token_text (boolean value)) out.new text.new) }
+    ensures front { OnErr result (PutsFrontOf O.keeps out.old out.new (text.old ++ token_text (boolean value))) }
+    ensures works { OnOk result (O.failures out.new ≡ O.failures out.old) }
+    ensures fails { IsErrOf result PutError.CannotWrite → (O.failures out.new ≢ O.failures out.old) ⊎ O.stuck out.new }
+    ensures memory { IsErrOf result PutError.OutOfMemory → O.failures out.new ≡ O.failures out.old }
+{
+    text.append_bool(value)?;
     put_piece(out, text)
 }
 

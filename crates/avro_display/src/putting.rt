@@ -12,10 +12,11 @@ ghost use Rattle.avro_display.specs.inside.Tables.{seen_place};
 ghost use Rattle.avro_display.specs.declared.put_error.PutError.{PutError};
 
 use crate::displayed::{Displayed, Opened};
-use crate::labels::bool_text;
 use crate::member::Member;
 use crate::members::entry_order;
-use crate::pieces::{put_byte, put_characters, put_number, put_plain, put_quoted};
+use crate::pieces::{
+    put_bool, put_byte, put_characters, put_null, put_number, put_plain, put_quoted,
+};
 use crate::put_error::PutError;
 use crate::text::Text;
 use avro_device::Output;
@@ -42,12 +43,12 @@ pub fn put_displayed<O: Output, D: Displayed>(
     ensures memory { IsErrOf result PutError.OutOfMemory → O.failures out.new ≡ O.failures out.old }
 {
     let Some(part) = part else {
-        return put_plain(out, text, b"null");
+        return put_null(out, text);
     };
     let opened = displayed.open(part);
     match opened {
-        Opened::Null => put_plain(out, text, b"null"),
-        Opened::Bool(value) => put_plain(out, text, bool_text(value)),
+        Opened::Null => put_null(out, text),
+        Opened::Bool(value) => put_bool(out, text, value),
         Opened::Number(value) => put_number(out, text, value),
         Opened::Bytes(bytes) => put_characters(out, text, bytes),
         Opened::Text(string) => put_quoted(out, text, string),

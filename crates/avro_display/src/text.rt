@@ -1,11 +1,10 @@
-ghost use Rattle.std.specs.Prelude.{◌≡◌, ◌++◌, ◌∷◌, [], IfOk, OnErr, OnOk, encode_utf8_all, false, length, string_bytes, take, true};
-ghost use Rattle.json.specs.Print.{quoted};
+ghost use Rattle.std.specs.Prelude.{◌≡◌, ◌++◌, ◌∷◌, [], OnErr, OnOk, encode_utf8_all, length, string_bytes, take};
+ghost use Rattle.json.specs.Print.{quoted, token_text};
+ghost use Rattle.json.specs.Token.{Token, boolean, null};
 ghost use Rattle.serde_json.specs.Find.{of_integer};
 ghost use Rattle.serde_json.specs.Written.{comma_if, number_text};
 ghost use Rattle.avro_display.specs.Table.{head_text};
 
-use crate::escapes::is_plain;
-use itoa::Buffer;
 use json::Writer;
 use std::alloc::{AllocError, Global};
 use std::marker::Model;
@@ -15,8 +14,8 @@ use std::mem::replace;
 #[derive(Drop)]
 pub struct Text {
     held: Vec<u8>,
-    // what the last text with escapes was written to
-    quoted: Vec<u8>,
+    // what the last token was written to
+    token: Vec<u8>,
     // the last text of one character per byte
     characters: String,
 }
@@ -41,11 +40,11 @@ impl Text {
     pub fn holding(held: Vec<u8>) -> Text
         ensures { result ≡ held.items }
     {
-        let quoted = Vec::new(*held.allocator());
+        let token = Vec::new(*held.allocator());
         let characters = String::new(*held.allocator());
         Text {
             held,
-            quoted,
+            token,
             characters,
         }
     }
@@ -107,31 +106,60 @@ impl Text {
         self.held.extend_from_slice(bytes)
     }
 
+    /// A writer of a token, whose buffer is kept from token to token.
+    fn writer(&mut self) -> Writer
+        ensures text { self.new ≡ self.old }
+        ensures before { result.before ≡ [] }
+        ensures tokens { result.tokens ≡ [] }
+    {
+        let alloc = self.allocator();
+        let mut buffer = replace(&mut self.token, Vec::new(alloc));
+        buffer.clear();
+        Writer::new(buffer)
+    }
+
+    /// Appends the token that was written.
+    fn append_written(&mut self, writer: Writer) -> Result<(), AllocError>
+        ensures { (t : Token) → writer.before ≡ [] → writer.tokens ≡ t ∷ [] → OnOk result (self.new ≡ self.old ++ token_text t) }
+    {
+        self.token = writer.into_inner();
+        self.held.extend_from_slice(&self.token)
+    }
+
+    /// Appends null. No clause says what the text holds after an error.
+    pub fn append_null(&mut self) -> Result<(), AllocError>
+        ensures { OnOk result (self.new ≡ self.old ++ token_text null) }
+    {
+        let mut writer = self.writer();
+        writer.null()?;
+        self.append_written(writer)
+    }
+
+    /// Appends a boolean. No clause says what the text holds after an error.
+    pub fn append_bool(&mut self, value: bool) -> Result<(), AllocError>
+        ensures { OnOk result (self.new ≡ self.old ++ token_text (boolean value)) }
+    {
+        let mut writer = self.writer();
+        writer.boolean(value)?;
+        self.append_written(writer)
+    }
+
     /// Appends the digits of a number. No clause says what the text holds after an error.
     pub fn append_number(&mut self, number: i64) -> Result<(), AllocError>
         ensures { OnOk result (self.new ≡ self.old ++ number_text (of_integer number)) }
     {
-        self.held
-            .extend_from_slice(Buffer::new().format(number).as_bytes())
+        let mut writer = self.writer();
+        writer.i64(number)?;
+        self.append_written(writer)
     }
 
     /// Appends a quoted text. No clause says what the text holds after an error.
     pub fn append_quoted(&mut self, string: &str) -> Result<(), AllocError>
         ensures { OnOk result (self.new ≡ self.old ++ quoted string.now) }
     {
-        append_string(&mut self.held, &mut self.quoted, string)
-    }
-
-    /// Appends a quoted text by its bytes, if none needs an escape, and says so, or appends nothing.
-    pub fn append_plain(&mut self, bytes: &[u8]) -> Result<bool, AllocError>
-        ensures plain { IfOk result (λ appended. appended ≡ true → self.new ≡ self.old ++ quoted bytes.now) }
-        ensures none { IfOk result (λ appended. appended ≡ false → self.new ≡ self.old) }
-    {
-        if !is_plain(bytes) {
-            return Ok(false);
-        }
-        append_in_quotes(&mut self.held, bytes)?;
-        Ok(true)
+        let mut writer = self.writer();
+        writer.string(string)?;
+        self.append_written(writer)
     }
 
     /// Appends bytes as a quoted text of one character per byte. No clause says what the text holds after an error.
@@ -139,15 +167,18 @@ impl Text {
         ensures { OnOk result (self.new ≡ self.old ++ quoted (encode_utf8_all bytes.now)) }
     {
         write_characters(&mut self.characters, bytes)?;
-        append_string(&mut self.held, &mut self.quoted, self.characters.as_str())
+        let mut writer = self.writer();
+        writer.string(self.characters.as_str())?;
+        self.append_written(writer)
     }
 
     /// Appends a key and its colon. No clause says what the text holds after an error.
     pub fn append_key(&mut self, key: &str) -> Result<(), AllocError>
         ensures { OnOk result (self.new ≡ self.old ++ head_text key.now) }
     {
-        self.append_quoted(key)?;
-        self.append_byte(b':')
+        let mut writer = self.writer();
+        writer.key(key)?;
+        self.append_written(writer)
     }
 
     /// Appends a comma, if something is before. No clause says what the text holds after an error.
@@ -170,28 +201,6 @@ impl Text {
     }
 }
 
-/// Appends a quoted text to bytes. The buffer is for one with escapes.
-fn append_string(held: &mut Vec<u8>, buffer: &mut Vec<u8>, string: &str) -> Result<(), AllocError>
-    ensures { OnOk result (held.new.items ≡ held.old.items ++ quoted string.now) }
-{
-    if is_plain(string.as_bytes()) {
-        return append_in_quotes(held, string.as_bytes());
-    }
-    write_quoted(buffer, string)?;
-    held.extend_from_slice(buffer)
-}
-
-/// Appends bytes in quotes to bytes.
-#[inline(always)]
-fn append_in_quotes(held: &mut Vec<u8>, bytes: &[u8]) -> Result<(), AllocError>
-    ensures { OnOk result (held.new.items ≡ held.old.items ++ 34 ∷ (bytes.now ++ 34 ∷ [])) }
-{
-    held.push(b'"')?;
-    held.extend_from_slice(bytes)?;
-    held.push(b'"')?;
-    Ok(())
-}
-
 /// Writes a text of one character per byte, whose code point is the byte's value, in the place of a text.
 fn write_characters(text: &mut String, bytes: &[u8]) -> Result<(), AllocError>
     ensures { OnOk result (string_bytes text.new ≡ encode_utf8_all bytes.now) }
@@ -201,16 +210,4 @@ fn write_characters(text: &mut String, bytes: &[u8]) -> Result<(), AllocError>
         text.push(char::from(*byte))?;
     }
     Ok(())
-}
-
-/// Writes a quoted text in the place of some bytes.
-fn write_quoted(buffer: &mut Vec<u8>, string: &str) -> Result<(), AllocError>
-    ensures { OnOk result (buffer.new.items ≡ quoted string.now) }
-{
-    buffer.clear();
-    let alloc = *buffer.allocator();
-    let mut writer = Writer::new(replace(buffer, Vec::new(alloc)));
-    let written = writer.string(string);
-    *buffer = writer.into_inner();
-    written
 }

@@ -1,6 +1,5 @@
 -- Items of an array that are resolved as they are read.
-use Rattle.std.proofs.Common.{◌≡◌, ℕ, zero, suc, ◌+◌, ◌<◌, ℤ, Bool, true, List, [], ◌∷◌, ◌++◌, length, map, replicate, length-append, Option, Result, Ok, Err, refl, sym, ap, ◌∙◌, subst, arith}
-use lib.ListN.{length-map}
+use Rattle.std.proofs.Common.{◌≡◌, ℕ, zero, suc, ◌+◌, ◌<◌, List, [], ◌∷◌, ◌++◌, length, replicate, length-append, Option, Result, Ok, Err, refl, sym, ap, ◌∙◌, subst, arith}
 use Rattle.std.specs.Prelude.{IfOk}
 use Rattle.std.specs.Global.{Box}
 use Rattle.std.specs.declared.alloc.AllocError.{AllocError}
@@ -9,11 +8,9 @@ use Rattle.avro_schema.specs.Value.{Value, Values, no_values, value}
 use Rattle.avro_schema.specs.Node.{Node, node_at, items_node}
 use Rattle.avro_schema.specs.Seen.{values_from}
 use Rattle.avro_schema.specs.declared.schema.NodeId.{NodeId}
-use Rattle.avro_resolve.specs.Copied.{IsCopied}
 use Rattle.avro_resolve.specs.Ends.{turned, values_before}
 use Rattle.avro_compare.specs.Fault.{ResolutionFault, fault_in}
-use Rattle.avro_resolve.specs.inside.Guided.{Arrives, Leads, MadeAs, RunAs, StandsAs, SoFar, ItemsGood, ItemsStandAs, LeadsTo, of_node}
-use Rattle.avro_binary.specs.LeafValue.{has_numbers, number_value}
+use Rattle.avro_resolve.specs.inside.Guided.{Arrives, Leads, MadeAs, StandsAs, SoFar, ItemsGood, ItemsStandAs, LeadsTo, of_node}
 use Rattle.avro_binary.specs.Places.{in_branch, placed}
 use Rattle.avro_binary.specs.declared.place.Place.{Place}
 use Rattle.avro_compare.specs.Pairs.{wrapped, item_id}
@@ -24,7 +21,6 @@ use Rattle.avro_compare.specs.declared.comparison.At.TheVariants.{Ignored, Pair}
 use Rattle.avro_resolve.specs.declared.resolving.guided.Made.{Made}
 use Rattle.avro_resolve.specs.declared.resolving.guided.Run.{Run}
 use Rattle.avro_compare.proofs.public.Lists.{one_longer}
-use Rattle.avro_resolve.proofs.CopiedLeaves.{copied_number, copied_numbers}
 use Rattle.avro_resolve.proofs.Arriving.{arrived_array, wrapped_ok}
 use Rattle.avro_resolve.proofs.Guiding.{as_fault, good_made, wrapped_fault, so_far_none, so_far_more, so_far_fails, so_far_whole}
 
@@ -99,19 +95,6 @@ module _ (writer reader : List Node) (w r : Node) (v u : Value) (is : resolve wr
       let more = so_far_again n (vs ++ v ∷ []) (made ++ u ∷ []) (so_far_more same_run values_before vs v made (made ++ u ∷ []) h (λ rest. item_good writer reader w r (length vs) v rest made u is)) in
       subst (λ (xs : List Value). SoFar same_run values_before xs (made ++ replicate (suc n) u)) (append_assoc vs (v ∷ []) (replicate n v))
       (subst (λ (us : List Value). SoFar same_run values_before ((vs ++ v ∷ []) ++ replicate n v) us) (append_assoc made (u ∷ []) (replicate n u)) more)
-
--- several of each of which it is known what it is for the reader
-module _ {X : Type 0} (writer reader : List Node) (w r : Node) (f g : X → Value) (is : (x : X) → resolve writer reader w r (f x) ≡ Ok (g x)) where
-  abbrev each_run : ℕ → List Value → Result Values ResolutionFault
-  each_run k us = resolve_items writer reader w r k (values_from us)
-
-  pub so_far_each : (xs : List X) (vs made : List Value) → SoFar each_run values_before vs made → SoFar each_run values_before (vs ++ map f xs) (made ++ map g xs)
-  so_far_each [] vs made h =
-      subst (λ (us : List Value). SoFar each_run values_before us (made ++ [])) (sym (append-nil vs)) (subst (λ (us : List Value). SoFar each_run values_before vs us) (sym (append-nil made)) h)
-  so_far_each (x ∷ xs) vs made h =
-      let more = so_far_each xs (vs ++ f x ∷ []) (made ++ g x ∷ []) (so_far_more each_run values_before vs (f x) made (made ++ g x ∷ []) h (λ rest. item_good writer reader w r (length vs) (f x) rest made (g x) (is x))) in
-      subst (λ (us : List Value). SoFar each_run values_before us (made ++ map g (x ∷ xs))) (append_assoc vs (f x ∷ []) (map f xs))
-      (subst (λ (us : List Value). SoFar each_run values_before ((vs ++ f x ∷ []) ++ map f xs) us) (append_assoc made (g x ∷ []) (map g xs)) more)
 
 -- none yet, where a pair leads to a node
 pub no_items : {I : Type 0} (S : List Node → ℕ → Place → I → List Value → Type 0) (writer reader nodes : List Node) (id : ℕ) (at : At) (w r : NodeId) (kept : I) (branch : Option ℕ) (q a b : NodeId)
@@ -204,41 +187,6 @@ module _ {I O : Type 0} (S : List Node → ℕ → Place → I → List Value �
   items_after_fault n (Pair w r) fault h = λ are is more.
       subst (λ (xs : List Value). resolve writer reader (node_at writer w.0) (node_at reader r.0) (Value.array (values_from xs)) ≡ Err (turned fault.value)) (sym (append_assoc vs (replicate n v) more))
       (h are is (replicate n v ++ more))
-
--- so many more, that are numbers
-module _ {I : Type 0} (S SN : List Node → ℕ → Place → I → List Value → Type 0) (writer reader nodes : List Node) (id : ℕ) (vs : List Value) (is : List ℤ) where
-  pub good_numbers : (at : At) (old new : I) (count next : ℕ) (branch : Option ℕ) (a b : NodeId) → IsCopied writer reader (node_at writer a.0) (node_at reader b.0)
-      → ((at : Place) (us : List Value) → has_numbers (node_at reader b.0) ≡ true → S reader b.0 at old us → SN reader b.0 at new (us ++ map (number_value (node_at reader b.0)) is))
-      → next ≡ count + length is → has_numbers (node_at nodes id) ≡ true → ItemsStandAs S writer reader nodes id at (Run.Good old count branch a b) vs
-      → ItemsStandAs SN writer reader nodes id at (Run.Good new next branch a b) (vs ++ map (number_value (node_at nodes id)) is)
-  good_numbers Ignored old new count next branch a b copied law up have h = absurd h
-  good_numbers (Pair w r) old new count next branch a b copied law up have h = λ are same.
-      let wn = node_at writer w.0 in
-      let good = h are same in
-      let here = node_there S writer reader wn r.0 old count branch a b vs good nodes id are same in
-      let n = node_at writer a.0 in
-      let m = node_at reader b.0 in
-      let numbers : has_numbers n ≡ true = subst (λ (x : Node). has_numbers x ≡ true) here have in
-      subst (λ (x : Node). RunAs SN writer reader wn r.0 (Run.Good new next branch a b) (vs ++ map (number_value x) is)) (sym here) (record {
-        to = good.to;
-        leads = good.leads;
-        arrives = good.arrives;
-        of_writer = good.of_writer;
-        of_reader = good.of_reader;
-        counted = counted_more vs (map (number_value n) is) count next (length is) (length-map is (number_value n)) good.counted up;
-        made = good.made ++ map (number_value m) is;
-        so_far = so_far_each writer reader n m (number_value n) (number_value m) (copied_number writer reader n m copied numbers) is vs good.made good.so_far;
-        stands = law (placed branch good.to) good.made (copied_numbers writer reader n m copied numbers) good.stands;
-      })
-
-  -- the same of a call that says whether it added them
-  pub told_numbers : (result : Result Bool AllocError) (at : At) (old new : I) (count next : ℕ) (branch : Option ℕ) (a b : NodeId) → IsCopied writer reader (node_at writer a.0) (node_at reader b.0)
-      → ((at : Place) (us : List Value) → has_numbers (node_at reader b.0) ≡ true → S reader b.0 at old us → IfOk result (λ added. added ≡ true → SN reader b.0 at new (us ++ map (number_value (node_at reader b.0)) is)))
-      → IfOk result (λ added. added ≡ true → next ≡ count + length is) → has_numbers (node_at nodes id) ≡ true → ItemsStandAs S writer reader nodes id at (Run.Good old count branch a b) vs
-      → IfOk result (λ added. added ≡ true → ItemsStandAs SN writer reader nodes id at (Run.Good new next branch a b) (vs ++ map (number_value (node_at nodes id)) is))
-  told_numbers (Ok added) at old new count next branch a b copied law up have h = λ yes.
-      good_numbers at old new count next branch a b copied (λ place us are stood. law place us are stood yes) (up yes) have h
-  told_numbers (Err e) at old new count next branch a b copied law up have h = tt
 
 -- ---- Arrays
 

@@ -9,7 +9,6 @@ use Rattle.avro_schema.specs.Node.{Node, symbols_of}
 use Rattle.avro_schema.specs.Fits.{is_int_node, is_long_node, is_bytes_node, is_string_node}
 use Rattle.avro_schema.proofs.public.FitsKind.{FitsKind}
 use Rattle.avro_cursor.specs.Encoding.{Spells, SpellsBytes, plain, plain_bytes}
-use Rattle.avro_binary.specs.LeafValue.{has_numbers, number_value}
 use Rattle.avro_compare.specs.Resolve.{bytes_as, int_as, resolve, string_as}
 use Rattle.avro_resolve.specs.Copied.{IsCopied, IsAsSpelled, BeginsShortest, begins_with_number, is_as_written}
 
@@ -96,34 +95,3 @@ module _ (writer : List Node) (n m : Node) (kinds : is_as_written n m ≡ true) 
   copied_spelling (Value.record_of vs) b k s short = absurd (false≢true (written (Node.record_of k.name k.aliases k.fields) k.is_record))
   copied_spelling (Value.enum j) b k s short = absurd (none_some (no_symbols n m kinds) k.1)
   copied_spelling (Value.fixed x) b k s short = s
-
--- ---- Numbers
-
-int_of : (i : ℤ) (m : Node) → (is_int_node m || is_long_node m) ≡ true → int_as i m ≡ Ok (number_value m i)
-int_of i Node.int h = refl
-int_of i Node.long h = refl
-int_of i _ h = absurd (false≢true h)
-
-long_of : (i : ℤ) (m : Node) → is_long_node m ≡ true → Value.long i ≡ number_value m i
-long_of i Node.long h = refl
-long_of i _ h = absurd (false≢true h)
-
--- a copied number is the same number for the reader
-pub copied_number : (writer reader : List Node) (n m : Node) → IsCopied writer reader n m → has_numbers n ≡ true → (i : ℤ) → resolve writer reader n m (number_value n i) ≡ Ok (number_value m i)
-copied_number writer reader Node.int m c h i = c.leads (int_as i) ∙ int_of i m c.kinds
-copied_number writer reader Node.long m c h i = c.leads (λ q. Ok (Value.long i)) ∙ ap Ok (long_of i m c.kinds)
-copied_number writer reader _ m c h i = absurd (false≢true h)
-
-int_numbers : (m : Node) → (is_int_node m || is_long_node m) ≡ true → has_numbers m ≡ true
-int_numbers Node.int h = refl
-int_numbers Node.long h = refl
-int_numbers _ h = absurd (false≢true h)
-
-long_numbers : (m : Node) → is_long_node m ≡ true → has_numbers m ≡ true
-long_numbers Node.long h = refl
-long_numbers _ h = absurd (false≢true h)
-
-pub copied_numbers : (writer reader : List Node) (n m : Node) → IsCopied writer reader n m → has_numbers n ≡ true → has_numbers m ≡ true
-copied_numbers writer reader Node.int m c h = int_numbers m c.kinds
-copied_numbers writer reader Node.long m c h = long_numbers m c.kinds
-copied_numbers writer reader _ m c h = absurd (false≢true h)

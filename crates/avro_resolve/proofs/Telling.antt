@@ -1,5 +1,5 @@
 -- Facts of answers that rest on a premise.
-use Rattle.std.proofs.Common.{◌≡◌, Bool, true, Option, Some, None, Result, Ok, Err}
+use Rattle.std.proofs.Common.{Option, Some, None, Result, Ok, Err}
 use Rattle.std.specs.Prelude.{IfOk, IfSome, OnOk}
 
 pub ok_told : {T E : Type 0} (A : Type 0) (P : T → Type 0) (r : Result T E) → (A → IfOk r P) → IfOk r (λ x. A → P x)
@@ -19,7 +19,3 @@ on_told A B (Err e) law = tt
 pub on_then : {T E : Type 0} (A B : Type 0) (r : Result T E) → (A → B) → OnOk r A → OnOk r B
 on_then A B (Ok x) law h = law h
 on_then A B (Err e) law h = tt
-
-pub added_told : {E : Type 0} (A B : Type 0) (r : Result Bool E) → (A → IfOk r (λ added. added ≡ true → B)) → IfOk r (λ added. added ≡ true → A → B)
-added_told A B (Ok added) law = λ yes a. law a yes
-added_told A B (Err e) law = tt

@@ -12,8 +12,7 @@ use crate::resolving::failing::step_apart;
 use crate::resolving::guided::{Filling, Made, Part, Run};
 use crate::resolving::leaves::make_leaf;
 use crate::resolving::list_maker::{
-    list_for, make_array, make_map, next_part, put_entry, put_item, put_numbers, repeat_item,
-    start_entries, start_items,
+    make_array, make_map, next_part, put_entry, put_item, repeat_item, start_entries, start_items,
 };
 use crate::resolving::record_maker::{
     fill_next, make_record, next_field_part, skip_fields, start_filling,
@@ -189,28 +188,6 @@ impl<'p, 'a, 'b, M: Make<At = Place>> Make for Resolving<'p, 'a, 'b, M> {
 
     fn repeat(&self, items: &mut (Run<M::Items>, u32), value: &Made<M::Out>, count: u32) -> bool {
         repeat_item(self.maker, &mut items.0, value, count)
-    }
-
-    fn number_list(
-        &mut self,
-        alloc: Global,
-        items: &(Run<M::Items>, u32),
-        count: u32,
-    ) -> Option<Vec<i64>> {
-        list_for(alloc, self.maker, &items.0, count)
-    }
-
-    fn keep_numbers(&mut self, list: Vec<i64>) {
-        self.maker.keep_numbers(list);
-    }
-
-    fn numbers(
-        &mut self,
-        alloc: Global,
-        items: &mut (Run<M::Items>, u32),
-        numbers: &[i64],
-    ) -> Result<bool, AllocError> {
-        put_numbers(alloc, self.maker, self.plan, items.1, &mut items.0, numbers)
     }
 
     fn array(

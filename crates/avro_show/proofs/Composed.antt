@@ -1,16 +1,16 @@
 -- The display of a whole, part by part.
-use Rattle.std.proofs.Common.{◌≡◌, ◌<◌, ◌≤◌, ◌+◌, ℕ, List, [], ◌∷◌, ◌++◌, length, drop, get_or, Bool, false, true, refl, sym, ap, subst, ◌∙◌, append_assoc, arith}
+use Rattle.std.proofs.Common.{◌≡◌, ◌<◌, ◌≤◌, ◌+◌, ℕ, List, [], ◌∷◌, ◌++◌, length, drop, get_or, Bool, true, sym, ap, subst, ◌∙◌, append_assoc, arith}
 use Rattle.std.specs.Prelude.{String, string_bytes}
 use Rattle.std.specs.List.{AllByRecursion}
 use Rattle.std.specs.declared.alloc.Global.{Global}
 use Rattle.std.proofs.lemmas.List.{drop_more, drop_all}
 use Rattle.std.proofs.lemmas.Option.{get_or_from_slice_get}
-use Rattle.serde_json.specs.Data.{Data, Items, no_items, item, Members}
+use Rattle.serde_json.specs.Data.{Data, Items, Members}
 use Rattle.serde_json.specs.Written.{comma_if, compact_text, items_text, members_text}
 use Rattle.avro_display.specs.Displayed.{members_left, object_text}
 use Rattle.avro_display.specs.Table.{head_text}
 use Rattle.avro_display.specs.declared.member.Member.{Member}
-use Rattle.avro_show.specs.Spans.{AreItemsAt, AreMembersAt, IsSpanAt, StandsIn, run_text, then_items}
+use Rattle.avro_show.specs.Spans.{AreItemsAt, AreMembersAt, IsSpanAt, StandsIn}
 use Rattle.avro_show.specs.declared.spans.Span.{Span}
 
 module _ (text all now : List ℕ) where
@@ -21,18 +21,13 @@ module _ (text all now : List ℕ) where
   abbrev pub EntriesLeft : Bool → List (String Global × Span) → Type 0
   EntriesLeft later spans = (left : Members) × AreMembersAt text spans left × (all ≡ now ++ members_text later left)
 
--- the text of several items and of those after them
-pub run_then : (ds es : Items) → items_text true (then_items ds es) ≡ run_text true ds ++ items_text true es
-run_then no_items es = refl
-run_then (item d ds) es = rw (run_then ds es) (simp append_assoc)
-
 module _ (text all now next then : List ℕ) where
   pub items_more : (later : Bool) (spans : List Span) (i : ℕ) (s : Span) → i < length spans → next ≡ now ++ comma_if later
       → ((bytes : List ℕ) → StandsIn text (get_or spans i s) bytes → then ≡ next ++ bytes) → ItemsLeft text all now later (drop i spans) → ItemsLeft text all then true (drop (i + 1) spans)
   items_more later spans i s within has step left =
       let (ds, are, is) = subst (λ (l : List Span). ItemsLeft text all now later l) (drop_more spans i s within) left in
-      let (d, more, rest, e, stands, others) = are in
-      (rest, others, is ∙ ap (λ (x : Items). now ++ items_text later x) e ∙ rw (step (run_text false (item d more)) stands, has, run_then more rest) (simp append_assoc))
+      let (d, rest, e, stands, more) = are in
+      (rest, more, is ∙ ap (λ (x : Items). now ++ items_text later x) e ∙ rw (step (compact_text d) stands, has) (simp append_assoc))
 
   pub entries_more : (later : Bool) (spans rest : List (String Global × Span)) (k : String Global) (s : Span) → spans ≡ (k, s) ∷ rest → next ≡ now ++ (comma_if later ++ head_text (string_bytes k))
       → ((bytes : List ℕ) → StandsIn text s bytes → then ≡ next ++ bytes) → EntriesLeft text all now later spans → EntriesLeft text all then true rest

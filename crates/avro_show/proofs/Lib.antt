@@ -3,10 +3,7 @@ mod Made
 mod Taken
 mod Objects
 mod Composed
-mod Digits
-mod Enclosed
 mod Opened
-mod PlainTexts
 mod Spelled
 mod Wholes
 mod Read

@@ -1,5 +1,5 @@
 -- The parts of what is read, one more of them, and their whole.
-use Rattle.std.proofs.Common.{◌≡◌, ℕ, zero, suc, ◌<◌, ◌≤◌, ℤ, false, List, [], ◌∷◌, ◌++◌, ◌∙◌, append-nil, length, map, Result, Ok, Err, true, Some, refl, sym, ap, subst, arith, Ordering, Less, Equal, Greater}
+use Rattle.std.proofs.Common.{◌≡◌, ℕ, zero, suc, ◌<◌, ◌≤◌, List, [], ◌∷◌, ◌++◌, length, Result, Ok, Err, true, Some, refl, sym, ap, subst, arith, Ordering, Less, Equal, Greater}
 use Rattle.std.proofs.lemmas.Bool.{and_parts, false≢true}
 use Rattle.std.specs.BTreeMap.{insert_entry}
 use Rattle.std.specs.List.{AllByRecursion}
@@ -14,60 +14,29 @@ use Rattle.avro_schema.specs.Seen.{entries_from, values_from}
 use Rattle.avro_schema.specs.SeenSchema.{schema_nodes}
 use Rattle.avro_schema.specs.Value.{Value, values_count}
 use Rattle.avro_schema.specs.declared.schema.Schema.{Schema}
-use Rattle.avro_binary.specs.LeafValue.{number_value}
 use Rattle.avro_binary.specs.Places.{alone}
-use Rattle.serde_json.specs.Data.{Data, Items, no_items, item, Members, no_members, put}
-use Rattle.serde_json.specs.Find.{of_integer}
+use Rattle.serde_json.specs.Data.{Data, Members, no_members, put}
 use Rattle.serde_json.specs.Written.{compact_text}
 use Rattle.avro_display.specs.DisplayTree.{display_entries, display_items, display_text, display_tree}
 use Rattle.avro_display.specs.Displayed.{object_text}
 use Rattle.avro_display.specs.Table.{AreMembers, IsMember, field_id, field_tree, value_at}
 use Rattle.avro_display.specs.declared.member.Member.{Member}
-use Rattle.avro_show.specs.Spans.{AreFieldsAt, AreItemsAt, AreMembersAt, IsOf, IsSpanAt, StandsIn, number_items, run_text, then_items}
+use Rattle.avro_show.specs.Spans.{AreFieldsAt, AreItemsAt, AreMembersAt, IsOf, IsSpanAt, StandsIn}
 use Rattle.avro_show.specs.declared.spans.Span.{Span}
 use Rattle.avro_show.proofs.Objects.{members_shown}
 
 -- ---- One part more
 
-then_none : (ds : Items) → then_items ds no_items ≡ ds
-then_none no_items = refl
-then_none (item d ds) = ap (item d) (then_none ds)
-
-then_then : (ds es fs : Items) → then_items (then_items ds es) fs ≡ then_items ds (then_items es fs)
-then_then no_items es fs = refl
-then_then (item d ds) es fs = ap (item d) (then_then ds es fs)
-
--- items so far, and then some that stand in one place
-run_push : (text : List ℕ) (spans : List Span) (s : Span) (ds : Items) (d : Data) (more : Items) → AreItemsAt text spans ds → StandsIn text s (run_text false (item d more))
-    → AreItemsAt text (spans ++ s ∷ []) (then_items ds (item d more))
-run_push text [] s ds d more none here = (d, more, no_items, ap (λ (xs : Items). then_items xs (item d more)) none ∙ ap (item d) (sym (then_none more)), here, refl)
-run_push text (x ∷ xs) s ds d more (e, es, rest, is, stands, others) here =
-    (e, es, then_items rest (item d more), ap (λ (fs : Items). then_items fs (item d more)) is ∙ ap (item e) (then_then es rest (item d more)), stands, run_push text xs s rest d more others here)
-
-display_then : (nodes : List Node) (n : Node) (vs ws : List Value) → display_items nodes n (values_from (vs ++ ws)) ≡ then_items (display_items nodes n (values_from vs)) (display_items nodes n (values_from ws))
-display_then nodes n [] ws = refl
-display_then nodes n (v ∷ vs) ws = ap (item (display_tree nodes n v)) (display_then nodes n vs ws)
-
-number_shown : (nodes : List Node) (n m : Node) (i : ℤ) → display_tree nodes n (number_value m i) ≡ Data.number (of_integer i)
-number_shown nodes n Node.int i = refl
-number_shown nodes n _ i = refl
-
-numbers_shown : (nodes : List Node) (n m : Node) (is : List ℤ) → display_items nodes n (values_from (map (number_value m) is)) ≡ number_items is
-numbers_shown nodes n m [] = refl
-numbers_shown nodes n m (i ∷ is) = cc (number_shown nodes n m i, numbers_shown nodes n m is)
-
 module _ (text : List ℕ) (nodes : List Node) where
   pub items_push : (n : Node) (spans : List Span) (s : Span) (vs : List Value) (v : Value) → AreItemsAt text spans (display_items nodes n (values_from vs)) → StandsIn text s (display_text nodes n v)
       → AreItemsAt text (spans ++ s ∷ []) (display_items nodes n (values_from (vs ++ v ∷ [])))
-  items_push n spans s vs v are here =
-      rw (display_then nodes n vs (v ∷ [])) (run_push text spans s (display_items nodes n (values_from vs)) (display_tree nodes n v) no_items are (subst (λ (b : List ℕ). StandsIn text s b) (sym (append-nil (display_text nodes n v))) here))
-
-  -- numbers that stand in one place
-  pub numbers_push : (n m : Node) (spans : List Span) (s : Span) (vs : List Value) (is : List ℤ) → (is ≡ [] → ⊥) → AreItemsAt text spans (display_items nodes n (values_from vs))
-      → StandsIn text s (run_text false (number_items is)) → AreItemsAt text (spans ++ s ∷ []) (display_items nodes n (values_from (vs ++ map (number_value m) is)))
-  numbers_push n m spans s vs [] some are here = absurd (some refl)
-  numbers_push n m spans s vs (i ∷ is) some are here =
-      rw (display_then nodes n vs (map (number_value m) (i ∷ is)), numbers_shown nodes n m (i ∷ is)) (run_push text spans s (display_items nodes n (values_from vs)) (Data.number (of_integer i)) (number_items is) are here)
+  items_push n [] s [] v are here = (_, _, refl, here, refl)
+  items_push n [] s (u ∷ us) v are here = absurd (cc (are))
+  items_push n (x ∷ xs) s [] v (d, rest, is, stands, more) here = absurd (cc (is))
+  items_push n (x ∷ xs) s (u ∷ us) v (d, rest, is, stands, more) here =
+      let tree : d ≡ display_tree nodes n u = cc (is) in
+      let left : rest ≡ display_items nodes n (values_from us) = cc (is) in
+      (_, _, refl, rw tree at stands, items_push n xs s us v (rw left at more) here)
 
   pub fields_push : (fs : List FieldNode) (spans : List Span) (s : Span) (vs : List Value) (v : Value) (id : ℕ) → slice_get (field_ids fs) (length vs) ≡ Some id → AreFieldsAt nodes text fs spans vs
       → StandsIn text s (display_text nodes (node_at nodes id) v) → AreFieldsAt nodes text fs (spans ++ s ∷ []) (vs ++ v ∷ [])

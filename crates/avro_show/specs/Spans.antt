@@ -1,6 +1,6 @@
 -- Where the displays of the parts of a datum stand in a text, while the datum is read.
 use denote.Ref.{Bor}
-use Rattle.std.specs.Prelude.{◌≡◌, ℕ, ℤ, List, [], ◌∷◌, ◌++◌, Bool, Option, None, Some, String, false, true, slice_get, string_bytes}
+use Rattle.std.specs.Prelude.{◌≡◌, ℕ, List, [], ◌∷◌, ◌++◌, Option, None, Some, String, true, slice_get, string_bytes}
 use Rattle.std.specs.declared.alloc.Global.{Global}
 use Rattle.avro_schema.specs.Fits.{fits}
 use Rattle.avro_schema.specs.Node.{Node, FieldNode, node_at}
@@ -9,8 +9,7 @@ use Rattle.avro_schema.specs.SeenSchema.{schema_nodes}
 use Rattle.avro_schema.specs.Value.{Value}
 use Rattle.avro_schema.specs.declared.schema.Schema.{Schema}
 use Rattle.serde_json.specs.Data.{Data, Items, no_items, item, Members, no_members, member}
-use Rattle.serde_json.specs.Find.{of_integer}
-use Rattle.serde_json.specs.Written.{comma_if, compact_text}
+use Rattle.serde_json.specs.Written.{compact_text}
 use Rattle.avro_binary.specs.Outputs.{Grows, StandsAt}
 use Rattle.avro_binary.specs.Places.{MayBeAt}
 use Rattle.avro_binary.specs.declared.place.Place.{Place}
@@ -28,25 +27,10 @@ Keeps t before u after = (u ≡ t) × Grows before after
 abbrev pub StandsIn : List ℕ → Span → List ℕ → Type 0
 StandsIn text span bytes = StandsAt text span.start span.end bytes
 
--- some items, and then others
-abbrev pub then_items : Items → Items → Items
-then_items no_items es = es
-then_items (item d ds) es = item d (then_items ds es)
-
--- the texts of items, with a comma before each that something stands before
-abbrev pub run_text : Bool → Items → List ℕ
-run_text later no_items = []
-run_text later (item d ds) = comma_if later ++ (compact_text d ++ run_text true ds)
-
--- the items of an array, one after another: in each place one, or several with commas between them
+-- the items of an array, one after another
 abbrev pub AreItemsAt : List ℕ → List Span → Items → Type 0
 AreItemsAt text [] ds = ds ≡ no_items
-AreItemsAt text (s ∷ ss) ds = (d : Data) × (more rest : Items) × (ds ≡ item d (then_items more rest)) × StandsIn text s (run_text false (item d more)) × AreItemsAt text ss rest
-
--- numbers as items
-abbrev pub number_items : List ℤ → Items
-number_items [] = no_items
-number_items (i ∷ is) = item (Data.number (of_integer i)) (number_items is)
+AreItemsAt text (s ∷ ss) ds = (d : Data) × (rest : Items) × (ds ≡ item d rest) × StandsIn text s (compact_text d) × AreItemsAt text ss rest
 
 -- the values of an object's members, one after another, and their keys
 abbrev pub AreMembersAt : List ℕ → List (String Global × Span) → Members → Type 0

@@ -1,6 +1,6 @@
 //! The display of a whole from those of its parts.
 
-ghost use Rattle.std.specs.Prelude.{◌≡◌, ◌++◌, List, ℕ, IfOk, true, false, OnOk};
+ghost use Rattle.std.specs.Prelude.{◌≡◌, ◌++◌, List, ℕ, true, OnOk};
 ghost use Rattle.std.specs.List.{AllByRecursion};
 ghost use Rattle.serde_json.specs.Data.{Data, Items, Members, array, object};
 ghost use Rattle.serde_json.specs.Written.{compact_text};
@@ -9,15 +9,14 @@ ghost use Rattle.avro_schema.specs.Fits.{fits};
 ghost use Rattle.avro_schema.specs.Node.{Node as SeenNode};
 ghost use Rattle.avro_schema.specs.Seen.{node_of};
 ghost use Rattle.avro_schema.specs.Value.{Value};
-ghost use Rattle.avro_cursor.specs.Encoding.{Spells, SpellsBytes};
-ghost use Rattle.json.specs.Print.{quoted};
+ghost use Rattle.avro_cursor.specs.Encoding.{Spells};
 ghost use Rattle.avro_display.specs.DisplayTree.{display_text};
 ghost use Rattle.avro_binary.specs.Outputs.{Grows};
 ghost use Rattle.avro_show.specs.Spans.{AreItemsAt, AreMembersAt, IsSpanAt, StandsIn};
 
 use crate::leaf::append_leaf;
 use crate::spans::Span;
-use avro_binary::{content_of, leaf_of};
+use avro_binary::leaf_of;
 use avro_display::{Member, Text};
 use avro_schema::Node;
 use std::alloc::AllocError;
@@ -36,7 +35,7 @@ pub(crate) fn bytes_at(text: &[u8], span: Span) -> &[u8]
     bytes
 }
 
-/// Appends the display of an array, whose items stand in a text: in each place one, or several with commas between them.
+/// Appends the display of an array, whose items stand in a text.
 pub(crate) fn append_items(whole: &mut Text, text: &[u8], items: &[Span]) -> Result<(), AllocError>
     ensures { (ds : Items) → AreItemsAt text.now items.now ds → OnOk result (whole.new ≡ whole.old ++ compact_text (array ds)) }
 {
@@ -91,38 +90,18 @@ pub(crate) fn append_members(
     whole.append_byte(b'}')
 }
 
-/// Appends the display of the datum without parts of a node that is encoded as these bytes. A text without escapes is not read as UTF-8
-/// again.
+/// Appends the display of the datum without parts of a node that is encoded as these bytes.
 ///
 /// # Errors
 ///
 /// The bytes are no such encoding, or the node has parts; memory ran out.
-#[inline(always)]
 pub(crate) fn append_encoded(text: &mut Text, node: &Node, bytes: &[u8]) -> Result<(), AllocError>
     ensures shown { (nodes : List SeenNode) (v : Value) → fits nodes (node_of node.now) v ≡ true → Spells v bytes.now
         → OnOk result (text.new ≡ text.old ++ display_text nodes (node_of node.now) v) }
     ensures kept { OnOk result (Grows text.old text.new) }
 {
-    if let Node::Str = node {
-        if append_plain_text(text, bytes)? {
-            return Ok(());
-        }
-    }
     match leaf_of(node, bytes) {
         Some(leaf) => append_leaf(text, node, leaf),
         None => Err(AllocError),
-    }
-}
-
-/// Appends the display of the text that is encoded as these bytes, if it needs no escape, and says so, or appends nothing.
-#[inline(always)]
-fn append_plain_text(text: &mut Text, bytes: &[u8]) -> Result<bool, AllocError>
-    ensures shown { (content : List ℕ) → SpellsBytes content bytes.now → IfOk result (λ appended. appended ≡ true → text.new ≡ text.old ++ quoted content) }
-    ensures none { IfOk result (λ appended. appended ≡ false → text.new ≡ text.old) }
-    ensures kept { OnOk result (Grows text.old text.new) }
-{
-    match content_of(bytes) {
-        Some(content) => text.append_plain(content),
-        None => Ok(false),
     }
 }

@@ -1,6 +1,6 @@
 //! The display of a datum, made while the datum is read.
 
-use crate::composing::{append_encoded, append_entries, append_members};
+use crate::composing::{append_encoded, append_entries, append_items, append_members};
 use crate::leaf::append_leaf;
 use crate::scratch::Scratch;
 use crate::spans::{KeyedSpans, Span, Spans};
@@ -146,36 +146,13 @@ impl<'a> Make for Displaying<'a> {
         Ok(())
     }
 
-    fn number_list(&mut self, alloc: Global, _items: &Spans, count: u32) -> Option<Vec<i64>> {
-        if self.scratch.is_full(count as usize) {
-            return None;
-        }
-        Some(self.scratch.take_numbers(alloc))
-    }
-
-    fn keep_numbers(&mut self, list: Vec<i64>) {
-        self.scratch.keep_numbers(list);
-    }
-
-    fn numbers(
-        &mut self,
-        _alloc: Global,
-        items: &mut Spans,
-        numbers: &[i64],
-    ) -> Result<bool, AllocError> {
-        if numbers.is_empty() {
-            return Ok(false);
-        }
-        let span = self.scratch.numbers(numbers)?;
-        items.parts.push(span)?;
-        Ok(true)
-    }
-
     fn array(&mut self, _alloc: Global, items: Spans) -> Result<Span, AllocError> {
         let opening = self.opening(items.owner);
-        let array = self.scratch.array(opening, &items.parts)?;
-        self.scratch.keep_spans(items);
-        Ok(array)
+        let scratch = &mut *self.scratch;
+        scratch.whole.clear();
+        append_items(&mut scratch.whole, scratch.text.as_slice(), &items.parts)?;
+        scratch.keep_spans(items);
+        scratch.composed(opening)
     }
 
     fn entries(&mut self, alloc: Global, at: Place) -> Result<KeyedSpans, AllocError> {

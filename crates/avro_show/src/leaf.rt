@@ -9,7 +9,7 @@ ghost use Rattle.avro_binary.specs.Outputs.{Grows};
 ghost use Rattle.avro_display.specs.DisplayTree.{display_text};
 
 use avro_binary::Leaf;
-use avro_display::{Text, bool_text, symbol_text};
+use avro_display::{Text, symbol_text};
 use avro_schema::Node;
 use std::alloc::AllocError;
 
@@ -21,8 +21,8 @@ pub(crate) fn append_leaf(text: &mut Text, node: &Node, leaf: Leaf<'_>) -> Resul
     ensures kept { OnOk result (Grows text.old text.new) }
 {
     match leaf {
-        Leaf::Null => text.append(b"null"),
-        Leaf::Boolean(value) => text.append(bool_text(value)),
+        Leaf::Null => text.append_null(),
+        Leaf::Boolean(value) => text.append_bool(value),
         Leaf::Int(value) => text.append_number(i64::from(value)),
         Leaf::Long(value) => text.append_number(value),
         Leaf::Bytes(content) => text.append_characters(content),

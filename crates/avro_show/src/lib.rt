@@ -12,7 +12,6 @@ mod composing;
 mod displaying;
 mod leaf;
 mod line;
-mod numbers;
 mod opening;
 mod part;
 mod parts;

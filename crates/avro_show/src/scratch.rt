@@ -1,13 +1,10 @@
 //! The text in which the display of a datum is made.
 
 ghost use Rattle.std.specs.Prelude.{◌≡◌, ◌+◌, ◌≤◌, ◌++◌, [], List, false, ℕ, IfOk, OnOk, length};
-ghost use Rattle.serde_json.specs.Data.{Items, array};
-ghost use Rattle.serde_json.specs.Written.{compact_text};
 ghost use Rattle.avro_binary.specs.Outputs.{Grows};
-ghost use Rattle.avro_show.specs.Spans.{AreItemsAt, StandsIn, closed, number_items, opened, run_text};
+ghost use Rattle.avro_show.specs.Spans.{StandsIn, closed, opened};
 
-use crate::composing::{append_items, bytes_at};
-use crate::numbers::append_numbers;
+use crate::composing::bytes_at;
 use crate::spans::{Span, Spans};
 use avro_binary::{Place, give_list, list};
 use avro_display::Text;
@@ -32,9 +29,6 @@ pub struct Scratch {
     lists: Vec<Vec<Span>>,
     // lists for the fields of records that are resolved
     slots: Vec<Vec<Option<Span>>>,
-    // a list for numbers, and room for their displays
-    numbers: Vec<i64>,
-    digits: Vec<u8>,
     // what is put of a datum
     line: Vec<u8>,
 }
@@ -51,8 +45,6 @@ impl Scratch {
             ends: Vec::new(alloc),
             lists: Vec::new(alloc),
             slots: Vec::new(alloc),
-            numbers: Vec::new(alloc),
-            digits: Vec::new(alloc),
             line: Vec::new(alloc),
         }
     }
@@ -127,20 +119,6 @@ impl Scratch {
         give_list(&mut self.slots, slots);
     }
 
-    /// A list for numbers.
-    pub(crate) fn take_numbers(&mut self, alloc: Global) -> Vec<i64>
-        ensures { self.new.text ≡ self.old.text }
-    {
-        replace(&mut self.numbers, Vec::new(alloc))
-    }
-
-    /// Keeps such a list for later.
-    pub(crate) fn keep_numbers(&mut self, list: Vec<i64>)
-        ensures { self.new.text ≡ self.old.text }
-    {
-        self.numbers = list;
-    }
-
     /// Begins a display, behind the text that opens the branch of a union, if it goes into one, and returns where.
     #[inline(always)]
     pub(crate) fn begin(&mut self, opening: Option<&[u8]>) -> Result<usize, AllocError>
@@ -176,39 +154,11 @@ impl Scratch {
         Ok(Span { start, end })
     }
 
-    /// Makes the displays of numbers, with commas between them, within the display of an array of them.
-    pub(crate) fn numbers(&mut self, numbers: &[i64]) -> Result<Span, AllocError>
-        ensures kept { OnOk result (Grows self.old.text self.new.text) }
-        ensures stands { IfOk result (λ span. StandsIn self.new.text span (run_text false (number_items numbers.now))) }
-    {
-        let start = self.text.len();
-        append_numbers(&mut self.text, &mut self.digits, numbers)?;
-        let array = self.end(None, start)?;
-        Ok(Span {
-            start: array.start + 1,
-            end: array.end - 1,
-        })
-    }
-
     /// Whether so many bytes more would be too many.
     pub(crate) fn is_full(&self, more: usize) -> bool
         ensures { result ≡ false → length self.now.text + more ≤ 65_536 }
     {
         self.text.len().saturating_add(more) > MOST
-    }
-
-    /// Makes the display of an array, whose items stand in the text.
-    pub(crate) fn array(
-        &mut self,
-        opening: Option<&[u8]>,
-        items: &[Span],
-    ) -> Result<Span, AllocError>
-        ensures kept { OnOk result (Grows self.old.text self.new.text) }
-        ensures stands { (ds : Items) → AreItemsAt self.old.text items.now ds → IfOk result (λ span. StandsIn self.new.text span (opened opening.entry (compact_text (array ds)))) }
-    {
-        self.whole.clear();
-        append_items(&mut self.whole, self.text.as_slice(), items)?;
-        self.composed(opening)
     }
 
     /// Makes the whole that was put together.

@@ -114,7 +114,7 @@ fn is_field_copied(
 }
 
 /// Whether the encoding of a datum of a writer's leaf is also that of what it is for the reader's.
-pub(crate) fn is_copied(plan: &PlanRef<'_>, index: u32, w: NodeId, r: NodeId) -> bool
+fn is_copied(plan: &PlanRef<'_>, index: u32, w: NodeId, r: NodeId) -> bool
     ensures { result ≡ true → IsCopied (schema_nodes plan.now.0) (schema_nodes plan.now.1) (node_at (schema_nodes plan.now.0) w.0) (node_at (schema_nodes plan.now.1) r.0) }
 {
     match plan.target(index, w, r) {

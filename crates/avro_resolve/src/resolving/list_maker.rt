@@ -1,15 +1,13 @@
-ghost use Rattle.std.specs.Prelude.{◌≡◌, ◌++◌, ◌∷◌, [], ℕ, IfOk, List, OnOk, length, map, replicate, true, false, ◌+◌, ◌<◌};
+ghost use Rattle.std.specs.Prelude.{◌≡◌, ◌++◌, ◌∷◌, [], ℕ, IfOk, List, OnOk, replicate, true, false, ◌+◌, ◌<◌};
 ghost use Rattle.avro_schema.specs.Node.{Node, node_at};
 ghost use Rattle.avro_schema.specs.Seen.{entries_from, values_from};
 ghost use Rattle.avro_schema.specs.SeenSchema.{schema_nodes};
 ghost use Rattle.avro_schema.specs.Value.{Value};
-ghost use Rattle.avro_binary.specs.LeafValue.{has_numbers, number_value};
 ghost use Rattle.avro_binary.specs.Places.{AreTold};
 ghost use Rattle.avro_binary.specs.declared.place.Place.{Place as SeenPlace};
 ghost use Rattle.avro_resolve.specs.inside.Guided.{EntriesStandAs, ItemsStandAs, StandsAs, next_at, part_below};
 
 use crate::plan::plan_ref::PlanRef;
-use crate::plan::verbatim::is_copied;
 use crate::resolving::failing::{fault_apart, step_apart};
 use crate::resolving::guided::{Made, Part, Run};
 use crate::resolving::leaves::into_branch;
@@ -140,74 +138,6 @@ fn repeat_good<M: Make<At = Place>>(
             false
         }
         None => false,
-    }
-}
-
-/// A list for the numbers of the next items, where the maker of these takes them at once.
-pub(crate) fn list_for<M: Make<At = Place>>(
-    alloc: Global,
-    maker: &mut M,
-    items: &Run<M::Items>,
-    count: u32,
-) -> Option<Vec<i64>>
-    ensures { M.keeps maker.old maker.new }
-{
-    match items {
-        Run::Good(kept, _, _, _, _) => maker.number_list(alloc, kept, count),
-        Run::Faulty(_) => None,
-        Run::Nothing => None,
-    }
-}
-
-/// Adds items that are numbers after those before, or adds none.
-pub(crate) fn put_numbers<M: Make<At = Place>>(
-    alloc: Global,
-    maker: &mut M,
-    plan: &PlanRef<'_>,
-    index: u32,
-    items: &mut Run<M::Items>,
-    numbers: &[i64],
-) -> Result<bool, AllocError>
-    ensures kept { OnOk result (M.keeps maker.old maker.new) }
-    ensures added { (nodes : List Node) (id : ℕ) (at : At) (vs : List Value) → has_numbers (node_at nodes id) ≡ true → ItemsStandAs (M.items_stand_for maker.old) (schema_nodes plan.now.0) (schema_nodes plan.now.1) nodes id at items.old vs
-        → IfOk result (λ added. added ≡ true → ItemsStandAs (M.items_stand_for maker.new) (schema_nodes plan.now.0) (schema_nodes plan.now.1) nodes id at items.new (vs ++ map (number_value (node_at nodes id)) numbers.now)) }
-    ensures none { IfOk result (λ added. added ≡ false → items.new ≡ items.old) }
-{
-    match items {
-        Run::Good(kept, known, _, a, b) => {
-            if !is_copied(plan, index, *a, *b) {
-                return Ok(false);
-            }
-            add_numbers(alloc, maker, kept, known, numbers)
-        }
-        Run::Faulty(_) => Ok(false),
-        Run::Nothing => Ok(false),
-    }
-}
-
-/// Adds items that are numbers after those before, and counts them, or adds none.
-fn add_numbers<M: Make<At = Place>>(
-    alloc: Global,
-    maker: &mut M,
-    kept: &mut M::Items,
-    known: &mut usize,
-    numbers: &[i64],
-) -> Result<bool, AllocError>
-    ensures kept { OnOk result (M.keeps maker.old maker.new) }
-    ensures added { (nodes : List Node) (id : ℕ) (at : SeenPlace) (vs : List Value) → has_numbers (node_at nodes id) ≡ true → M.items_stand_for maker.old nodes id at kept.old vs
-        → IfOk result (λ added. added ≡ true → M.items_stand_for maker.new nodes id at kept.new (vs ++ map (number_value (node_at nodes id)) numbers.now)) }
-    ensures counted { IfOk result (λ added. added ≡ true → known.new ≡ known.old + length numbers.now) }
-    ensures none { IfOk result (λ added. added ≡ false → (kept.new ≡ kept.old) × (known.new ≡ known.old)) }
-{
-    match known.checked_add(numbers.len()) {
-        Some(next) => {
-            if maker.numbers(alloc, kept, numbers)? {
-                *known = next;
-                return Ok(true);
-            }
-            Ok(false)
-        }
-        None => Ok(false),
     }
 }
 

@@ -20,7 +20,7 @@ module _ (s t : List ℕ) (kept : Grows s t) where
 
   pub items_still : (spans : List Span) (ds : Items) → AreItemsAt s spans ds → AreItemsAt t spans ds
   items_still [] ds are = are
-  items_still (x ∷ xs) ds (d, more, rest, is, stands, others) = (d, more, rest, is, still_stands x _ stands, items_still xs rest others)
+  items_still (x ∷ xs) ds (d, rest, is, stands, more) = (d, rest, is, still_stands x _ stands, items_still xs rest more)
 
   pub members_still : (spans : List (String Global × Span)) (ms : Members) → AreMembersAt s spans ms → AreMembersAt t spans ms
   members_still [] ms are = are

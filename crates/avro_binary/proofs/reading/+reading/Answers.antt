@@ -17,7 +17,7 @@ use Rattle.avro_cursor.specs.Seen.{read_fault}
 use Rattle.avro_cursor.specs.CountsAgain.{CountsAgain}
 use Rattle.avro_binary.specs.Making.{Made}
 use Rattle.avro_cursor.specs.CursorValue.{CursorValue}
-use Rattle.avro_binary.specs.CursorReads.{FindsRun, ReadsNode, ReadsRun, ValuesRun, limits_at, value_breaks}
+use Rattle.avro_binary.specs.CursorReads.{ReadsNode, limits_at}
 use Rattle.avro_binary.proofs.BlockSteps.{head_read, end_read, has_size, blocks_none, head_refused, item_refused, size_refused, depth_kept, blob_kept, offset_is, block_smaller, blocks_push}
 use Rattle.avro_binary.proofs.EmptyReads.{reads_kept}
 use Rattle.avro_binary.proofs.EmptyRuns.{none_passed, run_breaks_off, run_passed}
@@ -25,7 +25,6 @@ use Rattle.avro_binary.proofs.NodeKinds.{none_have_parts, no_union_held}
 use Rattle.avro_binary.proofs.NodeSteps.{node_left, node_refused, enter_refused, ArrayDone, array_found, map_found, FieldsDone, fields_none, branch_refused, branch_unread, union_found, branch_at, ids-length, fields_push, field_breaks, record_found, record_refused, ids_split, ids_next, ids_all}
 use Rattle.avro_cursor.proofs.public.Ranges.{bytes-below}
 use Rattle.avro_binary.proofs.Repeated.{others_last, same_reads}
-use Rattle.avro_binary.proofs.NumberSteps.{reads_after}
 use Rattle.avro_binary.proofs.RunLaws.{values_kind, entries_kind}
 use Rattle.avro_binary.proofs.RunSteps.{run_none, run_push, run_breaks, value_run, value_report, entry_run, entry_report, key_report, moves-join, moves-passed}
 use Rattle.avro_binary.proofs.reading.+reading.Goals as goal
@@ -48,21 +47,21 @@ read_item_blocks-returns-in_err-block-clause-reads g t c =
     let p = err_from_is_err_and c.from_residual-in_err-block.result c.from_residual-in_err-block.ensures.1 in
     rw (p.1, p.2) (record { found = tt; refused = head_refused c.loop-items.invariant.1 c.in_err-block.field-0.0 c.in_err-block.ensures.refused })
 
-pub read_item_blocks-returns-in_err-read_block-clause-reads : goal.read_item_blocks-returns-in_err-read_block-clause-reads
-read_item_blocks-returns-in_err-read_block-clause-reads g t c =
+pub read_item_blocks-returns-in_err-read_items-clause-reads : goal.read_item_blocks-returns-in_err-read_items-clause-reads
+read_item_blocks-returns-in_err-read_items-clause-reads g t c =
     let inv = c.loop-items.invariant in
     let done = inv.1 in
     let head = head_read c.loop-items.cursor c.block.new.self c.in-Some.block (rw c.in-Some.is at c.in_ok-block.ensures.found) in
-    let read = c.in_err-read_block.ensures.reads (limits_at c.args.cursor.now) (depth_kept done head) (blob_kept done head) in
-    let p = err_from_is_err_and c.from_residual-in_err-read_block.result c.from_residual-in_err-read_block.ensures.1 in
-    rw (p.1, p.2) (record { found = tt; refused = item_refused done head c.count.result c.in_err-read_block.field-0.0 c.count.ensures read.refused })
+    let read = c.in_err-read_items.ensures.reads (limits_at c.args.cursor.now) (depth_kept done head) (blob_kept done head) in
+    let p = err_from_is_err_and c.from_residual-in_err-read_items.result c.from_residual-in_err-read_items.ensures.1 in
+    rw (p.1, p.2) (record { found = tt; refused = item_refused done head c.count.result c.in_err-read_items.field-0.0 c.count.ensures read.refused })
 
 pub read_item_blocks-loop-items-smaller : goal.read_item_blocks-loop-items-smaller
 read_item_blocks-loop-items-smaller g t c =
     let inv = c.loop-items.invariant in
     let done = inv.1 in
     let head = head_read c.loop-items.cursor c.block.new.self c.in-Some.block (rw c.in-Some.is at c.in_ok-block.ensures.found) in
-    let read = c.in_ok-read_block.ensures.reads (limits_at c.args.cursor.now) (depth_kept done head) (blob_kept done head) in
+    let read = c.in_ok-read_items.ensures.reads (limits_at c.args.cursor.now) (depth_kept done head) (blob_kept done head) in
     block_smaller done head read.found.3 (read.found.2 ∙ c.count.ensures)
 
 pub read_item_blocks-loop-items-preserved : goal.read_item_blocks-loop-items-preserved
@@ -70,19 +69,19 @@ read_item_blocks-loop-items-preserved g t c =
     let inv = c.loop-items.invariant in
     let done = inv.1 in
     let head = head_read c.loop-items.cursor c.block.new.self c.in-Some.block (rw c.in-Some.is at c.in_ok-block.ensures.found) in
-    let read = c.in_ok-read_block.ensures.reads (limits_at c.args.cursor.now) (depth_kept done head) (blob_kept done head) in
+    let read = c.in_ok-read_items.ensures.reads (limits_at c.args.cursor.now) (depth_kept done head) (blob_kept done head) in
     let found = read.found.3 in
     let counted = read.found.2 ∙ c.count.ensures in
     let size = length (concat found.items) in
     let ends = c.in_ok-end_block.ensures c.loop-items.cursor.offset size head.head head.is_block (offset_is done head found counted) in
-    (inv.0 ++ read.found.0, subst (λ (keys : List (List ℕ)). ArrayDone (schema_nodes c.args.schema.now) c.args.id.0 c.args.cursor.now c.read_block.new.cursor keys (inv.0 ++ read.found.0)) found.stand.keys (blocks_push done head found counted (has_size tt c.loop-items.cursor.offset head.head size ends)), g.met.M.Make.keeps_on c.args.maker.now c.loop-items.maker c.read_block.new.maker inv.2 read.found.4.0, read.found.4.1 c.args.at inv.0 inv.3, λ front h. c.in_ok-read_block.ensures.stays front (inv.4 front h))
+    (inv.0 ++ read.found.0, subst (λ (keys : List (List ℕ)). ArrayDone (schema_nodes c.args.schema.now) c.args.id.0 c.args.cursor.now c.read_items.new.cursor keys (inv.0 ++ read.found.0)) found.stand.keys (blocks_push done head found counted (has_size tt c.loop-items.cursor.offset head.head size ends)), g.met.M.Make.keeps_on c.args.maker.now c.loop-items.maker c.read_items.new.maker inv.2 read.found.4.0, read.found.4.1 c.args.at inv.0 inv.3, λ front h. c.in_ok-read_items.ensures.stays front (inv.4 front h))
 
 pub read_item_blocks-returns-in_err-end_block-clause-reads : goal.read_item_blocks-returns-in_err-end_block-clause-reads
 read_item_blocks-returns-in_err-end_block-clause-reads g t c =
     let inv = c.loop-items.invariant in
     let done = inv.1 in
     let head = head_read c.loop-items.cursor c.block.new.self c.in-Some.block (rw c.in-Some.is at c.in_ok-block.ensures.found) in
-    let read = c.in_ok-read_block.ensures.reads (limits_at c.args.cursor.now) (depth_kept done head) (blob_kept done head) in
+    let read = c.in_ok-read_items.ensures.reads (limits_at c.args.cursor.now) (depth_kept done head) (blob_kept done head) in
     let found = read.found.3 in
     let counted = read.found.2 ∙ c.count.ensures in
     let p = err_from_is_err_and c.from_residual-in_err-end_block.result c.from_residual-in_err-end_block.ensures.1 in
@@ -249,29 +248,6 @@ maps::read_entries-returns-clause-reads g t c = λ limits before d b are distinc
     record { found = (xs, keys, all, run, (so_far.3, so_far.5, so_far.6)); refused = tt }
 
 -- ---- Items
-
-pub read_block-returns-then-branch-clause-reads : goal.read_block-returns-then-branch-clause-reads
-read_block-returns-then-branch-clause-reads g t c = λ limits d b.
-    let nodes = schema_nodes c.args.schema.now in
-    let takes = c.in_ok-take_numbers.ensures.takes nodes c.args.id.0 (sym c.get.ensures.node) c.if-branch.true limits d b in
-    let run = subst (λ (n : Node). FindsRun (ValuesRun nodes limits n) c.args.cursor.now c.take_numbers.new.cursor [] [] takes.0) c.get.ensures.node takes.2 in
-    record { found = (takes.0, [], takes.1, run, (c.in_ok-take_numbers.ensures.kept, takes.3)); refused = tt }
-
-pub read_block-returns-clause-reads : goal.read_block-returns-clause-reads
-read_block-returns-clause-reads g t c = λ limits d b.
-    let nodes = schema_nodes c.args.schema.now in
-    let n = node_at nodes c.args.id.0 in
-    let maker = c.take_numbers.new.maker in
-    let none = c.in_ok-take_numbers.ensures.none c.if-branch.false in
-    let kept = c.in_ok-take_numbers.ensures.kept in
-    reads_after (ValuesRun nodes limits n) (value_breaks nodes limits n)
-    (λ vs keys. g.M.Make.keeps maker c.read_items.new.maker × ((at : g.row.M-At.Denot) (us : List Value) → g.M.Make.items_stand_for maker nodes c.args.id.0 at c.take_numbers.new.items us → g.M.Make.items_stand_for c.read_items.new.maker nodes c.args.id.0 at c.read_items.new.items (us ++ vs)))
-    (λ vs keys. g.M.Make.keeps c.args.maker.now c.read_items.new.maker × ((at : g.row.M-At.Denot) (us : List Value) → g.M.Make.items_stand_for c.args.maker.now nodes c.args.id.0 at c.args.items.now us → g.M.Make.items_stand_for c.read_items.new.maker nodes c.args.id.0 at c.read_items.new.items (us ++ vs)))
-    c.args.count [] c.args.cursor.now c.take_numbers.new.cursor c.read_items.new.cursor c.read_items.result none.0
-    (λ vs keys h. (
-      g.met.M.Make.keeps_on c.args.maker.now maker c.read_items.new.maker kept h.0,
-      λ at us stood. h.1 at us (rw none.1 (g.met.M.Make.items_kept c.args.maker.now maker nodes c.args.id.0 at c.args.items.now us kept stood)),
-    )) (c.read_items.ensures.reads limits (d ∙ sym (ap (λ (k : CursorValue). k.depth) none.0)) (b ∙ sym (ap (λ (k : CursorValue). k.blob) none.0)))
 
 pub read_items-returns-in_err-value-clause-reads : goal.read_items-returns-in_err-value-clause-reads
 read_items-returns-in_err-value-clause-reads g t c = λ limits d b.

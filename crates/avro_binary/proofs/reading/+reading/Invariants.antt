@@ -51,10 +51,7 @@ abbrev pub decreases-fields::read_apart : goal.decreases-fields::read_apart
 decreases-fields::read_apart g l = 7 * l.cursor.now.depth + 4
 
 abbrev pub decreases-read_items : goal.decreases-read_items
-decreases-read_items g l = 7 * l.cursor.now.depth + 4
-
-abbrev pub decreases-read_block : goal.decreases-read_block
-decreases-read_block g l = 7 * l.cursor.now.depth + 5
+decreases-read_items g l = 7 * l.cursor.now.depth + 5
 
 abbrev pub decreases-maps::read_entries : goal.decreases-maps::read_entries
 decreases-maps::read_entries g l = 7 * l.cursor.now.depth + 5

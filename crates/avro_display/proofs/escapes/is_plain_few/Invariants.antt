@@ -1,5 +1,0 @@
-use Rattle.json.specs.Written.{PlainBetween}
-use Rattle.avro_display.proofs.escapes.is_plain_few.Given as goal
-
-abbrev pub invariant-loop-byte : goal.invariant-loop-byte
-invariant-loop-byte l = PlainBetween l.text 0 l.byte-index
