@@ -143,9 +143,10 @@ surface: ## tests the public items and their libraries against checks/surface.py
 	checks/surface.py
 	checks/pages.py --check
 
-words: surface ## tests these, the words and codes of the man page and completions, and the table of the headline (five seconds)
+words: surface ## tests these, the words and codes of the man page and completions, and the tables of the headline, and weighs the sources (six seconds)
 	checks/words.py
 	checks/headline.py
+	checks/weight.py
 
 clean: ## removes what checks and builds have left (seconds)
 	rm -rf crates/*/out bindings/out packaging/out
