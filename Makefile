@@ -23,7 +23,7 @@ JAR := bindings/out/avrojudge.jar
 ARCHIVE := packaging/out/avro-$(VERSION)-x86_64-linux.tar.gz
 
 # What lies below share/avro under the paths that it has here.
-PAGES := README.md CHANGELOG.md $(wildcard docs/*)
+PAGES := README.md CHANGELOG.md $(sort $(wildcard docs/*) docs/DEFINITIONS.md)
 SCRIPTS := $(filter-out $(wildcard examples/*/try* examples/*/*_files.py examples/*/look.py examples/*/__pycache__), \
 	$(wildcard examples/*.* examples/*/*))
 BINDINGS := $(wildcard bindings/c/example.c bindings/python/*.* bindings/java/pom.xml bindings/java/src/main/java/org/avrojudge/*)
@@ -87,6 +87,7 @@ install: $(PROGRAM) install-scripts ## installs the proved program with pages an
 	@! test -e $(LIBRARY) || $(MAKE) --no-print-directory install-library
 
 install-scripts:
+	@checks/pages.py --definitions
 	@$(call put, $(PAGES) $(SCRIPTS))
 
 install-library: $(LIBRARY) $(if $(wildcard $(JNA)), $(JAR))
@@ -135,16 +136,17 @@ robust: $(PROGRAM) $(LIBRARY) ## runs checks/ on the proved program, and compare
 	checks/bindings.py $(PROGRAM) $(LIBRARY)
 	$(if $(OLD),checks/compare.py $(OLD) $(PROGRAM))
 
-pages: ## prints docs/DEFINITIONS.md and docs/CONTRACTS.md from the comments of the sources (a second)
+pages: ## prints docs/CONTRACTS.md, and docs/DEFINITIONS.md, which git does not keep, from the comments of the sources (seconds)
 	checks/pages.py
 
-surface: ## tests the public items and their libraries against checks/surface.py, and the printed pages (three seconds)
+surface: ## tests the public items and their libraries against checks/surface.py, and docs/CONTRACTS.md (three seconds)
 	checks/surface.py
 	checks/pages.py --check
 
-words: surface ## tests these, the words and codes of the man page and completions, and the table of the headline (five seconds)
+words: surface ## tests these, the words and codes of the man page and completions, and the tables of the headline, and weighs the sources (six seconds)
 	checks/words.py
 	checks/headline.py
+	checks/weight.py
 
 clean: ## removes what checks and builds have left (seconds)
 	rm -rf crates/*/out bindings/out packaging/out

@@ -1,16 +1,17 @@
 #!/usr/bin/env python3
-"""Prints docs/DEFINITIONS.md and docs/CONTRACTS.md from the comments of the sources.
+"""Prints docs/DEFINITIONS.md, which git does not keep, and docs/CONTRACTS.md from the comments of the sources.
 
-usage: checks/pages.py [--check]
+usage: checks/pages.py [--check | --definitions]
 
 A row of DEFINITIONS is a public definition in the `specs/` folder of a crate, but for `specs/inside/`, with the comment
 before it; a definition without one shares the row of the one before it, and the first one of a file has the file's line. A row
 of CONTRACTS is a public function that is reached from the crate's `lib.rt`, or a public trait, with the first paragraph of its
-text, that of its section `# Errors`, and the names of its clauses; and an edit of `must-fail/`, with its line `It breaks:`. The
-pages' heads stand in this script.
+text, that of its section `# Errors`, and the names of its clauses; and an edit of `must-fail/`, with its line `It breaks:`. A
+clause without a name is shown by the definitions that it states: of those that its file imports, the ones that stand in the
+fewest parentheses; one that states none is shown as it is written. The pages' heads stand in this script.
 
-With --check nothing is written: each page that differs has a line with the place where it begins to, and the exit status is
-1 if there is one. It is 1, too, where a definition, a function or an edit has nothing to print.
+With --definitions only docs/DEFINITIONS.md is printed. With --check nothing is written: if docs/CONTRACTS.md differs, a line
+says where it begins to, and the exit status is 1. It is 1, too, where a definition, a function or an edit has nothing to print.
 """
 
 from __future__ import annotations
@@ -36,7 +37,7 @@ private contracts need is in `specs/inside/`, and not listed. The files `proofs/
 examples; `avro_packed`, `avro_least` and `avro_judge` have none. The laws about the definitions are listed with the crates'
 other functions in `docs/CONTRACTS.md`, as `laws::NAME`.
 
-`checks/pages.py` prints this page from the comments at the definitions.
+`make pages` prints this page from the comments at the definitions; git does not keep it.
 """
 
 CONTRACTS = """# What is proved, crate by crate
@@ -50,7 +51,8 @@ Names of clauses that recur: `found`, `read`, `answered` and `reads` say that wh
 `succeeds` and `begins` that it is returned whenever there is such a thing, `refused` that an error names a fault that is
 there, `breaks` and `fails` that each fault is reported, `named` which errors there are, `unchanged` and `kept` what an error
 leaves, `front` that a prefix was put, `works` that no call of the device failed, and `status` what holds of an exit status
-alone. A clause without a name is given by the definition that it states, if it states one (`docs/DEFINITIONS.md`).
+alone. For a clause without a name stand the definitions that it states, after 'by', or the clause itself if it states none.
+`make pages` prints `docs/DEFINITIONS.md`, which puts each definition in a sentence.
 
 These public functions require something of their caller; all others may be called with any values of their types:
 {requires}.
@@ -84,7 +86,11 @@ FUNCTION = re.compile(r'^( *)(pub )?(?:const |unsafe )?(?:extern "C" )?fn (\w+)'
 HOLDER = re.compile(r"^(?:pub trait (\w+)|impl\b(.*))")
 TYPE = re.compile(r"^pub (?:struct|enum) (\w+)")
 EXTERN = re.compile(r"^pub extern \S+ fn (\w+)", re.MULTILINE)
-CLAUSE = re.compile(r"^\s*(requires|ensures|reads)\b ?(\w+)? ?\{ ?(.*)")
+CLAUSE = re.compile(r"^\s*(requires|ensures|reads)\b ?(\w+)? ?\{(.*)")
+IMPORTED = re.compile(r"^ *ghost use Rattle\.avro_\w+\.specs\.[\w.]+\.\{([^}]*)\}", re.MULTILINE)
+# What binds names in a clause: the group of a quantifier, or the head of a function.
+BINDER = re.compile(r"\((?:\w+ )+: |λ (?:\w+ ?)+\.")
+TOKEN = re.compile(r"[()]|[\w.]+")
 LINK = re.compile(r"\[(`[^`\]]+`)\](?:\([^)]*\))?")
 PROMISE = "It breaks: "
 # What each call that allocates says of errors.
@@ -97,6 +103,14 @@ class Definition(NamedTuple):
     line: int
     name: str
     comment: str
+
+
+class Clause(NamedTuple):
+    """A clause: `requires`, `ensures` or `reads`, its name, if it has one, and what it says."""
+
+    kind: str
+    name: str
+    body: str
 
 
 class Function(NamedTuple):
@@ -184,20 +198,51 @@ def page_of_definitions(findings: list[str]) -> str:
     return "".join(page)
 
 
-def stated(name: str | None, body: str, known: set[str]) -> str:
-    """A clause by its name, or else by the definition that it states."""
-    if name:
-        return f"`{name}`"
-    first = re.match(r"(?:If(?:Ok|Err|Some) \w+ \(λ \w+\. )?(\w+)", body)
-    return f"its clause (`{first[1]}`)" if first and first[1] in known else "its clause"
+def imported(text: str) -> dict[str, str]:
+    """The definitions that a file imports, by the names that they have there."""
+    found = {}
+    for names in IMPORTED.findall(text):
+        for item in names.split(","):
+            own, _, other = item.strip().partition(" as ")
+            found[other or own] = own
+    return found
 
 
-def functions_of(file: Path, known: set[str]) -> Iterator[tuple[str, Function]]:
+def stated(clause: Clause, known: dict[str, str]) -> str:
+    """A clause by its name, or else by the definitions that it states, or as it is written."""
+    if clause.name:
+        return f"`{clause.name}`"
+    depth, named = 0, {}
+    for token in TOKEN.findall(without_binders(clause.body)):
+        depth += {"(": 1, ")": -1}.get(token, 0)
+        if token in known:
+            named.setdefault(depth, []).append(known[token])
+    if not named:
+        return "`" + clause.body.replace("|", r"\|") + "`"
+    names = [f"`{it}`" for it in dict.fromkeys(named[min(named)])]
+    return "by " + " and ".join([", ".join(names[:-1]), names[-1]] if names[1:] else names)
+
+
+def without_binders(body: str) -> str:
+    """The text of a clause without the types of what it quantifies."""
+    while it := BINDER.search(body):
+        end = it.end()
+        if it[0][0] == "(":
+            depth = 1
+            while depth:
+                depth += {"(": 1, ")": -1}.get(body[end], 0)
+                end += 1
+        body = body[: it.start()] + body[end:]
+    return body
+
+
+def functions_of(file: Path) -> Iterator[tuple[str, Function]]:
     """The public functions of a file, and the methods of its public traits, each with the type or trait that has it.
 
     A type, a trait, and a trait that a type implements stand among them without a name.
     """
-    lines = file.read_text(encoding="utf-8").splitlines()
+    source = file.read_text(encoding="utf-8")
+    lines, known = source.splitlines(), imported(source)
     text: list[str] = []
     holder, is_trait = "", False
     for number, line in enumerate(lines, 1):
@@ -226,7 +271,7 @@ def functions_of(file: Path, known: set[str]) -> Iterator[tuple[str, Function]]:
         if it and (it[2] or is_trait) and (holder or not it[1]):
             requires, ensures = [], []
             for clause in clauses_of(lines[number - 1 :], it[1]):
-                (requires if clause[1] == "requires" else ensures).append(stated(clause[2], clause[3], known))
+                (requires if clause.kind == "requires" else ensures).append(stated(clause, known))
             yield holder, Function(place, it[3], "\n".join(text), requires, ensures)
         text = []
 
@@ -238,18 +283,30 @@ def owner_of(header: str) -> tuple[str, str]:
     return re.match(r"\w*", owner)[0], re.match(r"\w*", done)[0]
 
 
-def clauses_of(lines: list[str], indent: str) -> Iterator[re.Match[str]]:
+def clauses_of(lines: list[str], indent: str) -> Iterator[Clause]:
     """The clauses of the function that begins here."""
     any_yet = False
-    for line in lines:
-        if line == f"{indent}{{":
+    for number, line in enumerate(lines):
+        if line in (f"{indent}{{", f"{indent}{{}}"):
             return
         it = CLAUSE.match(line)
         if it:
             any_yet = True
-            yield it
+            yield Clause(it[1], it[2] or "", body_of(it[3], lines[number + 1 :]))
         if line.endswith(";") or (not any_yet and re.search(r"\{(?:\})?$", line)):
             return
+
+
+def body_of(first: str, others: list[str]) -> str:
+    """What a clause says, from behind its bracket to the one that closes it, in one line."""
+    parts, depth = [], 1
+    for line in [first, *others]:
+        for place, character in enumerate(line):
+            depth += {"{": 1, "}": -1}.get(character, 0)
+            if not depth:
+                return " ".join([*parts, line[:place].strip()]).strip()
+        parts.append(line.strip())
+    return " ".join(parts)
 
 
 def told(function: Function) -> str:
@@ -301,13 +358,13 @@ def file_of(crate: str, module: tuple[str, ...]) -> Path:
     return base.joinpath(*module).with_suffix(".rt") if module else next(it for it in (base / "lib.rt", base / "main.rt") if it.exists())
 
 
-def items_of(crate: str, known: set[str]) -> Iterator[Function]:
+def items_of(crate: str) -> Iterator[Function]:
     """The public functions and traits of a crate, and the types that implement one, by the names that callers have."""
     traits = {f"those of `{it}`" for name in crates() for text in modules(name).values() for it in re.findall(r"^pub trait (\w+)", text, re.MULTILINE)}
     free: dict[tuple[tuple[str, ...], str], Function] = {}
     held: dict[str, list[Function]] = {}
     for module in modules(crate):
-        for holder, function in functions_of(file_of(crate, module), known):
+        for holder, function in functions_of(file_of(crate, module)):
             if holder:
                 held.setdefault(holder, []).append(function)
             else:
@@ -343,7 +400,7 @@ def place_in(crate: str, item: tuple[str, tuple[str, ...], str]) -> tuple[str, i
 def trait_of(path: str, functions: list[Function]) -> Function:
     """A trait as one row, with the clauses of all its methods."""
     clauses = list(dict.fromkeys(clause for function in functions if function.name for clause in function.ensures))
-    return functions[0]._replace(name=path, ensures=[it for it in clauses if it.startswith("`")] + ["those without a name"] * any(not it.startswith("`") for it in clauses))
+    return functions[0]._replace(name=path, ensures=clauses)
 
 
 def merged(clauses: list[str]) -> str:
@@ -353,11 +410,10 @@ def merged(clauses: list[str]) -> str:
 
 def page_of_contracts(findings: list[str]) -> str:
     """The page of the contracts."""
-    known = {found.name for crate in crates() for file in specs_of(crate) for found in definitions_of(file.read_text(encoding="utf-8").splitlines())}
     page, asking = [], []
     for crate in crates():
         rows, names = [], []
-        for function in items_of(crate, known):
+        for function in items_of(crate):
             if not function.text.strip():
                 findings.append(f"{function.place}: {function.name} has no text")
             if function.requires:
@@ -404,19 +460,20 @@ def difference(page: Path, text: str) -> str | None:
 
 
 def main(words: list[str]) -> int:
-    """Prints the pages, or compares them."""
-    if words not in ([], ["--check"]):
+    """Prints the pages, or compares the one that is kept."""
+    if words not in ([], ["--check"], ["--definitions"]):
         print(__doc__, file=sys.stderr)
         return 64
     findings: list[str] = []
-    pages = {"DEFINITIONS.md": page_of_definitions(findings), "CONTRACTS.md": page_of_contracts(findings)}
-    for name, text in pages.items():
-        page = ROOT / "docs" / name
-        if words:
-            found = difference(page, text)
-            findings += [found] if found else []
-        else:
-            page.write_text(text, encoding="utf-8")
+    definitions, contracts = page_of_definitions(findings), page_of_contracts(findings)
+    kept = ROOT / "docs" / "CONTRACTS.md"
+    if words == ["--check"]:
+        found = difference(kept, contracts)
+        findings += [found] if found else []
+    else:
+        kept.with_name("DEFINITIONS.md").write_text(definitions, encoding="utf-8")
+    if not words:
+        kept.write_text(contracts, encoding="utf-8")
     for finding in findings:
         print(finding)
     return 1 if findings else 0
