@@ -10,10 +10,11 @@ whatever order. Each is written where it is used first, with its namespace. Each
 no namespace; an other file that is not JSON defines nothing. A schema that defines all its types is printed as it is.
 Definitions of a type in two files may differ in "doc" alone.
 
-With --tree the other files are all *.avsc below FOLDER, and the text of each FILE of it, or of all, goes to OUT/FILE. A
-file that is refused is told, and the others are written.
+With --tree the other files are all *.avsc below FOLDER, and the text of each FILE of it, or of all, goes to OUT/FILE. OUT
+is not FOLDER and not in it. A file that is refused is told, and the others are written.
 
-Exit status: 0; 3 a text is refused, with the place as a JSON pointer; 4 a file cannot be read or written; 64 usage.
+Exit status: 0; 3 a text is refused, with the place as a JSON pointer; 4 a file cannot be read or written; 64 usage, or
+a FILE or OUT that would be written over a source.
 """
 
 from __future__ import annotations
@@ -37,6 +38,10 @@ class Refused(Exception):
 
 class Failed(Exception):
     """A file cannot be read or written: status 4."""
+
+
+class Misplaced(Exception):
+    """A file would be written outside of OUT, or over a source: status 64."""
 
 
 class Scope(NamedTuple):
@@ -298,8 +303,19 @@ def print_bundle(files: list[str]) -> int:
     return 0
 
 
+def check_places(folder: Path, out: Path, files: list[str]) -> None:
+    """Each file lies in the folder, and OUT does not, by whatever names."""
+    top = folder.resolve()
+    if out.resolve() == top or top in out.resolve().parents:
+        raise Misplaced(f"{out}: is in {folder}")
+    for file in files:
+        if top not in (folder / file).resolve().parents or ".." in Path(file).parts or Path(file).is_absolute():
+            raise Misplaced(f"{file}: is not in {folder}")
+
+
 def write_tree(folder: Path, out: Path, files: list[str]) -> int:
     """Bundles the files one by one, each with all others of the folder."""
+    check_places(folder, out, files)
     names = sorted(str(path.relative_to(folder)) for path in folder.rglob("*.avsc") if path.is_file())
     texts = {name: read(folder / name) for name in {*names, *files}}
     others = definitions(sorted(texts.items()))
@@ -336,6 +352,8 @@ def main(words: list[str]) -> int:
         return fail(str(fault), 3)
     except Failed as fault:
         return fail(str(fault), 4)
+    except Misplaced as fault:
+        return fail(str(fault), 64)
 
 
 if __name__ == "__main__":

@@ -16,9 +16,9 @@ from __future__ import annotations
 
 import re
 import sys
-from typing import Any
+from typing import Any, BinaryIO
 
-from filters import Refused, read, run, send, usage
+from filters import Failed, Refused, run, send, usage
 from tame import DEPTH, RESERVED, Defaults, Rewriting, Unfit, read_leaf, rewrite_text, rewritten
 
 # The numbers, each with those that are widened to it.
@@ -82,12 +82,21 @@ def with_words(answer: bytes) -> bytes:
     return NAMED.sub(lambda found: (found[1] or b"") + (found[2] or found[3]), answer).replace(ZEROS, b"0")
 
 
+def send_words(source: BinaryIO, sink: BinaryIO) -> None:
+    """Sends an answer line by line, since that of `explain` may be very long."""
+    try:
+        for line in source:
+            send(sink, with_words(line))
+    except OSError:
+        raise Failed("-: cannot read") from None
+
+
 def main(words: list[str]) -> int:
     sys.setrecursionlimit(DEPTH)
     if words == []:
         return run("lattice", lambda source, sink: rewrite_text(source, sink, Lattice()))
     if words == ["--names"]:
-        return run("lattice", lambda source, sink: send(sink, with_words(read(source, -1))))
+        return run("lattice", send_words)
     return usage(__doc__)
 
 

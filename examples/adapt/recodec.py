@@ -18,6 +18,7 @@ from __future__ import annotations
 
 import bz2
 import lzma
+import shutil
 import subprocess
 import sys
 import tempfile
@@ -225,6 +226,12 @@ def unpack(codec: bytes, packed: bytes) -> Data:
         raise Refused(f"{codec.decode()}: {fault}") from None
 
 
+def check_zstandard() -> None:
+    """Asked before anything is written, so that a missing program leaves no beginning of a file."""
+    if zstandard is None and shutil.which("zstd") is None:
+        raise Failed("zstandard: neither Python's module zstandard nor the program zstd is here")
+
+
 def recode(source: BinaryIO, sink: BinaryIO) -> None:
     header = read_header(source)
     codec = header.metadata.get(b"avro.codec", b"null")
@@ -234,6 +241,8 @@ def recode(source: BinaryIO, sink: BinaryIO) -> None:
         return
     if codec not in CODECS:
         raise Refused(f"unknown codec {ascii(codec[:40].decode('latin-1'))[1:-1]}")
+    if codec == b"zstandard":
+        check_zstandard()
     send(sink, put_header({**header.metadata, b"avro.codec": b"null"}, header.marker))
     change_blocks(source, sink, header.marker, MOST_PACKED, lambda packed: unpack(codec, packed))
 

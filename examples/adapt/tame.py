@@ -131,7 +131,9 @@ class Defaults:
         if isinstance(schema, list):
             return self.read_branch(value, schema, namespace)
         word = word_of(schema)
-        if isinstance(word, str) and word not in PRIMITIVES and word not in ATTRIBUTES:
+        # A string is a primitive or a reference, and never a kind: a type may be called `record`.
+        is_reference = isinstance(word, str) and word not in PRIMITIVES
+        if is_reference and (isinstance(schema, str) or word not in ATTRIBUTES):
             schema, namespace = self.named(qualified(word, namespace))
             word = schema["type"]
         if word in ATTRIBUTES and not isinstance(schema, dict):

@@ -79,11 +79,13 @@ try_zstandard() {
   PATH=$old_path
   compare 'neither module nor program' \
     "4 recodec: zstandard: neither Python's module zstandard nor the program zstd is here" "$status $(cat said)"
+  compare 'and nothing was written' '' "$(cat out)"
   PATH=$work/none
   filter made/null.avro pack.py zstandard > out 2> said || status=$?
   PATH=$old_path
   compare 'neither module nor program, packing' \
     "4 pack: zstandard: neither Python's module zstandard nor the program zstd is here" "$status $(cat said)"
+  compare 'nothing was packed' '' "$(cat out)"
 }
 old_path=$PATH
 
@@ -101,6 +103,16 @@ try_pack() {
     expect 0 '' filter packed.avro recodec.py
     same_bytes "$codec and back" out made/null.avro
   done
+  expect 0 '' filter made/blocks.avro pack.py null
+  same_bytes 'packed as it is' out made/blocks.avro
+  expect 0 '' filter made/null.avro pack.py --like made/deflate.avro
+  same_bytes 'packed as another' out made/deflate.avro
+  expect 0 '' filter made/null.avro pack.py --like made/null.avro
+  same_bytes 'packed as one of codec null' out made/null.avro
+  expect 3 'pack: made/old.avsc: it is not a container file' filter made/null.avro pack.py --like made/old.avsc
+  expect 3 'pack: made/broken/unknown codec.avro: unknown codec lzo' filter made/null.avro pack.py --like 'made/broken/unknown codec.avro'
+  expect 4 'pack: nowhere.avro: cannot read' filter made/null.avro pack.py --like nowhere.avro
+  expect 3 'pack: -: its codec is not null' filter made/deflate.avro pack.py null
   expect 3 'pack: -: its codec is not null' filter made/deflate.avro pack.py deflate
   expect 3 'pack: -: block 7: its marker differs' filter <(head -c -1 made/null.avro; printf '\377') pack.py xz
   expect 3 'pack: -: it is not a container file' filter made/old.avsc pack.py xz
@@ -132,6 +144,7 @@ try_snappy() {
   compare 'blocks by the module' 8 "$(grep -aoc 'packed' <(tr '\n' ' ' < out | sed 's/packed/packed\n/g'))"
   python="${python#env PYTHONPATH=* }"
   expect 4 "pack: snappy: Python's module snappy is not here" filter made/null.avro pack.py snappy
+  compare 'nothing by snappy' '' "$(cat out)"
 }
 
 try_broken() {
@@ -260,7 +273,7 @@ try_widenings() {
 }
 
 try_lattice() {
-  local wide='["null","long","float"]' narrow='["int","null"]' name='has the name that stands for a number'
+  local wide='["null","long","float"]' narrow='["int","null"]' name='has the name that stands for a number' called
   try_widenings
   expect 0 '' latticed judge "$narrow" "$wide"
   expect 1 '' latticed judge "$wide" "$narrow"
@@ -275,6 +288,9 @@ try_lattice() {
   compare 'as JSON' '"at":"$","type":"double" "at":"$","type":"long"' "$(grep -o '"at[^}]*' out | xargs -d '\n')"
   expect 0 '' latticed judge "$(record)" "$(record "$(field a '["string","double"]' 2.5)" "$(field b '"long"' 9)" \
     "$(field c '{"type":"map","values":"float"}' '{"k":1e3}')")"
+  # A type may be called by the word of a kind; a bare word is then a reference.
+  called=$(record "$(field a '{"type":"enum","name":"record","symbols":["A"]}')" "$(field b '"record"' '"A"')" "$(field c '"double"' 1)")
+  expect 0 '' latticed judge "$called" "$called"
   expect 3 'lattice: -: /fields/0/default: it is not a datum of its type' \
     filter <(record "$(field a '"int"' 2147483648)") lattice.py
   expect 3 "lattice: -: /: b.int_ $name" filter <(echo '{"type":"fixed","name":"F","aliases":["b.int_"],"size":8}') lattice.py
@@ -397,6 +413,30 @@ try_tree() {
   compare 'those that are named' ./types/money.avsc "$(cd named && find . -type f)"
   expect 4 'bundle: tree/nowhere.avsc: cannot read' filter /dev/null bundle.py --tree tree named nowhere.avsc
   expect 64 "$(usage_of bundle)" filter /dev/null bundle.py --tree tree
+  try_places
+}
+
+# Nothing is written over a source.
+try_places() {
+  mkdir -p tree/in beside
+  cp types/money.avsc beside/
+  find tree beside -type f -exec sha256sum {} + > sums
+  ln -sfn tree link
+  expect 64 'bundle: tree: is in tree' filter /dev/null bundle.py --tree tree tree
+  expect 64 'bundle: tree/in/new: is in tree' filter /dev/null bundle.py --tree tree tree/in/new
+  expect 64 'bundle: link/new: is in tree' filter /dev/null bundle.py --tree tree link/new
+  expect 64 'bundle: ../beside/money.avsc: is not in tree' filter /dev/null bundle.py --tree tree beside ../beside/money.avsc
+  expect 64 "bundle: $PWD/order.avsc: is not in tree" filter /dev/null bundle.py --tree tree named "$PWD/order.avsc"
+  expect 64 'bundle: in/../../order.avsc: is not in tree' filter /dev/null bundle.py --tree tree named in/../../order.avsc
+  compare 'the sources' "$(cat sums)" "$(find tree beside -type f -exec sha256sum {} +)"
+}
+
+try_places_alone() {
+  rm -rf tree beside link named
+  mkdir -p tree
+  lay_order
+  cp -r order.avsc types tree
+  try_places
 }
 
 try_bundle_faults() {
@@ -463,6 +503,9 @@ try_snappy	recodec.py	s/unpack_by_snappy(elements) or //
 try_pack	pack.py	s/b"avro.codec": codec.encode()/b"avro.codec": b"xz"/
 try_pack	pack.py	s/if header.metadata.get(.*/if False:/
 try_pack	pack.py	s/wbits=-zlib.MAX_WBITS/wbits=zlib.MAX_WBITS/
+try_pack	pack.py	s/    if codec == "null":/    if False:/
+try_pack	pack.py	s/words = \[codec_of(words\[1\])\]/words = ["xz"]/
+try_snappy	pack.py	s/^    check_codec(codec)$//
 try_broken	recodec.py	s/if not stream.eof:/if False:/
 try_broken	filters.py	s/if take(source, len(marker)) != marker:/if not take(source, len(marker)):/
 try_broken	recodec.py	s/if zlib.crc32(data) != .*/if False:/
@@ -477,6 +520,7 @@ try_lattice	lattice.py	s/^    reserved, stood_for = .*/    reserved, stood_for =
 try_lattice	lattice.py	s/ZERO if word in WIDENED else read/read/
 try_lattice	lattice.py	s/\[>\\"\]/[>]/
 try_lattice	lattice.py	s/.replace(ZEROS, b"0")$//
+try_lattice	tame.py	s/ (isinstance(schema, str) or word not in ATTRIBUTES)/ word not in ATTRIBUTES/
 try_verdicts	tame.py	s/"Float32", 4, "<f"/"Double64", 8, "<d"/
 try_pipe	tame.py	s/"<d"/">d"/
 try_pipe	tame.py	s/^    send_rest(source, sink)$/    send(sink, read(source, 100_000))/
@@ -490,6 +534,10 @@ try_bundle	bundle.py	s/"name", "namespace", "doc")/"name", "namespace")/
 try_chain	bundle.py	s/left - 1, name)/left, name)/
 try_tree	bundle.py	s/status = fail(str(fault), 3)/return fail(str(fault), 3)/
 try_tree	bundle.py	s/for file in files or names:/for file in names:/
+try_places_alone	bundle.py	s/^    check_places(folder, out, files)$//
+try_places_alone	bundle.py	s/out.resolve() == top or //
+try_places_alone	bundle.py	s/ or top in out.resolve().parents:/:/
+try_places_alone	bundle.py	s/ or ".." in Path(file).parts or Path(file).is_absolute()//;s/top not in (folder/top in (folder/
 END
 }
 

@@ -35,6 +35,7 @@ ADVICE = {
     "NoBranch": "Keep a branch for it.",
     "NotUtf8": "Keep bytes.",
 }
+VERDICTS = {0: "yes", 1: "no", 2: "undecided"}
 STYLE = """
 :root { color-scheme: light dark;
   --page: #fff; --text: #1f2328; --soft: #59636e; --line: #d1d9e0;
@@ -104,10 +105,24 @@ class Judge:
         done = subprocess.run(words, cwd=self.folder, capture_output=True)
         if done.returncode in (3, 4, 5) and done.stderr.startswith(b"avro: "):
             raise Failed(done.returncode, self.named(done.stderr.decode()))
+        if done.returncode not in VERDICTS:
+            raise self.other()
+        return self.answer(self.lattice.with_words(done.stdout) if self.lattice else done.stdout, VERDICTS[done.returncode])
+
+    def answer(self, line: bytes, verdict: str) -> Answer:
+        """The answer that a line has: that of another program may have any form."""
         try:
-            return json.loads(self.lattice.with_words(done.stdout) if self.lattice else done.stdout)
-        except ValueError:
-            raise Failed(4, f"matrix: {self.name}: is another program") from None
+            answer = json.loads(line)
+            if answer["verdict"] != verdict:
+                raise self.other()
+            for fault in answer.get("faults", ()):
+                item(fault)
+        except (ValueError, KeyError, TypeError, AttributeError, RecursionError):
+            raise self.other() from None
+        return answer
+
+    def other(self) -> Failed:
+        return Failed(4, f"matrix: {self.name}: is another program")
 
     def named(self, line: str) -> str:
         """The line of a fault, with the file's name for its number."""
@@ -170,7 +185,7 @@ def faults(files: list[str], answers: list[list[Answer]]) -> Iterator[str]:
                 rows_by_items.setdefault("".join(map(item, answer["faults"])), []).append(row)
         for items, rows in rows_by_items.items():
             anchors = "".join(f'<a id="{row}-{column}"></a>' for row in rows)
-            writers = ", ".join(escape(files[row]) for row in rows)
+            writers = ", ".join(dict.fromkeys(escape(files[row]) for row in rows))
             title = f"{anchors}{escape(reader)} does not read all data of {writers}"
             yield f"<section><h2>{title}</h2><ul>{items}</ul></section>"
 

@@ -59,10 +59,35 @@ try_statuses() {
   printf '%s\n' '#!/bin/sh' 'echo "Usage: avro [--version] [--help]" >&2' 'exit 2' > other
   chmod +x other
   expect 4 'matrix: ./other: is another program' env AVRO=./other "$here/matrix.py" order-1.avsc order-2.avsc
+  try_other_programs
   echo '"int_"' > name.avsc
   expect 3 'matrix: name.avsc: /: int_ has the name that stands for a number' "$here/matrix.py" --tame order-1.avsc name.avsc
   expect 64 "$(sed -n '2s/^"""//p' "$here/matrix.py")" "$here/matrix.py" order-1.avsc
   expect 64 "$(sed -n '2s/^"""//p' "$here/matrix.py")" "$here/matrix.py" --help
+}
+
+# What another program may answer.
+try_other_programs() {
+  local status answer
+  while IFS=$'\t' read -r status answer; do
+    printf '%s\n' '#!/bin/sh' "echo '$answer'" "exit $status" > other
+    expect 4 'matrix: ./other: is another program' env AVRO=./other "$here/matrix.py" order-1.avsc order-2.avsc
+  done << 'END'
+0	[]
+0	1
+0	{}
+0	{"verdict":"no","faults":[]}
+0	{"verdict":7}
+1	{"verdict":"no","faults":7}
+1	{"verdict":"no","faults":[{}]}
+1	{"verdict":"no","faults":[{"fault":"NoMatch","writer":{"type":"int","at":"$"},"reader":7}]}
+1	{"verdict":"no","faults":[{"fault":"Other","writer":{"type":"int","at":"$"},"reader":{"type":"int","at":"$"}}]}
+7	{"verdict":"yes","faults":[]}
+END
+  # One version that is named twice is one in a heading.
+  expect 0 '' "$here/matrix.py" order-1.avsc order-1.avsc order-3.avsc
+  tried=$((tried + 1))
+  grep -q 'order-3.avsc does not read all data of order-1.avsc</h2>' out || { wrong=$((wrong + 1)); echo 'WRONG, a version twice'; }
 }
 
 # Schemas with doubles have the page of those with long that are as they are; pipes have that of files.

@@ -4,7 +4,8 @@
 #     packaging/deb/build.sh [--unproved] VERSION [NAME]
 #
 # The program is crates/avro/out/avro, as 'make program' leaves it, or PROGRAM; unless --unproved is given, it must have
-# the checksum that is beside the first. The library is LIBRARY, else bindings/out/libavrojudge.so, where it is there.
+# the checksum that is beside the first. A package of an unproved program says so in its version and its description.
+# The library is LIBRARY, else bindings/out/libavrojudge.so, where it is there.
 # The package puts the program at /usr/bin/avro, where python3-avro has a program of the same name: the two conflict.
 # With NAME, such as avro-judge, the program, its man page and its completions have that name instead, the scripts call
 # it, and nothing conflicts. MAINTAINER names who makes the package, as 'Name <address>'.
@@ -17,7 +18,7 @@ is_unproved=''
 [ "${1-}" != --unproved ] || { is_unproved=1; shift; }
 version=${1-} name=${2:-avro}
 if [ $# -lt 1 ] || [ $# -gt 2 ] || ! [[ $version =~ ^[0-9][0-9A-Za-z.+~-]*$ && $name =~ ^[a-z][a-z0-9-]*$ ]]; then
-    sed -n '2,11s/^# \{0,1\}//p' "$0" >&2
+    sed -n '2,12s/^# \{0,1\}//p' "$0" >&2
     exit 64
 fi
 if [ ! -x "$program" ]; then
@@ -27,6 +28,9 @@ fi
 if [ -z "$is_unproved" ] && ! grep -qs "^$(sha256sum < "$program" | cut -d ' ' -f 1) " "$proved"; then
     echo "build.sh: $program: is not the program of 'make program' (--unproved takes any)" >&2
     exit 3
+fi
+if [ -n "$is_unproved" ]; then
+    version+=+unproved
 fi
 architecture=$(dpkg --print-architecture)
 root=$(mktemp -d)
@@ -82,7 +86,8 @@ Recommends: python3, git
 $([ "$name" != avro ] || echo 'Conflicts: python3-avro')
 Section: utils
 Priority: optional
-Description: proved judge of Avro schema compatibility
+Description: ${is_unproved:+un}proved judge of Avro schema compatibility
+$([ -z "$is_unproved" ] || printf ' %s\n' 'This program was built without its proofs: for trying out alone.' .)
  Says whether a new Avro schema still reads everything that was written under
  the old one: yes with a certificate, no with a smallest datum that fails, or
  undecided. It also checks and shows container files, and copies them. Scripts
