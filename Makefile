@@ -22,11 +22,14 @@ LIBRARY := bindings/out/libavrojudge.so
 JAR := bindings/out/avrojudge.jar
 ARCHIVE := packaging/out/avro-$(VERSION)-x86_64-linux.tar.gz
 
+# The files of a pattern that git keeps, so that what else lies about is not packed; all of them where there is no git.
+kept = $(sort $(or $(shell git ls-files -- $(1) 2>/dev/null), $(wildcard $(1))))
+
 # What lies below share/avro under the paths that it has here.
-PAGES := README.md CHANGELOG.md $(sort $(wildcard docs/*) docs/DEFINITIONS.md)
-SCRIPTS := $(filter-out $(wildcard examples/*/try* examples/*/*_files.py examples/*/look.py examples/*/__pycache__), \
-	$(wildcard examples/*.* examples/*/*))
-BINDINGS := $(wildcard bindings/c/example.c bindings/python/*.* bindings/java/pom.xml bindings/java/src/main/java/org/avrojudge/*)
+PAGES := README.md CHANGELOG.md $(sort $(call kept, docs/*) docs/DEFINITIONS.md)
+SCRIPTS := $(filter-out $(wildcard examples/*/try* examples/*/*_files.py examples/*/*_cases.py examples/*/look.py), \
+	$(call kept, examples/*.* examples/*/*))
+BINDINGS := $(call kept, bindings/c/example.c bindings/python/*.* bindings/java/pom.xml bindings/java/src/main/java/org/avrojudge/*)
 
 # When the commit was made: the time of all that is packed.
 EPOCH = $(or $(SOURCE_DATE_EPOCH), $(shell git log -1 --format=%ct))
@@ -39,11 +42,19 @@ help: ## lists the targets
 	@awk -F ':.*## ' '/^[a-z]+:.*## / { printf "make %-8s %s\n", $$1, $$2 }' $(MAKEFILE_LIST)
 
 # A no and an undecided, with status 1 or 2, are answers; rt ends with these statuses when the build fails, too.
-try: ## builds the program without any proof, and judges WRITER against READER (three minutes of processor time)
+ifdef PAIRS
+try:
+	@cases=$$(mktemp -d) && trap 'rm -rf "$$cases"' EXIT && set -- && for pair in $(abspath $(PAIRS))/*/; do \
+	name=$$(basename "$$pair") && cp "$$pair/writer.avsc" "$$cases/$$name" && set -- "$$@" --data "$$name.reader=$$pair/reader.avsc" && \
+	printf '%s\n' judge {} "$$name.reader" > "$$cases/$$name.args" || exit 1; done && \
+	cd crates/avro && rt try --cases "$$cases" "$$@"
+else
+try: ## builds the program without any proof, and judges WRITER against READER, or writer.avsc against reader.avsc in each folder of PAIRS (three minutes of processor time)
 	@said=$$(cd crates/avro && rt try --data writer.avsc=$(abspath $(WRITER)) --data reader.avsc=$(abspath $(READER)) \
 		-- judge writer.avsc reader.avsc); status=$$?; \
 	case $$said in yes | no* | undecided*) printf '%s\n' "$$said"; answered=0 ;; *) answered=1 ;; esac; \
 	test $$status = 0 || echo "avro judge: exit status $$status" >&2; exit $$answered
+endif
 
 files: ## builds the program without any proof, and checks, shows and copies FILE (the same time)
 	@cases=$$(mktemp -d) && trap 'rm -rf "$$cases"' EXIT && \
