@@ -12,7 +12,6 @@ mod SameFits
 mod OneNamed
 mod FormsAlike
 mod SameEncodings
-mod HasForm
 mod LaidRead
 mod FormsRead
 mod LaidForms
