@@ -144,7 +144,6 @@ no_more [] rest lines e = refl
 no_more (s ∷ others) rest lines e = absurd (false≢true (ap (λ (l : List ℕ). get_or l 0 0 == 101) (sym lines.written ∙ e)))
 
 module _ (text rest : List ℕ) (kept : List Sets) (great : Bool) (read : ReadSoFar text rest kept great) (ends : rest ≡ codes "end\n") where
-
   pub all_kept : (sets : List Sets) → AreLines sets text → all_small sets ≡ true → kept ≡ sets
   all_kept sets lines h =
       let l = read.left sets lines in

@@ -151,7 +151,6 @@ insertion_follows (Ok x) before after t put unchanged = one_follows before after
 insertion_follows (Err e) before after t put unchanged = same_follows before after unchanged
 
 module _ (before after : List (List ℕ)) (f : Follows before after) where
-
   pub known_kept : (entries : List (Key × ℕ)) → AreWithin (length before) entries → known_in after entries ≡ known_in before entries
   known_kept [] h = refl
   known_kept (e ∷ es) h =
