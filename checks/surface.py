@@ -212,7 +212,6 @@ ORDERED = "a display has the names of fields in the order of their bytes"
 SPELLED = "the specification spells the canonical form; no JSON is shown"
 TOKEN_WISE = "a display goes out token by token; a clause says that the whole is serde_json's text"
 ADDED = "members keep the order in which they are added; a clause says that the whole is serde_json's text"
-SCANNED = "a byte that is looked for in JSON, where none is written"
 LINE = "one whole line or its frame, which a clause or a test spells"
 EXCEPTIONS = {
     UTF8: [
@@ -252,8 +251,6 @@ EXCEPTIONS = {
         ("avro_show/src/composing.rt append_entries", TOKEN_WISE),
         ("avro_show/src/composing.rt append_members", TOKEN_WISE),
         ("avro_show/src/scratch.rt end", TOKEN_WISE),
-        ("avro_why/src/json_fault.rt too_deep", SCANNED),
-        ("avro_why/src/offsets.rt step", SCANNED),
     ],
 }
 

@@ -12,9 +12,6 @@ use indexmap::IndexMap;
 use serde_json::Value;
 use std::alloc::AllocError;
 
-/// What a list of texts must be.
-const TEXTS: &str = "an array of strings";
-
 /// A definition whose name was read: its node, its name, and the namespace of what is inside.
 #[derive(Clone, Copy)]
 pub(crate) struct Begun<'a> {
@@ -52,7 +49,7 @@ impl<'a> Walk<'a> {
         id: NodeId,
         place: PlaceId,
     ) -> Result<Option<Name<'a>>, AllocError> {
-        let at = self.places.member(place, "name")?;
+        let at = self.places.member(place, "name");
         if !self.is_full_name(text, at)? {
             return Ok(None);
         }
@@ -144,23 +141,30 @@ impl<'a> Walk<'a> {
         Ok(false)
     }
 
-    /// The texts of a list with their places; none if an item is another value, which is noted.
+    /// The texts of a list, if it is there, with their places. Another value, or one with another item, is noted.
     fn texts(
         &mut self,
-        items: &'a Vec<Value>,
+        members: &'a Members,
         key: &'a str,
         around: PlaceId,
-    ) -> Result<Vec<(&'a str, PlaceId)>, AllocError> {
-        let list = self.places.member(around, key)?;
+    ) -> Result<Option<Vec<(&'a str, PlaceId)>>, AllocError> {
+        let Some(value) = members.get(key) else {
+            return Ok(None);
+        };
+        let list = self.places.member(around, key);
         let mut texts = Vec::new(self.alloc);
-        for (index, item) in items.iter().enumerate() {
-            let Value::String(text) = item else {
-                self.note(list, Fault::Must(key, TEXTS))?;
-                return Ok(Vec::new(self.alloc));
-            };
-            texts.push((text.as_str(), self.places.item(list, index)?))?;
+        if let Value::Array(items) = value {
+            for (index, item) in items.iter().enumerate() {
+                if let Value::String(text) = item {
+                    texts.push((text.as_str(), self.places.item(list, index)))?;
+                }
+            }
+            if texts.len() == items.len() {
+                return Ok(Some(texts));
+            }
         }
-        Ok(texts)
+        self.note(list, Fault::Must(key, "an array of strings"))?;
+        Ok(None)
     }
 
     /// Reads the aliases of a type.
@@ -169,12 +173,10 @@ impl<'a> Walk<'a> {
         members: &'a Members,
         place: PlaceId,
     ) -> Result<(), AllocError> {
-        let Some(items) = self.items(members, "aliases", TEXTS, place)? else {
-            return Ok(());
-        };
-        let texts = self.texts(items, "aliases", place)?;
-        for (text, at) in &texts {
-            self.is_full_name(text, *at)?;
+        if let Some(texts) = self.texts(members, "aliases", place)? {
+            for (text, at) in &texts {
+                self.is_full_name(text, *at)?;
+            }
         }
         Ok(())
     }
@@ -188,11 +190,10 @@ impl<'a> Walk<'a> {
     ) -> Result<Option<&'a str>, AllocError> {
         let name = self.text(members, "name", place)?;
         if let Some(name) = name {
-            let at = self.places.member(place, "name")?;
+            let at = self.places.member(place, "name");
             self.read_field_name(name, at, seen)?;
         }
-        if let Some(items) = self.items(members, "aliases", TEXTS, place)? {
-            let texts = self.texts(items, "aliases", place)?;
+        if let Some(texts) = self.texts(members, "aliases", place)? {
             for (text, at) in &texts {
                 self.read_field_name(text, *at, seen)?;
             }
@@ -230,25 +231,24 @@ impl<'a> Walk<'a> {
         if !members.contains_key("symbols") {
             self.note(place, Fault::Missing("symbols"))?;
         }
-        let symbols = match self.items(members, "symbols", TEXTS, place)? {
-            Some(items) => self.read_symbols(items, place)?,
-            None => None,
-        };
+        let symbols = self.read_symbols(members, place)?;
         self.check_symbol(members, &symbols, place)?;
         self.set(id, Node::Enum(name, symbols));
         Ok(id)
     }
 
-    /// The symbols of an enum with their places, unless an item is another value.
+    /// The symbols of an enum with their places, if they are known.
     fn read_symbols(
         &mut self,
-        items: &'a Vec<Value>,
+        members: &'a Members,
         around: PlaceId,
     ) -> Result<Option<IndexMap<&'a str, PlaceId, Seeded>>, AllocError> {
-        if items.is_empty() {
+        let Some(texts) = self.texts(members, "symbols", around)? else {
+            return Ok(None);
+        };
+        if texts.is_empty() {
             self.note_member(around, "symbols", Fault::NoSymbols)?;
         }
-        let texts = self.texts(items, "symbols", around)?;
         let mut seen = IndexMap::with_hasher(self.alloc, self.seed);
         for (symbol, place) in &texts {
             self.is_simple_name(symbol, *place)?;
@@ -259,11 +259,7 @@ impl<'a> Walk<'a> {
                 }
             }
         }
-        Ok(if texts.len() == items.len() {
-            Some(seen)
-        } else {
-            None
-        })
+        Ok(Some(seen))
     }
 
     /// Notes a default of an enum that is not a string, or not one of its symbols if these are known.

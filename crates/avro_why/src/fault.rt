@@ -1,5 +1,4 @@
 use crate::names::Name;
-use crate::nodes::Title;
 use crate::places::PlaceId;
 
 /// What is wrong with a value.
@@ -28,7 +27,7 @@ pub(crate) enum Fault<'a> {
     /// A union in a union.
     UnionInUnion,
     /// A duplicate branch, the first of which is at a place.
-    Branch(Title<'a>, PlaceId),
+    Branch(Name<'a>, PlaceId),
     /// An enum without symbols.
     NoSymbols,
     /// A duplicate symbol, the first of which is at a place.
@@ -38,13 +37,13 @@ pub(crate) enum Fault<'a> {
     /// A name or an alias that another field has, at a place.
     FieldName(&'a str, PlaceId),
     /// A default that is not valid for a type.
-    Default(Title<'a>),
+    Default(Name<'a>),
     /// A default that matches no branch of a union.
     NoBranchFits,
     /// A type that is not supported.
     Unsupported(&'static str),
     /// A number that is not a 64-bit integer.
-    NotInteger,
+    NotInteger(&'a str),
     /// The first node past the limit.
     TooMany,
     /// The size of a fixed past its limit.

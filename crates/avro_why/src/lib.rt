@@ -1,7 +1,7 @@
 //! Where and why a text of a schema is refused.
 //!
 //! [`find_reasons`] looks at a refused text a second time. It walks through the tree that `serde_json` reads, goes on after
-//! each fault, and finds the places of all of them in the text by one scan. A [`Reason`] has the line and the column of a
+//! each fault, and has the places of all values from one scan of the text. A [`Reason`] has the line and the column of a
 //! value, its JSON pointer, and words, each at most a few hundred bytes long.
 #![tactic(auto)]
 
@@ -12,7 +12,6 @@ mod json_fault;
 mod names;
 mod nodes;
 mod numbers;
-mod offsets;
 mod places;
 mod position;
 mod reasons;

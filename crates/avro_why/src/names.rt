@@ -20,6 +20,16 @@ pub(crate) struct Name<'a> {
     pub(crate) simple: &'a str,
 }
 
+impl<'a> Name<'a> {
+    /// A text that is no name in a namespace.
+    pub(crate) fn plain(text: &'a str) -> Name<'a> {
+        Name {
+            space: "",
+            simple: text,
+        }
+    }
+}
+
 /// What a name was defined as, and where.
 #[derive(Clone, Copy)]
 pub(crate) struct Definition {

@@ -29,57 +29,42 @@ pub(crate) enum Node<'a> {
     Fixed(Option<Name<'a>>, Option<u64>),
 }
 
-/// What a node is called.
-#[derive(Clone, Copy)]
-pub(crate) enum Title<'a> {
-    Kind(&'static str),
-    Name(Name<'a>),
-}
-
 impl<'a> Node<'a> {
-    /// What a node is called.
-    pub(crate) fn title(&self) -> Title<'a> {
+    /// The kind of a node.
+    fn kind(&self) -> &'static str {
         match self {
-            Node::Unknown => Title::Kind("a type"),
-            Node::Null => Title::Kind("null"),
-            Node::Boolean => Title::Kind("boolean"),
-            Node::Int => Title::Kind("int"),
-            Node::Long => Title::Kind("long"),
-            Node::Bytes => Title::Kind("bytes"),
-            Node::Str => Title::Kind("string"),
-            Node::Array(_) => Title::Kind("array"),
-            Node::Map(_) => Title::Kind("map"),
-            Node::Union(_) => Title::Kind("union"),
-            Node::Record(name, _) => name_or(*name, "record"),
-            Node::Enum(name, _) => name_or(*name, "enum"),
-            Node::Fixed(name, _) => name_or(*name, "fixed"),
+            Node::Unknown => "a type",
+            Node::Null => "null",
+            Node::Boolean => "boolean",
+            Node::Int => "int",
+            Node::Long => "long",
+            Node::Bytes => "bytes",
+            Node::Str => "string",
+            Node::Array(_) => "array",
+            Node::Map(_) => "map",
+            Node::Union(_) => "union",
+            Node::Record(..) => "record",
+            Node::Enum(..) => "enum",
+            Node::Fixed(..) => "fixed",
         }
     }
 
-    /// A number that is the same for two branches that a union cannot both have.
-    pub(crate) fn branch_code(&self, id: NodeId) -> Option<usize> {
+    /// What a node is called: the name of a definition, or its kind if it has none.
+    pub(crate) fn title(&self) -> Name<'a> {
+        match self {
+            Node::Record(Some(name), _) | Node::Enum(Some(name), _) | Node::Fixed(Some(name), _) =>
+                { *name }
+            _ => Name::plain(self.kind()),
+        }
+    }
+
+    /// What is the same for two branches that a union cannot both have: the kind, or the number of a definition.
+    pub(crate) fn branch(&self, id: NodeId) -> Option<(&'static str, NodeId)> {
         match self {
             Node::Unknown | Node::Union(_) => None,
-            Node::Null => Some(0),
-            Node::Boolean => Some(2),
-            Node::Int => Some(4),
-            Node::Long => Some(6),
-            Node::Bytes => Some(8),
-            Node::Str => Some(10),
-            Node::Array(_) => Some(12),
-            Node::Map(_) => Some(14),
-            Node::Record(..) | Node::Enum(..) | Node::Fixed(..) => {
-                Some(id.saturating_mul(2).saturating_add(1))
-            }
+            Node::Record(..) | Node::Enum(..) | Node::Fixed(..) => Some(("", id)),
+            _ => Some((self.kind(), 0)),
         }
-    }
-}
-
-/// The name of a definition, or its kind if it has none.
-fn name_or<'a>(name: Option<Name<'a>>, kind: &'static str) -> Title<'a> {
-    match name {
-        Some(name) => Title::Name(name),
-        None => Title::Kind(kind),
     }
 }
 

@@ -4,14 +4,15 @@ ghost use Rattle.avro_why.specs.Placed.{ArePlaced};
 ghost use Rattle.avro_why.specs.Position.{IsPosition};
 
 use crate::fault::Fault;
-use crate::json_fault::{JsonFault, json_fault};
-use crate::offsets::offsets_of;
-use crate::places::{PlaceId, WHOLE};
+use crate::json_fault::{fault_of_beginning, json_fault};
+use crate::places::{PlaceId, Places};
 use crate::position::{Position, position_at};
 use crate::walk::Walk;
 use crate::words::words_of;
+use avro_cursor::text_of;
 use avro_schema_json::SchemaError;
 use avro_texts::Seeded;
+use json::Scratch;
 use serde_json::Value;
 use std::alloc::{AllocError, Global};
 
@@ -57,69 +58,70 @@ pub fn find_reasons(
     ensures few { IfOk result (λ r. length r.first.items ≤ max limit 1) }
 {
     if text.len() > MAX_TEXT {
-        let words = "more than 1048576 bytes";
-        return reasons_without_json(alloc, Some(JsonFault::at(Position::BEGINNING, words)));
+        return one_reason(alloc, Position::BEGINNING, "more than 1048576 bytes");
     }
-    if error == SchemaError::NotJson {
-        let fault = json_fault(alloc, text)?;
-        return reasons_without_json(alloc, fault);
+    if let Some(words) = fault_of_beginning(text) {
+        return one_reason(alloc, Position::BEGINNING, words);
     }
-    match Value::from_slice(alloc, text) {
-        Ok(tree) => reasons_in_tree(alloc, text, &tree, error, limit),
-        Err(_) => reasons_without_json(alloc, None),
+    match text_of(text) {
+        Ok(whole) => reasons_in_text(alloc, text, whole, error, limit),
+        Err(end) => one_reason(alloc, position_at(text, end), "not UTF-8"),
     }
 }
 
 /// What there is of a text that is no JSON.
-fn reasons_without_json(alloc: Global, fault: Option<JsonFault>) -> Result<Reasons, AllocError>
+fn one_reason(alloc: Global, at: Position, words: &str) -> Result<Reasons, AllocError>
     ensures placed { (text : List ℕ) → IfOk result (λ r. ArePlaced text r.first.items) }
     ensures few { IfOk result (λ r. length r.first.items ≤ 1) }
 {
     let mut first = Vec::new(alloc);
-    if let Some(fault) = fault {
-        first.push(Reason {
-            line: fault.line,
-            column: fault.column,
-            pointer: None,
-            words: String::from_str(alloc, fault.words)?,
-        })?;
-    }
+    first.push(Reason {
+        line: at.line,
+        column: at.column,
+        pointer: None,
+        words: String::from_str(alloc, words)?,
+    })?;
     Ok(Reasons { first, others: 0 })
 }
 
-/// What there is of a text of a tree.
-fn reasons_in_tree(
+/// What there is of a text in UTF-8.
+fn reasons_in_text(
     alloc: Global,
-    text: &[u8],
-    tree: &Value,
+    bytes: &[u8],
+    text: &str,
     error: SchemaError,
     limit: usize,
 ) -> Result<Reasons, AllocError>
-    requires small { length text.now ≤ 1048576 }
-    ensures placed { IfOk result (λ r. ArePlaced text.now r.first.items) }
-    ensures few { IfOk result (λ r. length r.first.items ≤ limit) }
+    requires small { length bytes.now ≤ 1048576 }
+    ensures placed { IfOk result (λ r. ArePlaced bytes.now r.first.items) }
+    ensures few { IfOk result (λ r. length r.first.items ≤ max limit 1) }
 {
-    let mut walk = Walk::new(alloc, Seeded::of_text(text))?;
-    // Other errors are found only in trees of integers.
-    if error == SchemaError::UnsupportedNumber {
-        walk.read_numbers(tree, WHOLE)?;
+    let mut scratch = Scratch::new(alloc);
+    let seed = Seeded::of_text(bytes);
+    let places = Places::read(alloc, text, seed, &mut scratch)?;
+    match Value::from_str(alloc, text) {
+        Ok(tree) => {
+            let mut walk = Walk::new(alloc, seed, places)?;
+            walk.read(&tree, error)?;
+            first_reasons(alloc, bytes, &walk, limit)
+        }
+        Err(error) => {
+            if error.is_memory() {
+                return Err(AllocError);
+            }
+            let (at, words) = json_fault(bytes, &error, places.too_deep);
+            one_reason(alloc, at, words)
+        }
     }
-    let null = walk.names.space("")?;
-    walk.read_type(tree, Some(null), WHOLE)?;
-    walk.check_defaults()?;
-    first_reasons(alloc, text, &walk, limit)
 }
 
 /// The faults of a walk, by the offsets of their places.
-fn by_offset(alloc: Global, text: &[u8], walk: &Walk<'_>) -> Result<Vec<(usize, usize)>, AllocError>
+fn by_offset(alloc: Global, walk: &Walk<'_>) -> Result<Vec<(usize, usize)>, AllocError>
     ensures { IfOk result (λ order. IsNonDecreasingBy (λ (fault : ℕ × ℕ). fault.0) order.items) }
 {
-    let offsets = offsets_of(alloc, text, &walk.places)?;
     let mut order = Vec::new(alloc);
     for (index, (place, _)) in walk.faults.iter().enumerate() {
-        if let Some(Some(offset)) = offsets.get(*place) {
-            order.push((*offset, index))?;
-        }
+        order.push((walk.places.offset(*place), index))?;
     }
     order.sort_unstable();
     Ok(order)
@@ -136,7 +138,7 @@ fn first_reasons(
     ensures placed { IfOk result (λ r. ArePlaced text.now r.first.items) }
     ensures few { IfOk result (λ r. length r.first.items ≤ limit) }
 {
-    let order = by_offset(alloc, text, walk)?;
+    let order = by_offset(alloc, walk)?;
     let mut first = Vec::new(alloc);
     for (offset, index) in &order[..order.len().min(limit)] {
         if let Some((place, fault)) = walk.faults.get(*index) {
@@ -160,7 +162,7 @@ fn reason_of(
     ensures { IfOk result (λ reason. IsPosition text.now (min offset (length text.now)) reason.line reason.column) }
 {
     let Position { line, column } = position_at(text, offset);
-    let words = words_of(alloc, text, &walk.places, offset, fault)?;
+    let words = words_of(alloc, &walk.places, fault)?;
     Ok(Reason {
         line,
         column,

@@ -10,7 +10,6 @@ use avro_texts::Seeded;
 use indexmap::IndexMap;
 use serde_json::Value;
 use std::alloc::AllocError;
-use std::collections::BTreeMap;
 
 impl<'a> Walk<'a> {
     /// The type that a tree declares at a place. The namespace that encloses it may be unknown.
@@ -45,9 +44,9 @@ impl<'a> Walk<'a> {
             self.note(place, Fault::EmptyUnion)?;
         }
         let mut ids = Vec::new(self.alloc);
-        let mut seen = BTreeMap::new(self.alloc);
+        let mut seen = IndexMap::with_hasher(self.alloc, self.seed);
         for (index, branch) in branches.iter().enumerate() {
-            let at = self.places.item(place, index)?;
+            let at = self.places.item(place, index);
             let id = self.read_type(branch, space, at)?;
             self.note_branch(&mut seen, id, at)?;
             ids.push(id)?;
@@ -87,7 +86,7 @@ impl<'a> Walk<'a> {
                 self.add(Node::Map(part))
             }
             _ => {
-                let at = self.places.member(place, "type")?;
+                let at = self.places.member(place, "type");
                 self.read_word(word, space, at)
             }
         }
@@ -105,7 +104,7 @@ impl<'a> Walk<'a> {
         self.count_node(place)?;
         match members.get(key) {
             Some(part) => {
-                let at = self.places.member(place, key)?;
+                let at = self.places.member(place, key);
                 self.read_type(part, space, at)
             }
             None => {
@@ -126,7 +125,7 @@ impl<'a> Walk<'a> {
         let Begun { id, name, inner } = self.begin(members, space, place)?;
         match members.get("fields") {
             Some(Value::Array(items)) => {
-                let at = self.places.member(place, "fields")?;
+                let at = self.places.member(place, "fields");
                 let fields = self.read_fields(items, inner, at)?;
                 self.set(id, Node::Record(name, fields));
             }
@@ -148,7 +147,7 @@ impl<'a> Walk<'a> {
         let mut seen = IndexMap::with_hasher(self.alloc, self.seed);
         let mut are_known = true;
         for (index, item) in items.iter().enumerate() {
-            let at = self.places.item(place, index)?;
+            let at = self.places.item(place, index);
             match self.read_field(item, space, at, &mut seen)? {
                 Some((name, node)) => {
                     fields.insert(name, node)?;
@@ -175,7 +174,7 @@ impl<'a> Walk<'a> {
         let name = self.read_field_names(members, place, seen)?;
         let node = match members.get("type") {
             Some(tree) => {
-                let at = self.places.member(place, "type")?;
+                let at = self.places.member(place, "type");
                 self.read_type(tree, space, at)?
             }
             None => {
@@ -183,44 +182,34 @@ impl<'a> Walk<'a> {
                 UNKNOWN
             }
         };
-        self.keep_default(members, node, place)?;
-        Ok(name.map(|name| (name, node)))
-    }
-
-    /// Keeps the default of a field, whose type is known once the whole tree is read.
-    fn keep_default(
-        &mut self,
-        members: &'a Members,
-        node: NodeId,
-        place: PlaceId,
-    ) -> Result<(), AllocError> {
+        // Its type is known once the whole tree is read.
         if let Some(value) = members.get("default") {
-            let place = self.places.member(place, "default")?;
+            let place = self.places.member(place, "default");
             self.defaults.push(FieldDefault { value, node, place })?;
         }
-        Ok(())
+        Ok(name.map(|name| (name, node)))
     }
 
     /// Notes a branch that is a union, or a duplicate.
     fn note_branch(
         &mut self,
-        seen: &mut BTreeMap<usize, PlaceId>,
+        seen: &mut IndexMap<(&'a str, NodeId), PlaceId, Seeded>,
         id: NodeId,
         place: PlaceId,
     ) -> Result<(), AllocError> {
         if matches!(self.nodes.get(id), Some(Node::Union(_))) {
             return self.note(place, Fault::UnionInUnion);
         }
-        let Some(code) = self.nodes.get(id).and_then(|node| node.branch_code(id)) else {
+        let Some(branch) = self.nodes.get(id).and_then(|node| node.branch(id)) else {
             return Ok(());
         };
-        match seen.get(&code).copied() {
+        match seen.get(&branch).copied() {
             Some(before) => {
                 let title = self.title(id);
                 self.note(place, Fault::Branch(title, before))
             }
             None => {
-                seen.insert(code, place)?;
+                seen.insert(branch, place)?;
                 Ok(())
             }
         }

@@ -1,8 +1,9 @@
 use crate::fault::Fault;
-use crate::names::Names;
-use crate::nodes::{Node, NodeId, Title};
-use crate::places::{PlaceId, Places};
+use crate::names::{Name, Names};
+use crate::nodes::{Node, NodeId};
+use crate::places::{PlaceId, Places, WHOLE};
 use avro_schema::Schema;
+use avro_schema_json::SchemaError;
 use avro_texts::Seeded;
 use serde_json::{Map, Value};
 use std::alloc::{AllocError, Global};
@@ -38,19 +39,34 @@ pub(crate) struct Walk<'a> {
 
 impl<'a> Walk<'a> {
     /// A walk before its first step.
-    pub(crate) fn new(alloc: Global, seed: Seeded) -> Result<Walk<'a>, AllocError> {
+    pub(crate) fn new(
+        alloc: Global,
+        seed: Seeded,
+        places: Places<'a>,
+    ) -> Result<Walk<'a>, AllocError> {
         let mut nodes = Vec::new(alloc);
         nodes.push(Node::Unknown)?;
         Ok(Walk {
             alloc,
             seed,
-            places: Places::new(alloc, seed),
+            places,
             faults: Vec::new(alloc),
             nodes,
             names: Names::new(alloc, seed),
             defaults: Vec::new(alloc),
             count: 0,
         })
+    }
+
+    /// Walks through a tree for which a text is refused with this error.
+    pub(crate) fn read(&mut self, tree: &'a Value, error: SchemaError) -> Result<(), AllocError> {
+        // Other errors are found only in trees of integers.
+        if error == SchemaError::UnsupportedNumber {
+            self.read_numbers(tree, WHOLE)?;
+        }
+        let null = self.names.space("")?;
+        self.read_type(tree, Some(null), WHOLE)?;
+        self.check_defaults()
     }
 
     /// Notes a fault of the value at a place.
@@ -66,7 +82,7 @@ impl<'a> Walk<'a> {
         key: &'a str,
         fault: Fault<'a>,
     ) -> Result<(), AllocError> {
-        let place = self.places.member(around, key)?;
+        let place = self.places.member(around, key);
         self.note(place, fault)
     }
 
@@ -94,10 +110,10 @@ impl<'a> Walk<'a> {
     }
 
     /// What a node is called.
-    pub(crate) fn title(&self, id: NodeId) -> Title<'a> {
+    pub(crate) fn title(&self, id: NodeId) -> Name<'a> {
         match self.nodes.get(id) {
             Some(node) => node.title(),
-            None => Title::Kind("a type"),
+            None => Node::Unknown.title(),
         }
     }
 
@@ -127,25 +143,6 @@ impl<'a> Walk<'a> {
         key: &'a str,
         what: &'static str,
     ) -> Result<(), AllocError> {
-        let place = self.places.member(around, key)?;
-        self.note(place, Fault::Must(key, what))
-    }
-
-    /// The items of a member, if it is there. Another value is noted, with what it must be.
-    pub(crate) fn items(
-        &mut self,
-        members: &'a Members,
-        key: &'a str,
-        what: &'static str,
-        place: PlaceId,
-    ) -> Result<Option<&'a Vec<Value>>, AllocError> {
-        let found = members.get(key);
-        if let Some(Value::Array(items)) = found {
-            return Ok(Some(items));
-        }
-        if found.is_some() {
-            self.note_must(place, key, what)?;
-        }
-        Ok(None)
+        self.note_member(around, key, Fault::Must(key, what))
     }
 }

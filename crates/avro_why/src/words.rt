@@ -2,10 +2,8 @@
 
 use crate::fault::Fault;
 use crate::names::Name;
-use crate::nodes::Title;
 use crate::places::{PlaceId, Places, WHOLE};
 use crate::shortened::{shortened, without_middle};
-use avro_cursor::text_of;
 use serde_json::Value;
 use std::alloc::{AllocError, Global};
 
@@ -39,14 +37,6 @@ fn full(alloc: Global, name: Name<'_>) -> Result<String, AllocError> {
     printable(alloc, &name)
 }
 
-/// What a type is called.
-fn called(alloc: Global, title: Title<'_>) -> Result<String, AllocError> {
-    match title {
-        Title::Kind(kind) => String::from_str(alloc, kind),
-        Title::Name(name) => full(alloc, name),
-    }
-}
-
 /// A place by its pointer. The whole text, whose pointer is empty, is called the root.
 fn place_words(alloc: Global, places: &Places<'_>, place: PlaceId) -> Result<String, AllocError> {
     if place == WHOLE {
@@ -55,89 +45,49 @@ fn place_words(alloc: Global, places: &Places<'_>, place: PlaceId) -> Result<Str
     places.pointer(alloc, place)
 }
 
-/// The number at an offset, as it is written.
-fn number_at(text: &[u8], offset: usize) -> &str {
-    let rest = text.get(offset..).unwrap_or(&[]);
-    let mut end = 0usize;
-    for byte in rest {
-        if !matches!(*byte, b'0'..=b'9' | b'-' | b'+' | b'.' | b'e' | b'E') {
-            break;
-        }
-        end = end.saturating_add(1);
-    }
-    text_of(rest.get(..end).unwrap_or(&[])).unwrap_or("")
-}
-
-/// A fault of the value at an offset, in words.
+/// A fault in words.
 pub(crate) fn words_of(
     alloc: Global,
-    text: &[u8],
-    places: &Places<'_>,
-    offset: usize,
-    fault: Fault<'_>,
-) -> Result<String, AllocError> {
-    match fault {
-        Fault::NotInteger => {
-            let number = printable(alloc, number_at(text, offset))?;
-            format!(in alloc; "{number} is not a 64-bit integer")
-        }
-        Fault::Defined(name, first) => {
-            let name = full(alloc, name)?;
-            let place = place_words(alloc, places, first)?;
-            format!(in alloc; "duplicate type {name}, first defined at {place}")
-        }
-        Fault::Branch(..) | Fault::Symbol(..) | Fault::FieldName(..) => {
-            words_of_duplicate(alloc, places, fault)
-        }
-        other => words_of_name(alloc, other),
-    }
-}
-
-/// The words of a duplicate.
-fn words_of_duplicate(
-    alloc: Global,
     places: &Places<'_>,
     fault: Fault<'_>,
 ) -> Result<String, AllocError> {
-    let (what, name, first) = match fault {
-        Fault::Branch(title, first) => ("branch", called(alloc, title)?, first),
-        Fault::Symbol(name, first) => ("symbol", printable(alloc, name)?, first),
-        Fault::FieldName(name, first) => ("field name", printable(alloc, name)?, first),
-        _ => return Ok(String::new(alloc)),
+    let (before, name, after) = parts_of(fault);
+    let name = full(alloc, name)?;
+    let end = match fault {
+        Fault::Must(_, what) => String::from_str(alloc, what)?,
+        Fault::Defined(_, first)
+        | Fault::Branch(_, first)
+        | Fault::Symbol(_, first)
+        | Fault::FieldName(_, first) => place_words(alloc, places, first)?,
+        _ => String::new(alloc),
     };
-    let place = place_words(alloc, places, first)?;
-    format!(in alloc; "duplicate {what} {name}, first at {place}")
+    format!(in alloc; "{before}{name}{after}{end}")
 }
 
-/// The words of a fault that names a type.
-fn words_of_name(alloc: Global, fault: Fault<'_>) -> Result<String, AllocError> {
+/// The words of a fault, around a name. What a value must be, or the place of the first of two values, comes after them.
+fn parts_of(fault: Fault<'_>) -> (&'static str, Name<'_>, &'static str) {
     match fault {
-        Fault::Undefined(name) => {
-            let name = full(alloc, name)?;
-            format!(in alloc; "unknown type {name} (a type must be defined before it is used)")
-        }
-        Fault::NoName(name) => {
-            let name = printable(alloc, name)?;
-            format!(in alloc; "\"{name}\" is not a valid name")
-        }
-        Fault::Default(title) => {
-            let name = called(alloc, title)?;
-            format!(in alloc; "the default is not a valid {name}")
-        }
-        other => words_of_kind(alloc, other),
-    }
-}
-
-/// The words of a fault of an attribute or of a kind of type.
-fn words_of_kind(alloc: Global, fault: Fault<'_>) -> Result<String, AllocError> {
-    match fault {
-        Fault::PrimitiveName(name) => {
-            format!(in alloc; "{name} is a primitive type and cannot be defined")
-        }
-        Fault::Missing(key) => format!(in alloc; "missing \"{key}\""),
-        Fault::Must(key, what) => format!(in alloc; "\"{key}\" must be {what}"),
-        Fault::Unsupported(kind) => format!(in alloc; "{kind} is not supported"),
-        other => String::from_str(alloc, fixed_words(other)),
+        Fault::Undefined(name) => (
+            "unknown type ",
+            name,
+            " (a type must be defined before it is used)",
+        ),
+        Fault::Defined(name, _) => ("duplicate type ", name, ", first defined at "),
+        Fault::NoName(text) => ("\"", Name::plain(text), "\" is not a valid name"),
+        Fault::PrimitiveName(text) => (
+            "",
+            Name::plain(text),
+            " is a primitive type and cannot be defined",
+        ),
+        Fault::Missing(key) => ("missing \"", Name::plain(key), "\""),
+        Fault::Must(key, _) => ("\"", Name::plain(key), "\" must be "),
+        Fault::Branch(name, _) => ("duplicate branch ", name, ", first at "),
+        Fault::Symbol(text, _) => ("duplicate symbol ", Name::plain(text), ", first at "),
+        Fault::FieldName(text, _) => ("duplicate field name ", Name::plain(text), ", first at "),
+        Fault::Default(name) => ("the default is not a valid ", name, ""),
+        Fault::Unsupported(kind) => ("", Name::plain(kind), " is not supported"),
+        Fault::NotInteger(text) => ("", Name::plain(text), " is not a 64-bit integer"),
+        other => (fixed_words(other), Name::plain(""), ""),
     }
 }
 
