@@ -142,7 +142,8 @@ surface: ## tests the public items and their libraries against checks/surface.py
 	checks/surface.py
 	checks/pages.py --check
 
-words: surface ## tests these, the words and codes of the man page and completions, and the table of the headline (five seconds)
+words: surface ## tests these, the edits that they have to find, the words and codes of the man page and completions, and the table of the headline (ten seconds)
+	checks/try_surface.py
 	checks/words.py
 	checks/headline.py
 
