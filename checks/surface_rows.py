@@ -232,7 +232,7 @@ indexmap avro_why/src/nodes.rt indexmap::IndexMap<&str>
 """
 
 # The reasons of the exceptions.
-KEYS = "keys of data or of metadata, in the order of their bytes"
+KEYS = "keys of data or of metadata, which are no names of a schema"
 ORDERED = "a display has the names of fields in the order of their bytes"
 SORTED = "that no name repeats is told by sorting references; nothing is looked up there"
 LISTED = "the texts of one array with their places, in their order; none is looked up there"
@@ -240,12 +240,12 @@ FILLED = "the keys are numbers, as the head of the function says that fills it"
 CUT = "a long text is cut at the start of a character; what is left is checked by text_of"
 SPELLED = "the canonical form is JSON whose attributes have an order of their own, which no Map of serde_json keeps; a clause spells it"
 TOKEN = "a token of a display; a clause says that the whole is serde_json's text"
-MEMBER = "a boolean in a line of --json; a clause says that the whole is serde_json's text"
+MEMBER = "a boolean in a line of JSON; a clause says that the whole is serde_json's text"
 AROUND = "brackets around what a writer has made; a clause says that the whole is serde_json's text"
-LINE = "constant members of a line of --json; a clause or a test spells the line"
+LINE = "constant members of a line of JSON; a clause or a test spells the line"
 STEP = "an entry in a path, which is no JSON"
-QUOTED = "a message has a word in quotes; it is no JSON"
-SCANNED = "a byte that is looked for in JSON, where none is written"
+QUOTED = "a message has a word in quotes, or without those that serde_json puts; it is no JSON"
+SCANNED = "a byte that is looked for; none is written"
 
 # What stands by hand nonetheless: the rule, the file, the reason, and each thing that stands there, with how often.
 EXCEPTIONS = [
