@@ -131,11 +131,9 @@ class Defaults:
         if isinstance(schema, list):
             return self.read_branch(value, schema, namespace)
         word = word_of(schema)
-        if isinstance(word, str) and word not in PRIMITIVES and word not in ATTRIBUTES:
+        if isinstance(word, str) and word not in PRIMITIVES and (isinstance(schema, str) or word not in ATTRIBUTES):
             schema, namespace = self.named(qualified(word, namespace))
             word = schema["type"]
-        if word in ATTRIBUTES and not isinstance(schema, dict):
-            raise Unfit
         if word in ("array", "map", "record", "error"):
             return self.read_parts(value, word, schema, namespace)
         return self.read_leaf(value, word, schema, namespace), []
