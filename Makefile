@@ -24,7 +24,7 @@ ARCHIVE := packaging/out/avro-$(VERSION)-x86_64-linux.tar.gz
 
 # What lies below share/avro under the paths that it has here.
 PAGES := README.md CHANGELOG.md $(wildcard docs/*)
-SCRIPTS := $(filter-out $(wildcard examples/*/try* examples/*/*_files.py examples/*/look.py examples/*/__pycache__), \
+SCRIPTS := $(filter-out $(wildcard examples/*/try* examples/*/*_files.py examples/*/look.py examples/*/__pycache__) examples/ci/breaking, \
 	$(wildcard examples/*.* examples/*/*))
 BINDINGS := $(wildcard bindings/c/example.c bindings/python/*.* bindings/java/pom.xml bindings/java/src/main/java/org/avrojudge/*)
 

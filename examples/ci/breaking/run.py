@@ -21,7 +21,7 @@ from .ending import FAILED, NO_MEMORY, SECONDS, SECONDS_OF_TEXT, USAGE, Stop, st
 from .git import Blobs, git
 from .history import History
 from .judging import OUTCOMES, FileJudge, worst
-from .log import Log, complain, quoted
+from .log import Log, complain, in_quotes, quoted
 from .options import Options, read_words
 from .trees import Tree, Version, WorkingTree
 
@@ -128,7 +128,8 @@ class Reading:
 
 
 def in_single_quotes(path: str) -> str:
-    return f"'{path}'" if quoted(path) == path else quoted(path)
+    written = in_quotes(path)
+    return f"'{path}'" if written == f'"{path}"' else written
 
 
 def modules_told(tree: Tree) -> str:
