@@ -23,7 +23,7 @@ from typing import Iterator, NamedTuple
 ROOT = Path(__file__).resolve().parent.parent
 CRATES = ROOT / "crates"
 # The crates that test others: their sources name the items, and none of the libraries' rules holds for them.
-TESTS = ("avro_data_tests", "avro_answer_tests", "avro_runs", "avro_samples")
+TESTS = ("avro_data_tests", "avro_answer_tests", "avro_calls", "avro_runs", "avro_samples")
 
 # The public items by crate. A call that takes memory takes the allocator first, behind `self` and the runtime, unless what
 # it grows has one.

@@ -1,12 +1,12 @@
 //! Sheets: texts of steps, a line each, that make files, run the program, and tell what it did.
 
-use crate::escapes::{bytes_of, halves};
 use crate::files::file_step;
-use crate::steps::{Sheet, room_step, run_step, usage_step};
+use crate::steps::{Sheet, call_step, limits_step, room_step, run_step, usage_step};
 use crate::told::{
     about_step, any_step, json_step, pointer_step, size_step, told_step, writes_step,
 };
-use anyhow::{Error, Result, anyhow};
+use anyhow::{Context, Error, Result, anyhow};
+use avro_calls::{bytes_of, halves};
 use std::rt::{Clock, Files};
 
 /// What the program reads in later runs.
@@ -29,6 +29,7 @@ fn next_step<R: Files + Clock + AllocGlobal>(
     match word {
         "run" => run_step(rt, sheet, text),
         "room" => room_step(rt, sheet, text),
+        "call" => call_step(rt.alloc(), sheet, text),
         _ => usage_step(rt, sheet, text),
     }
 }
@@ -42,7 +43,7 @@ fn step<R: Files + Clock + AllocGlobal>(
 ) -> Result<bool> {
     match word {
         "" | "#" => Ok(true),
-        "run" | "room" | "usage" => next_step(rt, sheet, word, text),
+        "run" | "room" | "usage" | "call" => next_step(rt, sheet, word, text),
         "out" | "err" | "put" => told_step(rt.alloc(), sheet, word, text),
         "about" => Ok(about_step(sheet, text)),
         "writes" => Ok(writes_step(sheet, text)),
@@ -51,6 +52,7 @@ fn step<R: Files + Clock + AllocGlobal>(
         "json" => json_step(rt.alloc(), sheet),
         "at" => pointer_step(rt.alloc(), sheet, text),
         "input" => input_step(rt, sheet, text),
+        "limits" => Ok(limits_step(sheet, text)),
         _ => file_step(rt, word, text),
     }
 }
@@ -75,6 +77,8 @@ fn fault(line: &str, sheet: &Sheet) -> Error {
 /// | `run STATUS WORDS` | a run, with its exit status |
 /// | `room ROOM STATUS WORDS` | the same, where the output takes only some bytes |
 /// | `usage WORDS` | a run whose words are usage |
+/// | `call NAME TEXT` | a call of a library, of which `avro_calls` has the list; what is answered is its output |
+/// | `limits DEPTH NODES CONTENTS` | the limits of data of later calls |
 /// | `out TEXT`, `err TEXT` | the next line of its output, or of its errors |
 /// | `about FRONT~BACK` | how the next line of its errors begins and ends, behind its last carriage return |
 /// | `put BYTES`, `size NUMBER` | the next bytes of its output, or only how many there are |
@@ -93,7 +97,7 @@ pub(crate) fn check_sheet<R: Files + Clock + AllocGlobal>(rt: &R, lines: &str) -
     let mut sheet = Sheet::new(rt.alloc());
     for line in lines.lines() {
         let (word, text) = halves(line);
-        if !step(rt, &mut sheet, word, text)? {
+        if !step(rt, &mut sheet, word, text).context(line)? {
             return Err(fault(line, &sheet));
         }
     }
