@@ -13,7 +13,7 @@ from typing import Iterator
 ROOT = Path(__file__).resolve().parent.parent
 CRATES = ROOT / "crates"
 # The crates that test others: their sources name the items, and none of the libraries' rules holds for them.
-TESTS = ("avro_data_tests", "avro_answer_tests", "avro_runs", "avro_samples")
+TESTS = ("avro_data_tests", "avro_answer_tests", "avro_calls", "avro_runs", "avro_samples")
 
 # Texts that stand for those of these files, while an edit is tried.
 EDITED: dict[Path, str] = {}

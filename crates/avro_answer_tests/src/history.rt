@@ -1,4 +1,4 @@
-//! Texts of histories.
+//! A history of no schemas.
 
 use avro_history::{HistoryCert, confirm_history};
 use avro_schema::Memory;
@@ -6,37 +6,9 @@ use avro_schema_json::read_schema;
 use std::alloc::Global;
 use std::test::Fail;
 
-/// The certificates of an int and of a long for a union of a long and a string.
-const TWO: &str =
-    "history 1\napproval 1\npair 0 0\npair 0 1\nend\napproval 1\npair 0 0\npair 0 1\nend\nend\n";
-
-/// Texts of histories.
-const TEXTS: [&str; 3] = [
-    "history 1\nend\n",
-    TWO,
-    "history 1\napproval 1\ndead 0\nend\nend\n",
-];
-
 /// Whether a history is written as this text.
 fn is_written(alloc: Global, history: &HistoryCert, text: &str) -> Result<bool, Memory> {
     Ok(history.write(alloc)?.as_slice() == text.as_bytes())
-}
-
-/// The first text, if any, that is written as another one.
-fn wrong_text(alloc: Global, texts: &[&'static str]) -> Result<Option<&'static str>, Fail> {
-    for text in texts {
-        let history = HistoryCert::read(alloc, text.as_bytes())?;
-        if !is_written(alloc, &history, text)? {
-            return Ok(Some(text));
-        }
-    }
-    Ok(None)
-}
-
-#[test]
-fn texts_of_histories_are_read_and_written(rt: HostRuntime) -> Result<(), Fail> {
-    assert_eq!(rt; wrong_text(rt.alloc(), &TEXTS[..])?, None);
-    Ok(())
 }
 
 /// How many approvals a history confirms of no schemas, if it confirms them.

@@ -1,108 +1,10 @@
-//! Reading by a builder: the same data, lengths and faults as `decode` and `walk`.
+//! What builders build.
 
-use avro_binary::{decode, walk};
 use avro_resolve::{Build, Nothing, Tree, read_own};
 use avro_schema::{Datum, Limits, Schema};
 use avro_schema_json::read_schema;
 use std::alloc::{AllocError, Global};
 use std::test::Fail;
-
-/// Whether `decode` returns the same as the builder of trees, of the root of a schema.
-fn trees_agree(alloc: Global, schema: &Schema, bytes: &[u8], limits: &Limits) -> bool {
-    let built = read_own(alloc, schema, bytes, limits, &mut Tree);
-    decode(alloc, schema, schema.root(), bytes, limits) == built
-}
-
-/// Whether `walk` returns the same as the builder of nothing.
-fn passes_agree(alloc: Global, schema: &Schema, bytes: &[u8], limits: &Limits) -> bool {
-    let passed = read_own(alloc, schema, bytes, limits, &mut Nothing);
-    passed == walk(alloc, schema, schema.root(), bytes, limits).map(|len| ((), len))
-}
-
-/// Whether each reader returns the same for these bytes, under limits, as its builder does.
-fn agree(alloc: Global, text: &str, bytes: &[u8], limits: &Limits) -> Result<bool, Fail> {
-    let schema = read_schema(alloc, text.as_bytes())?;
-    Ok(trees_agree(alloc, &schema, bytes, limits) && passes_agree(alloc, &schema, bytes, limits))
-}
-
-/// Schemas' texts, and bytes that are read or refused.
-const KINDS: [(&str, &[u8]); 16] = [
-    ("\"null\"", b""),
-    ("\"boolean\"", b"\x01"),
-    ("\"boolean\"", b"\x02"),
-    ("\"int\"", b"\xfe\xff\xff\xff\x0f"),
-    ("\"long\"", b"\x80\x01\xff"),
-    ("\"bytes\"", b"\x04\xff\x00"),
-    ("\"string\"", b"\x06foo"),
-    ("\"string\"", b"\x02\xff"),
-    (
-        "{\"type\":\"fixed\",\"name\":\"F\",\"size\":2}",
-        b"\x01\x02",
-    ),
-    (
-        "{\"type\":\"enum\",\"name\":\"E\",\"symbols\":[\"A\",\"B\"]}",
-        b"\x02",
-    ),
-    ("[\"null\",\"string\"]", b"\x02\x02a"),
-    (
-        "{\"type\":\"array\",\"items\":\"long\"}",
-        b"\x03\x04\x06\x36\x00",
-    ),
-    (
-        "{\"type\":\"array\",\"items\":\"long\"}",
-        b"\x03\x06\x06\x36\x00",
-    ),
-    (
-        "{\"type\":\"map\",\"values\":\"int\"}",
-        b"\x04\x02a\x02\x02b\x04\x00",
-    ),
-    (
-        "{\"type\":\"map\",\"values\":\"int\"}",
-        b"\x04\x02a\x02\x02a\x04\x00",
-    ),
-    (
-        "{\"type\":\"record\",\"name\":\"R\",\"fields\":[{\"name\":\"a\",\"type\":\"long\"},{\"name\":\"b\",\"type\":[\"null\",\"R\"]}]}",
-        b"\x36\x02\x06\x00",
-    ),
-];
-
-/// The text of the first row, if any, for which the readers do not agree.
-fn wrong_kind(alloc: Global, rows: &[(&'static str, &[u8])]) -> Result<Option<&'static str>, Fail> {
-    let limits = Limits::default();
-    for (text, bytes) in rows {
-        if !agree(alloc, text, bytes, &limits)? {
-            return Ok(Some(text));
-        }
-    }
-    Ok(None)
-}
-
-#[test]
-fn builders_read_each_kind(rt: HostRuntime) -> Result<(), Fail> {
-    assert_eq!(rt; wrong_kind(rt.alloc(), &KINDS[..])?, None);
-    Ok(())
-}
-
-/// Limits on depth, nodes and contents.
-const WITHIN: [(u32, u32, u32); 4] = [(2, 3, 2), (1, 3, 2), (2, 2, 2), (2, 3, 1)];
-
-/// The first limits, if any, under which the readers do not agree on an array of two texts.
-fn wrong_limits(alloc: Global, rows: &[(u32, u32, u32)]) -> Result<Option<(u32, u32, u32)>, Fail> {
-    let text = "{\"type\":\"array\",\"items\":\"string\"}";
-    for (depth, nodes, blob) in rows {
-        let limits = Limits::new(*depth, *nodes, *blob).ok_or("no limits")?;
-        if !agree(alloc, text, b"\x04\x02a\x04bc\x00", &limits)? {
-            return Ok(Some((*depth, *nodes, *blob)));
-        }
-    }
-    Ok(None)
-}
-
-#[test]
-fn builders_keep_the_limits(rt: HostRuntime) -> Result<(), Fail> {
-    assert_eq!(rt; wrong_limits(rt.alloc(), &WITHIN[..])?, None);
-    Ok(())
-}
 
 /// The bytes of a map of a union, and one more.
 const MAP: &[u8] = b"\x04\x02a\x02\x80\x01\x02b\x00\x00\xff";

@@ -1,10 +1,10 @@
-//! Public items by the paths that callers have for them, where no other test names them: a cursor over bytes, how two nodes
-//! relate, what resolution refuses, and laws.
+//! Public items by the paths that callers have for them, where no other test names them: a cursor over bytes, what
+//! resolution refuses, and laws.
 
 use avro_binary::laws::prefix;
 use avro_binary::{Cursor, Keys, ReadError};
 use avro_canonical::laws::{read_again, same_encodings};
-use avro_resolve::{FaultKind, ResolveError, first_match, matches, resolve, source};
+use avro_resolve::{FaultKind, ResolveError, resolve, source};
 use avro_schema::{Datum, Limits, Node, NodeId, Schema, fits};
 use avro_schema_json::read_schema;
 use std::alloc::Global;
@@ -101,45 +101,6 @@ fn wrong_element(alloc: Global, elements: &[Element]) -> Result<Option<usize>, R
 #[test]
 fn a_cursor_reads_each_element(rt: HostRuntime) -> Result<(), Fail> {
     assert_eq!(rt; wrong_element(rt.alloc(), &ELEMENTS[..])?, None);
-    Ok(())
-}
-
-/// Texts of the writer's and the reader's schema, whether they match, and the first branch that does.
-type Pair = (&'static str, &'static str, bool, Option<usize>);
-
-/// Such texts.
-const PAIRS: [Pair; 3] = [
-    ("\"int\"", "[\"string\",\"long\"]", true, Some(1)),
-    ("\"int\"", "\"long\"", true, None),
-    ("\"long\"", "\"int\"", false, None),
-];
-
-/// Whether two schemas relate so.
-fn relate(writer: &Schema, reader: &Schema, pair: &Pair) -> bool {
-    let (w, r) = (writer.root(), reader.root());
-    matches(writer, w, reader, r) == pair.2 && first_match(writer, w, reader, r) == pair.3
-}
-
-/// The same for the text of the reader's.
-fn relate_for(alloc: Global, writer: &Schema, pair: &Pair) -> Result<bool, Fail> {
-    let reader = read_schema(alloc, pair.1.as_bytes())?;
-    Ok(relate(writer, &reader, pair))
-}
-
-/// The number of the first pair, if any, that relates otherwise.
-fn wrong_pair(alloc: Global, pairs: &[Pair]) -> Result<Option<usize>, Fail> {
-    for (number, pair) in pairs.iter().enumerate() {
-        let writer = read_schema(alloc, pair.0.as_bytes())?;
-        if !relate_for(alloc, &writer, pair)? {
-            return Ok(Some(number));
-        }
-    }
-    Ok(None)
-}
-
-#[test]
-fn nodes_match_and_branches_do(rt: HostRuntime) -> Result<(), Fail> {
-    assert_eq!(rt; wrong_pair(rt.alloc(), &PAIRS[..])?, None);
     Ok(())
 }
 

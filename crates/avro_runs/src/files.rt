@@ -1,7 +1,7 @@
 //! Steps that make files, and that look at them.
 
-use crate::escapes::{bytes_of, halves, text_of};
 use anyhow::Result;
+use avro_calls::{bytes_of, halves, text_of};
 use avro_samples::{Text, built};
 use std::alloc::{AllocError, Global};
 use std::fs;

@@ -2,7 +2,6 @@
 #![tactic(auto)]
 
 mod devices;
-mod escapes;
 mod files;
 mod inputs;
 mod memory;

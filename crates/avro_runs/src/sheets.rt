@@ -1,13 +1,13 @@
 //! Sheets: texts of steps, a line each, that make files, run the program, and tell what it did.
 
-use crate::escapes::{bytes_of, halves};
 use crate::files::file_step;
 use crate::refused::refuse_step;
-use crate::steps::{Sheet, room_step, run_step, usage_step};
+use crate::steps::{Sheet, call_step, limits_step, room_step, run_step, usage_step};
 use crate::told::{
     about_step, any_step, json_step, pointer_step, size_step, told_step, writes_step,
 };
-use anyhow::{Error, Result, anyhow};
+use anyhow::{Context, Error, Result, anyhow};
+use avro_calls::{bytes_of, halves};
 use std::rt::{Clock, Files};
 
 /// What the program reads in later runs.
@@ -31,6 +31,7 @@ fn next_step<R: Files + Clock + AllocGlobal>(
         "run" => run_step(rt, sheet, text),
         "room" => room_step(rt, sheet, text),
         "refuse" => refuse_step(rt, sheet, text),
+        "call" => call_step(rt.alloc(), sheet, text),
         _ => usage_step(rt, sheet, text),
     }
 }
@@ -44,7 +45,7 @@ fn step<R: Files + Clock + AllocGlobal>(
 ) -> Result<bool> {
     match word {
         "" | "#" => Ok(true),
-        "run" | "room" | "refuse" | "usage" => next_step(rt, sheet, word, text),
+        "run" | "room" | "refuse" | "usage" | "call" => next_step(rt, sheet, word, text),
         "out" | "err" | "put" => told_step(rt.alloc(), sheet, word, text),
         "about" => Ok(about_step(sheet, text)),
         "writes" => Ok(writes_step(sheet, text)),
@@ -53,6 +54,7 @@ fn step<R: Files + Clock + AllocGlobal>(
         "json" => json_step(rt.alloc(), sheet),
         "at" => pointer_step(rt.alloc(), sheet, text),
         "input" => input_step(rt, sheet, text),
+        "limits" => Ok(limits_step(sheet, text)),
         _ => file_step(rt, word, text),
     }
 }
@@ -78,6 +80,8 @@ fn fault(line: &str, sheet: &Sheet) -> Error {
 /// | `room ROOM STATUS WORDS` | the same, where the output takes only some bytes |
 /// | `refuse NAME STATUS WORDS` | the same, where the memory for opening this file is refused |
 /// | `usage WORDS` | a run whose words are usage |
+/// | `call NAME TEXT` | a call of a library, of which `avro_calls` has the list; what is answered is its output |
+/// | `limits DEPTH NODES CONTENTS` | the limits of data of later calls |
 /// | `out TEXT`, `err TEXT` | the next line of its output, or of its errors |
 /// | `about FRONT~BACK` | how the next line of its errors begins and ends, behind its last carriage return |
 /// | `put BYTES`, `size NUMBER` | the next bytes of its output, or only how many there are |
@@ -96,7 +100,7 @@ pub(crate) fn check_sheet<R: Files + Clock + AllocGlobal>(rt: &R, lines: &str) -
     let mut sheet = Sheet::new(rt.alloc());
     for line in lines.lines() {
         let (word, text) = halves(line);
-        if !step(rt, &mut sheet, word, text)? {
+        if !step(rt, &mut sheet, word, text).context(line)? {
             return Err(fault(line, &sheet));
         }
     }

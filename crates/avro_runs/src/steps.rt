@@ -1,8 +1,9 @@
 //! Steps that run the program.
 
 use crate::devices::{Given, Kept};
-use crate::escapes::{halves, text_of};
 use anyhow::Result;
+use avro_calls::{call, halves, text_of};
+use avro_schema::Limits;
 use avro_tool::run;
 use std::alloc::{AllocError, Global};
 use std::rt::{Clock, Files};
@@ -19,6 +20,15 @@ pub(crate) struct Outcome {
 }
 
 impl Outcome {
+    /// Nothing written.
+    fn new(alloc: Global) -> Outcome {
+        Outcome {
+            status: 0,
+            out: Kept::with_room(alloc, 0),
+            err: Kept::with_room(alloc, 0),
+        }
+    }
+
     /// Whether the status, the output and the errors are these.
     pub(crate) fn is(&self, status: u8, out: &[u8], err: &[u8]) -> bool {
         let same = self.out.bytes.as_slice() == out && self.err.bytes.as_slice() == err;
@@ -31,6 +41,8 @@ impl Outcome {
 pub(crate) struct Sheet {
     /// What a run reads.
     pub(crate) input: Vec<u8>,
+    /// The limits of data of a call.
+    pub(crate) limits: Limits,
     /// How many times the input was read.
     pub(crate) reads: usize,
     /// What the run did.
@@ -48,12 +60,9 @@ impl Sheet {
     pub(crate) fn new(alloc: Global) -> Sheet {
         Sheet {
             input: Vec::new(alloc),
+            limits: Limits::default(),
             reads: 0,
-            ran: Outcome {
-                status: 0,
-                out: Kept::with_room(alloc, 0),
-                err: Kept::with_room(alloc, 0),
-            },
+            ran: Outcome::new(alloc),
             out_told: 0,
             err_told: 0,
             runs: 0,
@@ -157,4 +166,36 @@ pub(crate) fn usage_step<R: Files + Clock + AllocGlobal>(
     let len = err.len();
     sheet.err_told = len;
     Ok(sheet.ran.status == 64 && sheet.reads == 0 && told)
+}
+
+/// A call, `NAME TEXT`.
+pub(crate) fn call_step(alloc: Global, sheet: &mut Sheet, line: &str) -> Result<bool> {
+    let mut ran = Outcome::new(alloc);
+    let is_known = call(alloc, &sheet.limits, line, &mut ran.out.bytes)?;
+    sheet.ran = ran;
+    sheet.out_told = 0;
+    sheet.err_told = 0;
+    Ok(is_known)
+}
+
+/// The limits of data of later calls, `DEPTH NODES CONTENTS`.
+pub(crate) fn limits_step(sheet: &mut Sheet, text: &str) -> bool {
+    match limits_of(text) {
+        Some(limits) => {
+            sheet.limits = limits;
+            true
+        }
+        None => false,
+    }
+}
+
+/// The limits of three numbers.
+fn limits_of(text: &str) -> Option<Limits> {
+    let (depth, others) = halves(text);
+    let (nodes, contents) = halves(others);
+    Limits::new(
+        depth.parse::<u32>().ok()?,
+        nodes.parse::<u32>().ok()?,
+        contents.parse::<u32>().ok()?,
+    )
 }

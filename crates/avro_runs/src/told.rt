@@ -1,8 +1,8 @@
 //! Steps that tell what the last run wrote.
 
-use crate::escapes::{bytes_of, halves, text_of};
 use crate::steps::Sheet;
 use anyhow::Result;
+use avro_calls::{bytes_of, halves, text_of};
 use serde_json::Value;
 use std::alloc::Global;
 

@@ -30,7 +30,7 @@ fn byte_of(kind: &[u8], digits: &[u8]) -> Result<u8> {
 }
 
 /// The bytes that a text stands for.
-pub(crate) fn bytes_of(alloc: Global, text: &str) -> Result<Vec<u8>> {
+pub fn bytes_of(alloc: Global, text: &str) -> Result<Vec<u8>> {
     let mut bytes = Vec::new(alloc);
     let mut is_first = true;
     for piece in text.split('\\') {
@@ -45,7 +45,7 @@ pub(crate) fn bytes_of(alloc: Global, text: &str) -> Result<Vec<u8>> {
 }
 
 /// The text that a text stands for.
-pub(crate) fn text_of(alloc: Global, text: &str) -> Result<String> {
+pub fn text_of(alloc: Global, text: &str) -> Result<String> {
     let bytes = bytes_of(alloc, text)?;
     match str::from_utf8(&bytes) {
         Ok(text) => Ok(String::from_str(alloc, text)?),
@@ -54,6 +54,6 @@ pub(crate) fn text_of(alloc: Global, text: &str) -> Result<String> {
 }
 
 /// A text up to the first blank, and what comes after that.
-pub(crate) fn halves(text: &str) -> (&str, &str) {
+pub fn halves(text: &str) -> (&str, &str) {
     text.split_once(' ').unwrap_or((text, ""))
 }
