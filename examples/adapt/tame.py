@@ -132,12 +132,9 @@ class Defaults:
             return self.read_branch(value, schema, namespace)
         word = word_of(schema)
         # A string is a primitive or a reference, and never a kind: a type may be called `record`.
-        is_reference = isinstance(word, str) and word not in PRIMITIVES
-        if is_reference and (isinstance(schema, str) or word not in ATTRIBUTES):
+        if isinstance(word, str) and word not in PRIMITIVES and (isinstance(schema, str) or word not in ATTRIBUTES):
             schema, namespace = self.named(qualified(word, namespace))
             word = schema["type"]
-        if word in ATTRIBUTES and not isinstance(schema, dict):
-            raise Unfit
         if word in ("array", "map", "record", "error"):
             return self.read_parts(value, word, schema, namespace)
         return self.read_leaf(value, word, schema, namespace), []

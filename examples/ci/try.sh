@@ -1,18 +1,20 @@
 #!/usr/bin/env bash
 # Tries what stands in this folder in scratch repositories of git: the check, the hook, the hook of the framework
 # pre-commit (where `pre-commit` is on the PATH), and the lines of the workflow, which needs Python's module yaml. Then
-# it spoils the check in several ways, and each must be found.
+# it spoils the check, the hooks and a filter in several ways, and each must be found.
 #
-#     try.sh [PROGRAM]
+#     try.sh [PROGRAM [FUNCTION..]]
 #
-# PROGRAM is $AVRO where it is not given, and else avro on the PATH. The last line says how much was tried; the status
-# is 0 where all went as it must.
+# PROGRAM is $AVRO where it is not given, and else avro on the PATH. With FUNCTION only these are tried, and what is
+# planted for them. The last line says how much was tried; the status is 0 where all went as it must.
 set -euo pipefail
 
 here=$(cd "$(dirname "${BASH_SOURCE[0]}")" && pwd)
 orders=$here/..
 program=$(realpath "$(command -v "${1:-${AVRO:-avro}}")")
-script=$here/avro-breaking
+shift $(($# > 0))
+# What is tried: the check and the hooks, and the filters.
+files=$here
 adapt=$here/../adapt
 unset AVRO AVRO_BREAKING BUNDLE GITHUB_ACTIONS
 work=$(mktemp -d)
@@ -30,7 +32,7 @@ repository() { # NAME
   cd "$(mktemp -d "$work/$1.XXXXXX")"
   git init -q
   mkdir tools
-  cp "$script" tools/avro-breaking
+  cp "$files/avro-breaking" tools
   cp "$adapt"/*.py tools
   printf '#!/bin/sh\nexec "%s" "$@"\n' "$program" > tools/avro
   chmod +x tools/avro
@@ -107,7 +109,7 @@ try_check() {
   exactly 0 '1 schema against v2: 1 yes' avro-breaking
   expect 1 "$order: v2: no" avro-breaking --staged
   expect 1 "$order: v2: no" env -C schemas avro-breaking --staged
-  expect 1 "::error file=$order::v2: no%0Afault MissingField 2 at /3/0%0A" \
+  expect 1 "::error file=$order,line=14::v2: no%0Afault MissingField 2 at /3/0%0A" \
     env GITHUB_ACTIONS=true avro-breaking --staged
   git reset -q --hard
   expect 0 'usage: avro-breaking [--staged]' avro-breaking --help
@@ -116,7 +118,6 @@ try_check() {
   expect 64 'more than one BASE' avro-breaking v1 v2
   expect 64 'a BASE, and --all or --since' avro-breaking v1 --all
   exactly 4 'avro-breaking: nowhere: no such program' env AVRO=nowhere avro-breaking
-  exactly 4 'avro-breaking: /bin/true: is another program' env AVRO=/bin/true avro-breaking
   exactly 64 'avro-breaking: git rev-parse: fatal: not a git repository (or any of the parent directories): .git' \
     env -C "$work" avro-breaking
 }
@@ -127,7 +128,7 @@ try_faults() {
   cp "$orders/order-1.avsc" schemas/order.avsc
   commit 'an order' v2
   echo '"double"' > new.avsc
-  expect 3 $'new.avsc: avro: ./new.avsc: S10\n    ./new.avsc:1:1: ' avro-breaking
+  expect 3 $'new.avsc: avro: new.avsc: S10\n    new.avsc:1:1: ' avro-breaking
   expect 3 $'\n''2 schemas against v2: 1 yes, 1 refused' avro-breaking
   rm new.avsc
   git mv schemas/order.avsc order.avsc
@@ -169,31 +170,28 @@ try_paths() {
   exactly 0 '0 schemas against v2' avro-breaking --changed
 }
 
-# Names that a shell, git or a workflow of GitHub takes for something else.
+# Names that a shell, git or a log takes for something else.
 try_names() {
-  local forged=$'a\n::error file=b,line=1::c.avsc' colons='::error file=x::y.avsc'
+  local forged=$'a\n::error file=b,line=1::c.avsc' colons='::error file=x::y.avsc' name
   repository names
   cp "$orders/order-1.avsc" order.avsc
   commit 'an order' v1
   echo '"strnig"' > ./-x.avsc
-  expect 3 '-x.avsc: avro: ./-x.avsc: S2' avro-breaking
-  expect 3 '-x.avsc: avro: ./-x.avsc: S2' avro-breaking -- '-x.avsc'
+  expect 3 '-x.avsc: avro: -x.avsc: S2' avro-breaking
+  expect 3 '-x.avsc: avro: -x.avsc: S2' avro-breaking -- '-x.avsc'
   git add -A
-  expect 3 '-x.avsc: avro: ./-x.avsc: S2' avro-breaking --staged
+  expect 3 '-x.avsc: avro: -x.avsc: S2' avro-breaking --staged
   git rm -qf ./-x.avsc
-  echo '"strnig"' > "$colons"
-  echo '"strnig"' > "$forged"
-  echo '"strnig"' > $'caf\xe9.avsc'
-  echo '"strnig"' > 'a, 50%.avsc'
-  expect 3 'a\u{a}\u{3a}\u{3a}error file=b,line=1\u{3a}\u{3a}c.avsc: avro: ./a\u{a}' avro-breaking
-  expect 3 'caf\u{dce9}.avsc: avro: ./caf\u{dce9}.avsc: S2' avro-breaking
-  exactly 3 '::error file=%3A%3Aerror file=x%3A%3Ay.avsc::avro
-::error file=a%0A%3A%3Aerror file=b%2Cline=1%3A%3Ac.avsc::avro
-::error file=a%2C 50%25.avsc::avro
-::error file=caf'$'\xe9''.avsc::avro' commands_of_workflow
+  for name in "$colons" "$forged" $'caf\xe9.avsc' 'a, 50%.avsc'; do echo '"strnig"' > "$name"; done
+  expect 3 '"a\n::error file=b,line=1::c.avsc": avro: "a\n::error' avro-breaking
+  expect 3 '"caf\351.avsc": avro: "caf\351.avsc": S2' avro-breaking
+  exactly 3 '::error file="%3A%3Aerror file=x%3A%3Ay.avsc",line=1::avro
+::error file="a\n%3A%3Aerror file=b%2Cline=1%3A%3Ac.avsc",line=1::avro
+::error file=a%2C 50%25.avsc,line=1::avro
+::error file="caf\351.avsc",line=1::avro' commands_of_workflow
   commit 'none is a schema' v2
   for name in "$colons" "$forged"; do echo '"int"' > "$name"; done
-  expect 3 'v2: avro: ../v2/a\u{a}' avro-breaking
+  expect 3 'v2: avro: "a\n::error' avro-breaking
 }
 
 # The beginnings of all lines that GitHub takes as commands, from both streams.
@@ -210,6 +208,7 @@ try_links() {
   ln -s ../v1 links/current
   ln -s links/current/order.avsc latest.avsc
   commit 'a link' v1
+  commit_nothing
   exactly 0 '3 schemas against v1: 3 yes' avro-breaking
   exactly 0 '3 schemas against v1: 3 yes' avro-breaking --staged
   ln -sfn ../v2 links/current
@@ -229,6 +228,7 @@ try_failures() {
   repository failures
   cp "$orders/order-1.avsc" order.avsc
   commit 'the first order' v1
+  commit_nothing
   cp "$orders/order-3.avsc" order.avsc
   exactly 4 "avro-breaking: $work/nowhere/: No such file or directory" without_names env TMPDIR="$work/nowhere" avro-breaking
   many a > many.avsc
@@ -260,10 +260,10 @@ with_room() { # KIB WORDS..
 }
 
 # Runs the check where a command of git fails.
-with_broken_git() { # COMMAND
+with_broken_git() { # COMMAND [STATUS]
   mkdir -p "$work/broken"
   # shellcheck disable=SC2016 # it is the script's
-  printf '#!/bin/sh\n[ "$1" != %s ] || exit 1\nexec %s "$@"\n' "$1" "$(command -v git)" > "$work/broken/git"
+  printf '#!/bin/sh\n[ "$1" != %s ] || exit %s\nexec %s "$@"\n' "$1" "${2:-1}" "$(command -v git)" > "$work/broken/git"
   chmod +x "$work/broken/git"
   PATH=$work/broken:$PATH avro-breaking
 }
@@ -274,6 +274,7 @@ try_sparse() {
   cp "$orders/order-1.avsc" a/order.avsc
   cp "$orders/order-1.avsc" b/order.avsc
   commit 'two orders' v1
+  commit_nothing
   git sparse-checkout set --cone a tools
   exactly 0 '2 schemas against v1: 2 yes' avro-breaking
   exactly 0 '2 schemas against v1: 2 yes' avro-breaking --staged
@@ -287,18 +288,19 @@ try_sparse() {
 # With --changed a schema that is refused hinders only those who change it.
 try_changed() {
   repository changed
-  cp "$here/pre-commit" .git/hooks
+  cp "$files/pre-commit" .git/hooks
   echo '"double"' > double.avsc
   cp "$orders/order-1.avsc" order.avsc
   commit 'schemas' v1
-  expect 3 'double.avsc: avro: ./double.avsc: S10' avro-breaking
+  commit_nothing
+  expect 3 'double.avsc: avro: double.avsc: S10' avro-breaking
   exactly 0 '2 schemas against v1: 2 unchanged' avro-breaking --changed
   echo 'text' > README
   git add README
   expect 0 '2 schemas against v1: 2 unchanged' git commit -m 'a page'
   echo ' "double"' > double.avsc
   cp "$orders/order-3.avsc" order.avsc
-  expect 3 'double.avsc: avro: ./double.avsc: S10' avro-breaking --changed
+  expect 3 'double.avsc: avro: double.avsc: S10' avro-breaking --changed
   expect 3 'order.avsc: v1: no' avro-breaking --changed
   git add -A
   expect 1 '2 schemas against v1: 1 no, 1 refused' git commit -m 'a price'
@@ -333,17 +335,15 @@ count_of() { # TEXT WORDS..
 
 # Before the first tag each schema is judged by itself, and so is the first commit of a repository.
 try_start() {
-  local told='avro-breaking: no tag yet: each schema is judged by itself' start
+  local told='avro-breaking: no tag yet: each schema is judged by itself'
   repository start
-  start=$PWD
-  cp "$here/pre-commit" .git/hooks
+  cp "$files/pre-commit" .git/hooks
   cp "$orders/order-1.avsc" order.avsc
   exactly 0 "$told"$'\n''1 schema: 1 new' avro-breaking
-  exactly 0 "$told"$'\n''1 schema: 1 new' avro-breaking --all
   echo '"double"' > new.avsc
   git add -A
-  expect 3 'new.avsc: avro: ./new.avsc: S10' avro-breaking
-  expect 1 'new.avsc: avro: ./new.avsc: S10' git commit -m 'the first commit'
+  expect 3 'new.avsc: avro: new.avsc: S10' avro-breaking
+  expect 1 'new.avsc: avro: new.avsc: S10' git commit -m 'the first commit'
   git rm -qf new.avsc
   expect 0 "$told" git commit -m 'the first commit'
   git checkout -q -b other
@@ -351,9 +351,6 @@ try_start() {
   git checkout -q main
   expect 64 'no tag leads here' avro-breaking
   expect 64 'no tag leads here' avro-breaking --mode full
-  git clone -q --depth 1 --no-tags "file://$start" ../shallow 2> "$work/said"
-  cd ../shallow
-  expect 64 'no tag leads here' avro-breaking
 }
 
 # All that explain lists stands behind a no.
@@ -412,9 +409,10 @@ lay_order() { # TYPE-OF-MONEY TYPE-OF-CURRENCY
 try_bundle() {
   repository bundle
   lay_order long Currency
-  expect 3 $'order [1].avsc: avro: ./order [1].avsc: S2\n    ./order [1].avsc:1:89: /fields/0/type: ' avro-breaking
+  expect 3 $'order [1].avsc: avro: order [1].avsc: S2\n    order [1].avsc:1:89: /fields/0/type: ' avro-breaking
   expect 0 'no tag yet' avro-breaking --bundle
   commit 'an order' v1
+  commit_nothing
   exactly 0 '3 schemas against v1: 3 yes' avro-breaking --bundle
   exactly 0 '3 schemas against v1: 3 yes' avro-breaking --bundle --staged
   lay_order int Currency
@@ -432,6 +430,7 @@ try_bundle() {
   expect 3 'order [1].avsc: bundle: order [1].avsc: /fields/0/type: no type com.acme.Money' \
     avro-breaking --bundle -- '*.avsc' ':!schemas/types'
   commit 'a typing error' v2
+  commit_nothing
   exactly 0 '3 schemas against v2: 3 unchanged' avro-breaking --bundle --changed
   lay_order long Currency
   expect 3 "order [1].avsc: v2: bundle: $fault" avro-breaking --bundle --all
@@ -458,7 +457,8 @@ try_tame() {
   amount '"float"' > order.avsc
   amount '"int"' > whole.avsc
   commit 'an amount' v1
-  expect 3 'order.avsc: avro: ./order.avsc: S10' avro-breaking
+  commit_nothing
+  expect 3 'order.avsc: avro: order.avsc: S10' avro-breaking
   exactly 0 '2 schemas against v1: 2 yes' avro-breaking --tame
   amount '["null","double"]' > order.avsc
   amount '"double"' > whole.avsc
@@ -472,7 +472,7 @@ try_tame() {
   amount '["double",{"type":"fixed","name":"double_","size":8}]' > order.avsc
   expect 3 'order.avsc: v1: lattice: ' avro-breaking --tame
   amount '["double","strnig"]' > order.avsc
-  expect 3 'order.avsc: avro: ./order.avsc: S2' avro-breaking --tame
+  expect 3 'order.avsc: avro: order.avsc: S2' avro-breaking --tame
   echo '{"double"' > order.avsc
   expect 3 'order.avsc: tame: ' avro-breaking --tame
   rm tools/tame.py
@@ -493,8 +493,8 @@ try_json() {
 $start"'"forward",'"$(avro judge order.avsc "$orders/order-1.avsc" --json | cut -c 2-)" \
     env GITHUB_ACTIONS=true bash -c 'avro-breaking --json --mode full --quiet 2> /dev/null'
   # shellcheck disable=SC2016 # it is the shell's within
-  exactly 3 $'new.avsc: avro: ./new.avsc: S10\n''3 schemas against v1: 1 no, 1 gone, 1 refused' \
-    bash -c 'avro-breaking --json 2>&1 > /dev/null | grep -v ./new.avsc:1; exit "${PIPESTATUS[0]}"'
+  exactly 3 $'new.avsc: avro: new.avsc: S10\n''3 schemas against v1: 1 no, 1 gone, 1 refused' \
+    bash -c 'avro-breaking --json 2>&1 > /dev/null | grep -v "^ "; exit "${PIPESTATUS[0]}"'
   rm new.avsc
   many a > order.avsc
   commit 'many' v2
@@ -526,7 +526,7 @@ try_allow() {
     avro-breaking --allow found
   expect 0 '{"file":"of the shop/order.avsc","base":"v2","mode":"backward","accepted":true,"verdict":"no",' \
     avro-breaking --allow found --json
-  expect 0 '::notice file=of the shop/order.avsc::v2: no, accepted%0A' env GITHUB_ACTIONS=true avro-breaking --allow found
+  expect 0 '::notice file=of the shop/order.avsc,line=1::v2: no, accepted%0A' env GITHUB_ACTIONS=true avro-breaking --allow found
   # A tag with the same text accepts for both, but only where it is judged.
   sed -e 's/v2/v1/' found > older
   expect 1 'avro-breaking: older:1: accepts nothing: gone.avsc v1' avro-breaking --allow older
@@ -560,12 +560,13 @@ try_notes() {
   commit 'a decimal' v0
   amount "$decimal 4}" > order.avsc
   commit 'no doc' v1
+  commit_nothing
   exactly 0 '1 schema against v1: 1 yes' avro-breaking
   amount "$decimal 2}" > order.avsc
   exactly 0 $'note order.avsc: /fields/1: decimal scale 2, was 4\n1 schema against v1: 1 yes' avro-breaking
   exactly 0 'note order.avsc: /fields/1: decimal scale 2, was 4' avro-breaking --quiet --mode full
   exactly 0 'note order.avsc: /fields/1: decimal scale 2, was 4' avro-breaking --quiet --all
-  expect 0 '::notice file=order.avsc::/fields/1: decimal scale 2, was 4' env GITHUB_ACTIONS=true avro-breaking
+  expect 0 '::notice file=order.avsc,line=1::/fields/1: decimal scale 2, was 4' env GITHUB_ACTIONS=true avro-breaking
   amount "[\"null\",$decimal 2}]" | sed 's/"name":"amount"/"name":"sum","aliases":["amount"]/' > order.avsc
   exactly 0 'note order.avsc: /fields/1: decimal scale 2, was 4' avro-breaking --quiet
   amount '{"type":"array","items":"bytes"}' > order.avsc
@@ -586,6 +587,398 @@ try_notes() {
   exactly 0 'note order.avsc: /fields/2: decimal scale 2, was 0' avro-breaking --quiet
 }
 
+# 1. On a commit with a tag the base is the tag before: nothing is compared with itself.
+try_tagged() {
+  local here='and each schema is judged by itself'
+  repository tagged
+  cp "$orders/order-1.avsc" order.avsc
+  commit 'the first order' v1
+  exactly 0 "avro-breaking: no earlier tag: v1 is HEAD itself, $here
+1 schema, no earlier tag (v1 is HEAD itself): 1 new" avro-breaking
+  exactly 64 'avro-breaking: no earlier tag: v1 is HEAD itself, and nothing differs from it' avro-breaking --all
+  exactly 64 'avro-breaking: no earlier tag: v1 is HEAD itself, and nothing differs from it' avro-breaking --since v1
+  cp "$orders/order-3.avsc" order.avsc
+  commit 'a price' v2
+  expect 1 'order.avsc: v1: no' avro-breaking
+  expect 1 $'\n''1 schema against v1 (v2 is HEAD itself): 1 no' avro-breaking
+  expect 1 $'\n''1 schema against v1 (v2 is HEAD itself): 1 no' avro-breaking --staged --changed
+  expect 1 $'\n''1 schema against v1 (v2 is HEAD itself): 1 no' avro-breaking --all
+  expect 1 $'\n''1 schema against v1 (HEAD is HEAD itself): 1 no' avro-breaking HEAD
+  git tag v2-again
+  expect 1 'order.avsc: v1: no' avro-breaking
+  git tag -d v2-again > "$work/said"
+  # What is no schema does not count, but for the commit that is about to be made.
+  echo 'text' > README
+  expect 1 'order.avsc: v1: no' avro-breaking
+  git add README
+  exactly 0 '1 schema against v2: 1 unchanged' avro-breaking --staged --changed
+  cp "$orders/order-1.avsc" order.avsc
+  expect 1 'order.avsc: v2 forward: no' avro-breaking --mode forward
+  cp order.avsc new.avsc
+  git checkout -q order.avsc
+  exactly 0 '2 schemas against v2: 1 new, 1 yes' avro-breaking
+  rm new.avsc
+  expect 4 'avro-breaking: git diff: ' with_broken_git diff 2
+}
+
+# 2. A shallow clone, and one without tags, lack what counts: what to do is said.
+try_clones() {
+  local start fetch='git fetch --unshallow --tags; in a workflow of GitHub: fetch-depth: 0'
+  repository clones
+  start=$PWD
+  cp "$orders/order-1.avsc" order.avsc
+  commit 'the first order' v1
+  cp "$orders/order-2.avsc" order.avsc
+  commit 'a buyer' v2
+  git clone -q --depth 1 "file://$start" "$start.shallow"
+  git clone -q --no-tags "$start" "$start.untagged"
+  commit_nothing
+  git clone -q --depth 1 "file://$start" "$start.later"
+  git clone -q --depth 2 "file://$start" "$start.deeper"
+  cd "$start.shallow"
+  exactly 64 "avro-breaking: the clone is shallow, and may lack tags ($fetch)" avro-breaking --all
+  exactly 64 "avro-breaking: the clone is shallow, and may lack tags ($fetch)" avro-breaking --since v2
+  git tag v2 2> "$work/said" || true
+  exactly 64 "avro-breaking: no earlier tag: v2 is HEAD itself, and the clone is shallow ($fetch)" avro-breaking
+  cd "$start.later"
+  exactly 64 "avro-breaking: no tag leads here: the clone is shallow ($fetch)" avro-breaking
+  cd "$start.deeper"
+  git tag v2 HEAD~1 2> "$work/said" || true
+  exactly 0 '1 schema against v2: 1 yes' avro-breaking
+  expect 64 'the clone is shallow' avro-breaking --all
+  fetch=${fetch/ --unshallow/}
+  cd "$start.untagged"
+  exactly 64 "avro-breaking: the clone was made without tags ($fetch)" avro-breaking
+  exactly 64 "avro-breaking: the clone was made without tags ($fetch)" avro-breaking --all
+  git config --unset remote.origin.tagOpt
+  exactly 64 "avro-breaking: there is no tag ($fetch; before the first one leave out --all)" avro-breaking --all
+  expect 0 'avro-breaking: no tag yet: each schema is judged by itself' avro-breaking
+}
+
+# 3. The tag of another part is no release of the schemas.
+try_match() {
+  repository match
+  cp "$orders/order-1.avsc" order.avsc
+  commit 'the first order' schemas-v1
+  cp "$orders/order-3.avsc" order.avsc
+  commit 'a price' frontend-9
+  commit_nothing
+  exactly 0 '1 schema against frontend-9: 1 yes' avro-breaking
+  expect 1 'order.avsc: schemas-v1: no' avro-breaking --match 'schemas-*'
+  expect 1 'order.avsc: schemas-v1: no' avro-breaking --match 'backend-*' --match='schemas-v?'
+  expect 1 $'\n''1 schema against schemas-v1: 1 no' avro-breaking --all --match 'schemas-*'
+  expect 1 $'\n''1 schema against 2 tags: 1 no' avro-breaking --all --match 'schemas-*' --match 'f*'
+  expect 64 "avro-breaking: no tag matches v* and leads here (git fetch --tags" avro-breaking --match 'v*'
+  expect 64 "avro-breaking: no tag matches v* and leads here (git fetch --tags" avro-breaking --match 'v*' --all
+  # What differs from any of the tags is changed.
+  exactly 0 '1 schema against frontend-9: 1 unchanged' avro-breaking --changed
+  expect 1 'order.avsc: schemas-v1: no' avro-breaking --changed --all
+  git checkout -q schemas-v1 order.avsc
+  commit 'no price' schemas-v2
+  commit_nothing
+  exactly 0 '1 schema against 2 tags: 1 unchanged' avro-breaking --changed --all --match 'schemas-*'
+}
+
+# 4. Hooks run whatever is committed, so that a schema that is deleted is seen (and by try_framework, if it is there).
+try_hook_files() {
+  tried=$((tried + 1))
+  "$python" - "$files/pre-commit-config.yaml" "$files/pre-commit-hooks.yaml" << 'END' || wrong_hooks
+import sys
+import yaml
+
+local, offered = (yaml.safe_load(open(file, encoding="utf-8")) for file in sys.argv[1:])
+for hook in (local["repos"][0]["hooks"][0], offered[0]):
+    if hook.get("always_run") is not True or hook.get("pass_filenames") is not False:
+        sys.exit(1)
+END
+}
+
+wrong_hooks() {
+  wrong=$((wrong + 1))
+  echo 'WRONG: a hook is skipped, or is given the names of files'
+  [ -z "$is_spoiled" ] || exit 1
+}
+
+# 5. A schema that is moved is judged at its new place.
+try_renames() {
+  repository renames
+  mkdir schemas
+  cp "$orders/order-1.avsc" schemas/order.avsc
+  cp "$orders/payment-1.avsc" schemas/payment.avsc
+  commit 'schemas' v1
+  commit_nothing v2
+  git mv schemas shop
+  exactly 0 'renamed schemas/order.avsc -> shop/order.avsc
+renamed schemas/payment.avsc -> shop/payment.avsc
+2 schemas against v2: 2 yes' avro-breaking
+  cp "$orders/order-3.avsc" shop/order.avsc
+  expect 1 'shop/order.avsc: v2: no' avro-breaking
+  expect 1 $'\n''2 schemas against v2: 1 yes, 1 no' avro-breaking
+  expect 1 '{"file":"shop/order.avsc","renamed":"schemas/order.avsc","base":"v2","mode":"backward","verdict":"no"' \
+    avro-breaking --json
+  commit 'they are moved' v3
+  commit_nothing
+  exactly 0 '2 schemas against v3: 2 yes' avro-breaking
+  expect 1 'shop/order.avsc: v2: no' avro-breaking --all
+  expect 1 $'\n''2 schemas against 3 tags: 1 yes, 1 no' avro-breaking --all
+  # Of several new files with its type it is the one with its text, or gone.
+  git mv shop/order.avsc order.avsc
+  cp "$orders/order-1.avsc" other.avsc
+  expect 0 'renamed shop/order.avsc -> order.avsc' avro-breaking
+  cp "$orders/order-2.avsc" order.avsc
+  expect 1 'shop/order.avsc: v3: gone' avro-breaking
+}
+
+# Lines that accept breaks have patterns, names in quotes, and the pointer of a field or of its type.
+try_allow_words() {
+  repository words
+  amount '"int"' > 'order [1].avsc'
+  amount '"int"' > $'caf\xe9 "2".avsc'
+  commit 'orders' v1
+  amount '"string"' > 'order [1].avsc'
+  amount '"string"' > $'caf\xe9 "2".avsc'
+  : > allowed
+  expect 1 $'\n''    allow: "caf\351 \"2\".avsc" v1 /fields/1'$'\n' avro-breaking --allow allowed
+  expect 1 $'\n''    allow: "order [1].avsc" "v1" /fields/1'$'\n' avro-breaking --allow allowed
+  avro-breaking --allow allowed 2> /dev/null | sed -n 's/^    allow: //p' > found || true
+  expect 0 $'\n''2 schemas against v1: 2 accepted' avro-breaking --allow found
+  echo '*.avsc v* /fields/1/type' > allowed
+  expect 0 $'\n''2 schemas against v1: 2 accepted' avro-breaking --allow allowed
+  echo 'order*.avsc v1' > allowed
+  expect 1 $'\n''2 schemas against v1: 1 accepted, 1 no' avro-breaking --allow allowed
+  echo '"*.avsc" v1' > allowed
+  expect 1 'avro-breaking: allowed:1: accepts nothing: "*.avsc" v1' avro-breaking --allow allowed
+  printf '%s\n' 'order [1].avsc v1 /fields/1/type/0' '*.avsc v1 /fields/0' '*.avsc w*' > allowed
+  expect 1 $'\n''2 schemas against v1: 2 no' avro-breaking --allow allowed
+}
+
+# A program that takes any two schemas for one and the same no, with so many faults of so many bytes.
+stub() { # COUNT BYTES
+  mkdir -p "$work/stub"
+  cat > "$work/stub/avro" << END
+#!/bin/sh
+case \$1 in
+schema) echo 'ok 1' ;;
+judge) printf 'no\nfault NoMatch at /0\nnodes 2\ndatum {}\n'; exit 1 ;;
+explain)
+  echo 'no $1'
+  awk 'BEGIN {
+    words = sprintf("%${2}s", ""); gsub(/ /, "x", words)
+    for (i = 0; i < $1; i++) print "$.f" i ": NoMatch: " words " (writer'"'"'s $.f" i ")"
+  }'
+  exit 1 ;;
+esac
+END
+  chmod +x "$work/stub/avro"
+}
+
+# Runs the check with that program, within so many MB of memory.
+with_stub() { # MB WORDS..
+  (
+    ulimit -v "$(($1 * 1024))"
+    AVRO=$work/stub/avro avro-breaking "${@:2}"
+  )
+}
+
+# A record with many fields, and with names that it and its first field had.
+wide() { # FIELDS TYPE ALIASES
+  python3 - "$@" << 'END'
+import json
+import sys
+
+count, kind, aliases = int(sys.argv[1]), sys.argv[2], [f"n{number}" for number in range(int(sys.argv[3]))]
+fields = [{"name": f"f{number}", "type": kind, **({} if number else {"aliases": aliases})} for number in range(count)]
+print(json.dumps({"type": "record", "name": "Wide", "aliases": aliases, "fields": fields}))
+END
+}
+
+# 6. Memory does not grow with what a stranger writes: names that a field and its record had, and what explain answers.
+try_memory() {
+  repository memory
+  wide 20 int 0 > wide.avsc
+  commit 'fields' v1
+  wide 20 long 2500 > wide.avsc
+  stub 300000 700
+  expect 1 $'\n''    and 299900 more'$'\n' with_stub 200
+  exactly 0 '100' count_of ': NoMatch: ' with_stub 200
+  echo 'wide.avsc v1 /fields/3' > allowed
+  expect 1 $'\n''    allow: wide.avsc v1 /fields/0'$'\n' with_stub 200 --allow allowed
+  # A file has a hundred faults, however many old texts it has.
+  stub 60 10
+  commit 'other fields' v2
+  wide 3 long 0 > wide.avsc
+  expect 1 $'\n''    and 20 more'$'\n' with_stub 200 --all
+  exactly 0 '100' count_of ': NoMatch: ' with_stub 200 --all
+}
+
+# 7. Time does not, either: a text is read once, however many faults are compared with what is accepted.
+try_time() {
+  repository time
+  stub 2000 10
+  wide 2000 int 0 > wide.avsc
+  commit 'fields' v1
+  wide 2000 string 0 > wide.avsc
+  for number in {0..1999}; do echo "wide.avsc v1 /fields/$number"; done > allowed
+  expect 0 $'\n''1 schema against v1: 1 accepted' with_stub 2000 --allow allowed --max-time 8
+  sed -i 's/^explain)/explain) while :; do :; done/' "$work/stub/avro"
+  expect 4 'avro-breaking: the answers take more than 1 seconds of processor time' with_stub 2000 --max-time 1
+}
+
+# 8. What leads out of the tree is no schema of it.
+try_links_out() {
+  repository out
+  cp "$orders/order-1.avsc" order.avsc
+  commit 'an order' v1
+  cp "$orders/order-3.avsc" ../outside.avsc
+  ln -sf ../outside.avsc order.avsc
+  exactly 4 'avro-breaking: order.avsc: is a link out of the tree' avro-breaking
+  git add -A
+  exactly 4 'avro-breaking: order.avsc: is a link out of the tree' avro-breaking --staged
+  commit 'a link' v2
+  cp --remove-destination "$orders/order-3.avsc" order.avsc
+  exactly 4 'avro-breaking: v2: order.avsc: is a link out of the tree' avro-breaking
+  ln -sf .git/config order.avsc
+  exactly 4 'avro-breaking: order.avsc: is a link out of the tree' avro-breaking v1
+  ln -sf "$work/outside.avsc" order.avsc
+  git add -A
+  exactly 4 'avro-breaking: order.avsc: is a link out of the tree' avro-breaking --staged v1
+}
+
+# 9. Whatever happens, only what was judged is told as a break.
+try_unforeseen() {
+  repository unforeseen
+  cp "$orders/order-1.avsc" order.avsc
+  commit 'an order' v1
+  truncate -s 40G huge.avsc
+  expect 3 $'huge.avsc: avro: huge.avsc: S12\n    huge.avsc:1:1: more than 1048576 bytes' within_memory 400 avro-breaking
+  rm huge.avsc
+  cp "$orders/order-3.avsc" order.avsc
+  stub 1 1
+  sed -i "s/^judge).*/judge) echo '{\"verdict\":\"no\",é}'; exit 1 ;;/" "$work/stub/avro"
+  expect 4 'avro-breaking: JSONDecodeError: ' with_stub 2000 --json
+  exactly 0 '1' count_of '' with_stub 2000 --json
+  sed -i "s/^judge).*/judge) echo 'usage'; exit 1 ;;/" "$work/stub/avro"
+  exactly 4 "avro-breaking: $work/stub/avro: is another program" with_stub 2000
+  sed -i "s/^judge).*/judge) echo 'avro: out of memory' >\&2; exit 5 ;;/" "$work/stub/avro"
+  exactly 5 'avro-breaking: avro: out of memory' with_stub 2000
+  sed -i "s/^judge).*/judge) kill -9 \$\$ ;;/" "$work/stub/avro"
+  exactly 4 "avro-breaking: $work/stub/avro: status -9" with_stub 2000
+  stub 3 1
+  sed -i "s/print \"/if (i < 2) print \"/" "$work/stub/avro"
+  exactly 4 'avro-breaking: avro explain: ends early' with_stub 2000
+  exactly 64 '' bash -c 'avro-breaking nowhere 2> /dev/full'
+}
+
+# Runs words within so many MB of memory; the program may have more.
+within_memory() { # MB WORDS..
+  printf '#!/bin/sh\nulimit -S -v unlimited\nexec "%s" "$@"\n' "$program" > tools/avro
+  (
+    ulimit -S -v "$(($1 * 1024))"
+    "${@:2}"
+  )
+}
+
+# 10. Nothing in a name, a tag or a schema is taken for a command of a log, or moves its cursor.
+try_logs() {
+  local name bidi escaped
+  repository logs
+  bidi=$(printf '\xe2\x80\xae%.0s' {1..80}).avsc
+  escaped="\"$(printf '\\342\\200\\256%.0s' {1..80}).avsc\""
+  for name in order.avsc '##[stop-commands]x.avsc' "$bidi" $'\e[2J.avsc' '  ::error::x.avsc' '##vso[task]y.avsc'; do
+    cp "$orders/order-1.avsc" "$name"
+  done
+  commit 'orders' $'v\xe2\x80\xae1'
+  for name in ./*.avsc; do cp "$orders/order-3.avsc" "$name"; done
+  expect 1 "$escaped: \"v\\342\\200\\2561\": no" avro-breaking
+  expect 1 $'\n''"#\043[stop-commands]x.avsc": "v\342\200\2561": no' avro-breaking
+  expect 1 '"\033[2J.avsc": ' avro-breaking
+  exactly 1 '0' count_unsafe avro-breaking
+  exactly 1 '0' count_unsafe avro-breaking --json
+  exactly 1 '0' count_unsafe env GITHUB_ACTIONS=true avro-breaking --allow /dev/null
+  for name in ./*.avsc; do echo '{"type":"##[error]\u202e"}' > "$name"; done
+  printf '{"type":"record","name":"R","fields":[{"name":"::x","type":"##[group]"}]}' > order.avsc
+  exactly 3 '0' count_unsafe env GITHUB_ACTIONS=true avro-breaking
+  rm ./*.avsc
+  exactly 1 '0' count_unsafe env GITHUB_ACTIONS=true avro-breaking
+  cp "$orders/order-1.avsc" "$bidi"
+  expect 1 $'\n''6 schemas against "v\342\200\2561": 1 yes, 5 gone' avro-breaking --bundle
+}
+
+# How many lines of what words print are not plain, or begin a command without being a finding; with the words' status.
+count_unsafe() { # WORDS..
+  local found=0
+  "$@" > "$work/said" 2>&1 || found=$?
+  LC_ALL=C grep -c -e '##' -e '[^ -~]' -e '^ *::[^en]' -e '^  *::' "$work/said" || true
+  return "$found"
+}
+
+# 11. What is wrong and easily put right is told with what to do.
+try_hints() {
+  local other='is another program of this name: set AVRO to the one that judges schemas'
+  repository hints
+  amount '"float"' > order.avsc
+  commit 'an amount' v1
+  amount '"int"' > order.avsc
+  expect 3 $'order.avsc: v1: avro: order.avsc: S10\n    order.avsc:1:95: /fields/1/type: float is not supported
+    --tame takes float and double' avro-breaking
+  amount '"double","default":0.5' > new.avsc
+  expect 3 $'\n''    --tame takes float and double' avro-breaking -- new.avsc
+  exactly 64 'avro-breaking: order.avsc: no such commit (of a file: avro-breaking -- order.avsc)' avro-breaking order.avsc
+  expect 64 'more than one BASE (of files: -- order.avsc new.avsc)' avro-breaking order.avsc new.avsc
+  # As the program of python3-avro does.
+  stub 1 1
+  printf '#!/bin/sh\necho "usage: avro [-h] [--version] {cat,write} ..." >&2\nexit 2\n' > "$work/stub/avro"
+  exactly 4 "avro-breaking: $work/stub/avro: $other" with_stub 2000
+  exactly 4 "avro-breaking: /bin/true: $other" env AVRO=/bin/true avro-breaking
+}
+
+# 12. A word in a text that is no definition refers to a type, also where it is that of a kind of types.
+try_kinds() {
+  local kind fields='"fields":[{"name":"next","type":["null",'
+  repository kinds
+  for kind in record enum fixed error array map; do
+    echo "{\"type\":\"record\",\"name\":\"$kind\",$fields\"$kind\"],\"default\":null},{\"name\":\"a\",\"type\":\"int\"}]}" > "$kind.avsc"
+  done
+  echo '{"type":"record","name":"Of","fields":[{"name":"a","type":{"type":"fixed","name":"fixed","size":1}},
+    {"name":"b","type":"fixed","default":"x"},{"name":"c","type":"float","default":0}]}' > float.avsc
+  commit 'names' v1
+  commit_nothing
+  exactly 0 '7 schemas against v1: 7 yes' avro-breaking --tame
+  sed -i 's/"int"/"string"/' record.avsc
+  expect 1 $'record.avsc: v1: no\n' avro-breaking -- record.avsc
+  : > allowed
+  expect 1 $'\n''    allow: record.avsc v1 /fields/1'$'\n' avro-breaking --allow allowed -- record.avsc
+}
+
+# 13. A finding of a workflow is at its line; of a submodule is said what it is.
+try_lines() {
+  local record='{"type":"record","name":"R","fields":['
+  repository lines
+  printf '%s\n' "$record" '{"name":"a","type":"int"},' '{"name":"b","type":' '["null",' '"int"]}]}' > r.avsc
+  commit 'a record' v1
+  printf '%s\n' "$record" '{"name":"a",' '"type":"string"},' '{"name":"b","type":' '["null",' '"string"]}]}' > r.avsc
+  expect 1 '::error file=r.avsc,line=2::v1: no%0A' env GITHUB_ACTIONS=true avro-breaking
+  sed -i '3s/"string"/"int"/' r.avsc
+  expect 1 '::error file=r.avsc,line=4::v1: no%0A' env GITHUB_ACTIONS=true avro-breaking
+  printf '%s\n' "$record" '{"name":"a","type":"int"},' '{"name":"b","type":["null",' '{"type":"int","logicalType":"date"}]}]}' > r.avsc
+  expect 0 '::notice file=r.avsc,line=3::/fields/1: logicalType date, was none' env GITHUB_ACTIONS=true avro-breaking
+  printf '\n\n "strnig"' > r.avsc
+  expect 3 '::error file=r.avsc,line=3::avro: r.avsc: S2%0A' env GITHUB_ACTIONS=true avro-breaking
+}
+
+try_module() {
+  local told="(files of a submodule are judged in it: module)"
+  repository module
+  git init -q module
+  cp "$orders/order-1.avsc" module/order.avsc
+  git -C module add -A
+  git -C module commit -qm 'an order'
+  git add module 2> "$work/said"
+  git commit -qm 'a module'
+  exactly 64 "avro-breaking: no schema is named by 'module/order.avsc' $told" avro-breaking -- module/order.avsc
+  exactly 64 "avro-breaking: no schema is named by ':/*.avsc' $told" avro-breaking
+}
+
 # A commit that breaks a schema is refused, and one that does not is made.
 try_hook() {
   cp "$orders/order-1.avsc" order.avsc
@@ -597,11 +990,13 @@ try_hook() {
   git add order.avsc
   cp "$orders/order-3.avsc" order.avsc
   expect 0 'a buyer' git commit -m 'a buyer'
+  git rm -qf order.avsc
+  expect 1 'order.avsc: v1: gone' git commit -m 'no order'
 }
 
 try_git_hook() {
   repository hook
-  cp "$here/pre-commit" .git/hooks
+  cp "$files/pre-commit" .git/hooks
   commit 'tools' v0
   try_hook
 }
@@ -609,14 +1004,14 @@ try_git_hook() {
 # The framework's hook, once local and once offered by another repository.
 try_framework() {
   repository framework
-  cp "$here/pre-commit-config.yaml" .pre-commit-config.yaml
+  cp "$files/pre-commit-config.yaml" .pre-commit-config.yaml
   commit 'tools' v0
   pre-commit install > "$work/said"
   try_hook
   repository offers
   local offers=$PWD
   mv tools/avro-breaking .
-  cp "$here/pre-commit-hooks.yaml" .pre-commit-hooks.yaml
+  cp "$files/pre-commit-hooks.yaml" .pre-commit-hooks.yaml
   commit 'a hook' v1.0.0
   repository takes
   printf 'repos:\n- repo: %s\n  rev: v1.0.0\n  hooks:\n  - id: avro-breaking\n    args: [%s]\n' \
@@ -635,7 +1030,7 @@ lines_of_workflow() {
 }
 
 try_workflow() {
-  "$python" - "$here/workflow.yml" > "$work/lines" << 'END'
+  "$python" - "$files/workflow.yml" > "$work/lines" << 'END'
 import sys
 import yaml
 
@@ -653,68 +1048,116 @@ END
   cp "$orders/order-2.avsc" order.avsc
   expect 0 $'avro: OK\n1 schema against v1: 1 yes' lines_of_workflow
   cp "$orders/order-3.avsc" order.avsc
-  expect 1 '::error file=order.avsc::v1: no' \
+  expect 1 '::error file=order.avsc,line=14::v1: no' \
     env GITHUB_ACTIONS=true bash -c "$(declare -f lines_of_workflow); work=$work; lines_of_workflow"
   echo '# another' >> tools/avro
   expect 1 'avro: FAILED' lines_of_workflow
 }
 
-# Whether all rows of a function are right for another script; in a subshell, so that nothing is counted.
-are_right() { # SCRIPT FUNCTION
-  script=$1 is_spoiled=1
-  "$2" > "$work/said"
+# Whether all rows of a function are right for other files; in a subshell, so that nothing is counted.
+are_right() { # FUNCTION
+  files=$work/spoiled adapt=$work/spoiled/adapt is_spoiled=1
+  "$1" > "$work/said"
 }
 
-# Each edit of the check, by sed, must make a row of a function wrong.
+# Each edit of a file, by sed, must make a row of a function wrong.
 try_planted() {
-  local rows edit
-  while IFS=$'\t' read -r rows edit; do
-    sed -e "$edit" "$here/avro-breaking" > "$work/spoiled"
-    chmod +x "$work/spoiled"
+  local rows file edit
+  while IFS=$'\t' read -r file rows edit; do
+    { is_wanted "$rows" && has_what "$rows"; } || continue
+    rm -rf "$work/spoiled"
+    mkdir "$work/spoiled"
+    cp "$here"/* "$work/spoiled" 2> "$work/said" || true
+    cp -r "$adapt" "$work/spoiled/adapt"
+    cp "$work/spoiled/$file" "$work/kept"
+    sed -i -e "$edit" "$work/spoiled/$file"
     tried=$((tried + 1))
-    if cmp -s "$work/spoiled" "$here/avro-breaking" || (are_right "$work/spoiled" "$rows"); then
+    if cmp -s "$work/kept" "$work/spoiled/$file" || (are_right "$rows"); then
       wrong=$((wrong + 1))
-      echo "WRONG, not found by $rows: $edit"
+      echo "WRONG, not found by $rows: $file: $edit"
     fi
   done << 'END'
-try_check	s/ and not YES.fullmatch(said)/ and False/
-try_check	s/if not self.options.quiet/if True/
-try_faults	s/, "--why"//
-try_faults_told	s/split("\\n")\[1:\]/split("\\n")[2:]/
-try_faults_told	s/pair("explain", \*pair,/pair("explain", *pair[::-1],/
-try_paths	s/(\*(\[path\] for path in paths), paths)/(paths,)/
-try_paths	s/if options.paths or not/if not/
-try_names	s/, others="\\\\:")/)/
-try_names	s/.replace(':', '%3A')//
-try_names	s/.replace("\\n", "%0A")//
-try_links	s/if entry and entry.mode == LINK/if False/
-try_links	s/posixpath.dirname(link), target/"", target/
-try_failures	s/return text\[:-1\] if text else .*/return text[:-1]/
-try_failures	s/    if done.returncode:/    if False:/
-try_failures	s/, dir=os.environ.get("TMPDIR") or "\/tmp")/)/
-try_sparse	s/\.tag == "S"/.tag == "X"/
-try_changed	s/new == self.newest.get(path)/path in self.newest/
-try_all_tags	s/groups\[versions\[path\]\]/groups[versions[path]._replace(own=base.encode())]/
-try_all_tags	s/("--contains", options.since) if/() if/
-try_all_tags	s/"--sort=-version:refname", //
-try_start	s/ == "true\\n":/ == "?":/
-try_start	s/if git("tag") or/if/
-try_start	s/if answer.status:/if False:/
-try_modes	s/pair = (old, new) if mode == "backward"/pair = (old, new) if mode == "forward"/
-try_modes	s/else (self.options.mode,)/else ("backward",)/
-try_bundle	s/if old.fault:/if False:/
-try_bundle	s/if new.fault:/if False:/
-try_bundle	s/trees\[base\] = Tree(paths, blobs, .*/trees[base] = trees[NEW]/
-try_tame	s/if filter == "lattice.py":/if False:/
-try_tame	s/"lattice.py", command/"tame.py", command/
-try_json	s/if self.options.json and outcome/if self.options.json and not outcome/
-try_allow	s/f"{pointer}\/".startswith(f"{above}\/")/pointer.startswith(above)/
-try_allow	s/"no" if left or not places/"no" if not places/
-try_allow	s/ if "field" in fault and side == "reader" else ""/ if False else ""/
-try_allow	s/self.lines.keys() - self.used/set()/
-try_notes	s/attributes.get("scale", 0)/attributes.get("scale")/
-try_notes	s/, \*(schema.get("aliases") or ())//
-try_notes	s/not in self.noted/is not None/
+avro-breaking	try_check	s/if not self.is_quiet:/if True:/
+avro-breaking	try_faults	s/, "--why")/)/
+avro-breaking	try_faults_told	s/left = self.count$/left = self.count - 1/
+avro-breaking	try_faults_told	s/for text in answer.texts)/for text in answer.texts[::-1])/
+avro-breaking	try_paths	s/\[\*((path,) for path in self.paths), self.paths\]/[self.paths]/
+avro-breaking	try_paths	s/if self.unnamed and (self.options.paths or not self.options.changed)/if self.unnamed/
+avro-breaking	try_names	s/return name if written == .*/return name/
+avro-breaking	try_names	s/.replace(":", "%3A")//
+avro-breaking	try_names	s/.replace("\\n", "%0A")//
+avro-breaking	try_links	s/if entry.mode == LINK:/if False:/
+avro-breaking	try_links	s/posixpath.join(posixpath.dirname(link), target)/target/
+avro-breaking	try_failures	s/stop(FAILED, f"git cat-file: {name}: cannot read")/MOST_TEXT + 1/
+avro-breaking	try_failures	s/    if done.returncode:/    if False:/
+avro-breaking	try_failures	s/    if process.returncode:/    if False:/
+avro-breaking	try_failures	s/, dir=os.environ.get("TMPDIR") or "\/tmp")/)/
+avro-breaking	try_sparse	s/\.tag == "S"/.tag == "X"/
+avro-breaking	try_changed	s/if self.options.changed and self.history.is_unchanged(path)/if self.options.changed/
+avro-breaking	try_all_tags	s/, bases in groups.items() for each in self.against(path, old, bases)/, names in groups.items() for name in names for each in self.against(path, old, [name])/
+avro-breaking	try_all_tags	s/("--contains", since) if/() if/
+avro-breaking	try_all_tags	s/"--sort=-version:refname", //
+avro-breaking	try_start	s/if tags.any():/if False:/
+avro-breaking	try_start	s/        if answer.status:/        if False:/
+avro-breaking	try_modes	s/if pair.side == "reader" else/if pair.side == "writer" else/
+avro-breaking	try_modes	s/else (self.options.mode,)/else ("backward",)/
+avro-breaking	try_bundle	s/return \[self.refused(\[f"{quoted(bases\[0\])}: {version.fault}"\])\]/pass/
+avro-breaking	try_bundle	s/return self.refused(\[version.fault\])/pass/
+avro-breaking	try_bundle	s/self.versions(Tree(self.paths, self.blobs, base.name, GIT_INDEX_FILE=index))/self.versions(WorkingTree(self.paths, self.blobs))/
+avro-breaking	try_tame	s/self.with_names if answer.filter == JUDGE else bytes/bytes/
+avro-breaking	try_tame	s/^CHECK, JUDGE = .*/CHECK, JUDGE = "tame.py", "tame.py"/
+avro-breaking	try_json	s/            self.answer(outcome, answer, pair)/            self.tell(outcome, answer, findings, pair)/
+avro-breaking	try_allow	s/above = above.rpartition("\/")\[0\]/above = above[:-1]/
+avro-breaking	try_allow	s/accepted is not None and not left/accepted is not None/
+avro-breaking	try_allow	s/accepted.takes(place)/accepted.takes("")/
+avro-breaking	try_allow	s/if line.text not in self.used/if False/
+avro-breaking	try_notes	s/attributes.get("scale", 0)/attributes.get("scale")/
+avro-breaking	try_notes	s/, \*(schema.get("aliases") or ())/,/
+avro-breaking	try_notes	s/if (pointer, words) not in self.noted/if True/
+avro-breaking	try_tagged	s/if not same or differs_from_head(options, paths):/if True:/
+avro-breaking	try_tagged	s/return not is_so("diff", "--cached", .*/return False/
+avro-breaking	try_tagged	s/tags.last(\*tags.here())/tags.last(same[0].name)/
+avro-breaking	try_tagged	s/stop(USAGE, f"no earlier tag: {here}, and nothing differs from it")/pass/
+avro-breaking	try_clones	s/if options.is_many and is_shallow():/if False:/
+avro-breaking	try_clones	s/stop(USAGE, f"no earlier tag: {here}, and the clone is shallow ({UNSHALLOW})")/pass/
+avro-breaking	try_clones	s/if is_without_tags():/if False:/
+avro-breaking	try_clones	s/stop(USAGE, f"there is no tag .*/pass/
+avro-breaking	try_match	s/\[f"--match={pattern}" for pattern in self.patterns\]/[]/
+avro-breaking	try_match	s/, "--list", \*self.patterns)/)/
+avro-breaking	try_match	s/ and self.groups\[path\].keys() == {(path, version)}//
+pre-commit-config.yaml	try_hook_files	s/always_run: true/always_run: false/
+pre-commit-hooks.yaml	try_hook_files	s/pass_filenames: false/pass_filenames: true/
+pre-commit-config.yaml	try_framework	s/always_run: true.*/files: \\.avsc$/
+pre-commit-hooks.yaml	try_framework	s/always_run: true.*/files: \\.avsc$/
+avro-breaking	try_renames	s/        renamed = self.renamed(versions)/        renamed = {}/
+avro-breaking	try_renames	s/return paths\[0\] if len(paths) == 1 else None/return paths[0] if paths else None/
+avro-breaking	try_renames	s/ if path in self.new else renamed.get(path)/ if path in self.new else None/
+avro-breaking	try_allow_words	s/(self.pattern is not None and /(False and /
+avro-breaking	try_allow_words	s/while pointer.endswith("\/type"):/while False:/
+avro-breaking	try_allow_words	s/    name = unquoted(written)$/    name = None/
+avro-breaking	try_memory	s/enumerate(faults)/enumerate(list(faults))/
+avro-breaking	try_memory	s/return \[last_names(field) for field in/return [[f"{one}.{other}" for one in last_names(place.schema) for other in last_names(field)] for field in/
+avro-breaking	try_memory	s/self.room -= len(findings.lines)/pass/
+avro-breaking	try_time	s/pointer_of(fault, side, self.schema)/pointer_of(fault, side, schema_of(self.new))/
+avro-breaking	try_links_out	s/if inner in ("..", ".git"):/if inner == "..":/
+avro-breaking	try_links_out	s/if path.startswith("\/") or path.split("\/")\[0\] == "..":/if False:/
+avro-breaking	try_unforeseen	s/    except Exception as fault:/    except Stop as fault:/
+avro-breaking	try_unforeseen	s/return file.read(MOST_TEXT + 1)/return file.read()/
+avro-breaking	try_unforeseen	s/if not SAID\[status\].fullmatch(said):/if False:/
+avro-breaking	try_logs	s/.replace("##", "#\\\\043")//
+avro-breaking	try_logs	s/line = line.replace("##", "#\\\\u{23}")/pass/
+avro-breaking	try_logs	s/line.replace("##", "#\\\\u0023")/line/
+avro-breaking	try_logs	s/ and not name.startswith((" ", ":"))//
+avro-breaking	try_logs	s/laid = Laid(f"{self.count}.avsc", /laid = Laid(f"{self.count}{quoted(path)}.avsc", /
+avro-breaking	try_hints	s/ + \["--tame takes float and double"\] \* .*//
+avro-breaking	try_hints	s/if (done.returncode, done.stdout) != (0, b"ok 1\\n"):/if False:/
+avro-breaking	try_hints	s/ + (f" (of files: -- {files})" if any(map(os.path.lexists, bases)) else "")//
+avro-breaking	try_hints	s/: no such commit{hint}/: no such commit/
+avro-breaking	try_kinds	s/(word in KINDS and isinstance(self.schema, dict))/word in KINDS/
+adapt/tame.py	try_kinds	s/(isinstance(schema, str) or word not in ATTRIBUTES)/word not in ATTRIBUTES/
+avro-breaking	try_lines	s/(f",line={line}" if line else "")/""/
+avro-breaking	try_lines	s/if depth < best or path != wanted\[:depth\]:/if depth:/
+avro-breaking	try_module	s/{modules_told(new)}//
 END
 }
 
@@ -722,37 +1165,33 @@ python=''
 for each in python3 /usr/bin/python3; do
   [ -n "$python" ] || ! "$each" -c 'import yaml' 2> "$work/said" || python=$each
 done
-
-try_check
-try_faults
-try_paths
-try_names
-try_links
-try_failures
-try_sparse
-try_changed
-try_all_tags
-try_start
-try_faults_told
-try_modes
-try_bundle
-try_tame
-try_json
-try_allow
-try_notes
-try_git_hook
-try_planted
+wanted=("$@")
 not_tried=()
-if command -v pre-commit > /dev/null; then
-  try_framework
-else
-  not_tried+=('the hooks of pre-commit (it is not installed)')
-fi
-if [ -n "$python" ]; then
-  try_workflow
-else
-  not_tried+=('the workflow (Python has no module yaml)')
-fi
+
+is_wanted() { # FUNCTION
+  [ ${#wanted[@]} = 0 ] || [[ " ${wanted[*]} " = *" $1 "* ]]
+}
+
+# Whether what a function needs is there; otherwise that is told at the end.
+has_what() { # FUNCTION
+  case $1 in
+    try_framework) command -v pre-commit > "$work/said" || missing 'the hooks of pre-commit (it is not installed)' ;;
+    try_hook_files) [ -n "$python" ] || missing "the hooks' files (Python has no module yaml)" ;;
+    try_workflow) [ -n "$python" ] || missing 'the workflow (Python has no module yaml)' ;;
+  esac
+}
+
+missing() { # WHAT
+  not_tried+=("$1")
+  return 1
+}
+
+for each in try_{check,faults,paths,names,links,failures,sparse,changed,all_tags,start,faults_told,modes,bundle,tame,json} \
+  try_{allow,notes,tagged,clones,match,hook_files,renames,allow_words,memory,time,links_out,unforeseen,logs,hints,kinds} \
+  try_{lines,module,git_hook,framework,workflow}; do
+  if is_wanted "$each" && has_what "$each"; then "$each"; fi
+done
+try_planted
 for each in "${not_tried[@]}"; do echo "not tried: $each"; done
 echo "$tried tries, $wrong wrong"
 [ "$wrong" = 0 ]
