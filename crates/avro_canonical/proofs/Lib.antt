@@ -1,7 +1,6 @@
 mod Steps
 mod NamesWritten
 mod StepsTaken
-mod OneText
 mod Rows
 mod Words
 mod NamesRead
@@ -12,7 +11,6 @@ mod SameFits
 mod OneNamed
 mod FormsAlike
 mod SameEncodings
-mod HasForm
 mod LaidRead
 mod FormsRead
 mod LaidForms

@@ -45,11 +45,6 @@ seen_get [] i b e = absurd cc
 seen_get (x ∷ ids) zero b e = let same : x ≡ b = cc in ap (λ (y : NodeId). Some y.0) same
 seen_get (x ∷ ids) (suc i) b e = seen_get ids i b e
 
-pub ids_from : (n : ℕ) (ids : List NodeId) → drop n (ids_of ids) ≡ ids_of (drop n ids)
-ids_from zero ids = refl
-ids_from (suc n) [] = refl
-ids_from (suc n) (x ∷ ids) = ids_from n ids
-
 module _ (writer reader : List Node) (w : Node) where
   pub found_here : (k i : ℕ) (ids : List NodeId) (b : NodeId) → slice_get ids i ≡ Some b → is_match writer reader w (node_at reader b.0) ≡ true
       → first_match_from k writer reader w (ids_of (drop i ids)) ≡ Some k

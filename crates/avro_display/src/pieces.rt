@@ -69,10 +69,7 @@ pub fn put_byte<O: Output>(out: &mut O, text: &mut Text, byte: u8) -> Result<(),
 }
 
 /// Appends null, and puts all if it is long.
-pub(crate) fn put_null<O: Output>(
-    out: &mut O,
-    text: &mut Text,
-) -> Result<(), PutError>
+pub(crate) fn put_null<O: Output>(out: &mut O, text: &mut Text) -> Result<(), PutError>
     ensures put { OnOk result (PutsText O.keeps out.old text.old (token_text null) out.new text.new) }
     ensures front { OnErr result (PutsFrontOf O.keeps out.old out.new (text.old ++ token_text null)) }
     ensures works { OnOk result (O.failures out.new ≡ O.failures out.old) }
@@ -84,11 +81,7 @@ pub(crate) fn put_null<O: Output>(
 }
 
 /// Appends a boolean, and puts all if it is long.
-pub(crate) fn put_bool<O: Output>(
-    out: &mut O,
-    text: &mut Text,
-    value: bool,
-) -> Result<(), PutError>
+pub(crate) fn put_bool<O: Output>(out: &mut O, text: &mut Text, value: bool) -> Result<(), PutError>
     ensures put { OnOk result (PutsText O.keeps out.old text.old (token_text (boolean value)) out.new text.new) }
     ensures front { OnErr result (PutsFrontOf O.keeps out.old out.new (text.old ++ token_text (boolean value))) }
     ensures works { OnOk result (O.failures out.new ≡ O.failures out.old) }

@@ -5,7 +5,7 @@ use Rattle.std.specs.List.{list_all, list_any}
 use Rattle.avro_name.specs.declared.error.NameError.{NameError}
 use Rattle.avro_name.specs.declared.error.NameError.TheVariants.{EmptyPart, BadCharacter, PrimitiveName, OutOfMemory}
 use Rattle.avro_name.specs.Name.{is_name_start, is_name_character, is_simple_name, onto_first, dotted_parts, is_dotted_name, is_empty_text, is_misspelled}
-use Rattle.avro_name.specs.NameFault.{IsNamespaceFault, IsNameFault}
+use Rattle.avro_name.specs.NameFault.{IsNamespaceFault}
 use Rattle.avro_name.specs.inside.Scan.{first_fault}
 
 -- the parts are simple names, or the first of them is the end of one
@@ -149,10 +149,3 @@ from_parts text OutOfMemory h = tt
 -- the fault that is found is there
 pub fault_found : (text : List ℕ) (fault : NameError) → Some fault ≡ first_fault true text → IsNamespaceFault text fault
 fault_found text fault e = from_parts text fault (subst (λ (found : Option NameError). IsFaultOf true (dotted_parts text) found) (sym e) (fault_is true text))
-
--- a fault of the parts of a text is one of the name
-pub name_fault : (text enclosing : List ℕ) (fault : NameError) → IsNamespaceFault text fault → IsNameFault text enclosing fault
-name_fault text enclosing EmptyPart h = h
-name_fault text enclosing BadCharacter h = h
-name_fault text enclosing PrimitiveName h = absurd h
-name_fault text enclosing OutOfMemory h = tt

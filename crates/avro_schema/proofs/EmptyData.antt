@@ -1,15 +1,15 @@
 -- The data that take no bytes, by the levels that they are looked for in.
-use Rattle.std.proofs.Common.{◌≡◌, ℕ, zero, suc, ◌+◌, ◌-◌, ◌≤◌, max, true, List, [], ◌∷◌, ◌++◌, Option, Some, None, refl, sym, subst, arith}
+use Rattle.std.proofs.Common.{◌≡◌, ℕ, zero, suc, ◌+◌, ◌-◌, ◌≤◌, max, true, List, [], ◌∷◌, Option, Some, None, refl, sym, subst, arith}
 use Rattle.std.proofs.Math.Nat.{le-max_left, le-max_right}
 use Rattle.avro_name.specs.Name.{Name}
-use Rattle.std.specs.Prelude.{slice_get, ◌==◌, option_map}
+use Rattle.std.specs.Prelude.{◌==◌, option_map}
 use Rattle.std.proofs.lemmas.Bool.{and_parts, false≢true}
 use Rattle.std.proofs.lemmas.Bool.Decides.{nat_tests}
 use Rattle.avro_schema.specs.Value.{Value, Values, no_values, value, size, depth, values_size, values_depth}
 use Rattle.avro_schema.specs.Node.{Node, FieldNode, node_at, field_ids}
 use Rattle.avro_schema.specs.Fits.{fits, fields_fit}
 use Rattle.avro_schema.specs.Empty.{is_empty, are_empty, IsEmptyDatum}
-use Rattle.avro_schema.specs.Empties.{AreEmpties, before, empty_parts, empty_inside, empty_datum, has_measure, have_measure}
+use Rattle.avro_schema.specs.Empties.{before, empty_parts, empty_inside, empty_datum, has_measure, have_measure}
 use Rattle.avro_schema.specs.declared.empties.Empty.{Empty}
 
 -- what a part is found to be, it is in more levels
@@ -166,13 +166,3 @@ entry_shown nodes n e h =
     let m = measured e.nodes e.depth (empty_datum e.depth nodes n) h in
     let f = datum-fits e.depth nodes n m.datum m.found in
     record { datum = m.datum; fitting = f.0; empty = f.1; counted = m.many; deep = m.deep }
-
--- a list with one more entry that knows nothing
-pub none_more : (nodes : List Node) (known : List (Option Empty)) → AreEmpties nodes known → AreEmpties nodes (known ++ None ∷ [])
-none_more nodes known are i e at = are i e (before_none known i at)
-  where
-    before_none : (es : List (Option Empty)) (k : ℕ) → slice_get (es ++ None ∷ []) k ≡ Some (Some e) → slice_get es k ≡ Some (Some e)
-    before_none [] zero k = cc
-    before_none [] (suc i) k = cc
-    before_none (o ∷ es) zero k = k
-    before_none (o ∷ es) (suc i) k = before_none es i k

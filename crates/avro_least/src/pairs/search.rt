@@ -20,7 +20,9 @@ use crate::pairs::erring::pair_entry_near;
 use crate::pairs::graph::Graph;
 use crate::pairs::leads::{Leads, all_leads, last_lead, lead_at};
 use crate::pairs::near::index_next;
-use crate::pairs::parts::{around_part, nth_part, others, others_at, part_at, part_count, value_alone};
+use crate::pairs::parts::{
+    around_part, nth_part, others, others_at, part_at, part_count, value_alone,
+};
 use crate::pairs::reaching::{Reached, ask_at_index, number, readers, writers};
 use crate::queue::Search;
 use avro_schema::{Memory, NodeId, Schema};

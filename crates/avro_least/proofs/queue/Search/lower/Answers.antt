@@ -10,5 +10,10 @@ returns-in_ok-push-clause-effort c =
     let better : improves (seen (Some c.in-Some.entry)) (given_entry (slice_get c.args.self.now.entries.items c.args.i)) ≡ true =
     ap (improves (seen (Some c.in-Some.entry))) (sym (c.entry_at.ensures ∙ ap (λ (es : List (Option KeptLeast)). given_entry (slice_get es c.args.i)) c.deref.ensures.value))
     ∙ sym c.improves.ensures ∙ c.if-improves.true in
-    omega (arith, set_weighs_less c.args.self.now.entries.items c.args.i (Some c.in-Some.entry) better, c.in_ok-push.ensures.len,
-    ap (λ v. weights v.items) c.mark.ensures.entries, ap (λ q. heap_len q) c.mark.ensures.queue)
+    omega (
+      arith,
+      set_weighs_less c.args.self.now.entries.items c.args.i (Some c.in-Some.entry) better,
+      c.in_ok-push.ensures.len,
+      ap (λ v. weights v.items) c.mark.ensures.entries,
+      ap (λ q. heap_len q) c.mark.ensures.queue,
+    )
