@@ -154,7 +154,8 @@ surface: ## tests the public items and their libraries against checks/surface.py
 	checks/surface.py
 	checks/pages.py --check
 
-words: surface ## tests these, the words and codes of the man page and completions, and the tables of the headline, and weighs the sources (six seconds)
+words: surface ## tests these, the edits that they have to find, the words and codes of the man page and completions, and the tables of the headline, and weighs the sources (ten seconds)
+	checks/try_surface.py
 	checks/words.py
 	checks/headline.py
 	checks/weight.py

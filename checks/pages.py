@@ -21,7 +21,7 @@ import sys
 from pathlib import Path
 from typing import Iterator, NamedTuple
 
-from surface import CRATES, ROOT, TESTS, exports, modules
+from sources import CRATES, ROOT, TESTS, exports, modules
 
 DEFINITIONS = """# Definitions
 

@@ -1,6 +1,7 @@
 mod Steps
 mod NamesWritten
 mod StepsTaken
+mod OneText
 mod Rows
 mod Words
 mod NamesRead

@@ -9,6 +9,11 @@ ghost use Rattle.avro_canonical.specs.Canonical.{IsCanonical};
 ghost use Rattle.avro_canonical.specs.CanonicalTree.{form_tree, keeps_names, nodes_in};
 ghost use Rattle.avro_schema_json.specs.DeclaredSchema.{DeclaresSchema};
 
+/// A schema has at most one canonical form.
+pub fn one_text()
+    ensures { (nodes : List Node) (a b : List ℕ) → IsCanonical nodes a → IsCanonical nodes b → a ≡ b }
+{}
+
 /// Schemas with the same canonical form have the same encodings.
 pub fn same_encodings()
     ensures { (nodes others : List Node) (text : List ℕ) → is_schema nodes ≡ true → is_schema others ≡ true

@@ -17,6 +17,8 @@ mod drafts;
 #[cfg(test)]
 mod encoding;
 #[cfg(test)]
+mod name_order;
+#[cfg(test)]
 mod names;
 #[cfg(test)]
 mod numbers;

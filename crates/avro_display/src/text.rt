@@ -1,11 +1,12 @@
 ghost use Rattle.std.specs.Prelude.{◌≡◌, ◌++◌, ◌∷◌, [], OnErr, OnOk, encode_utf8_all, length, string_bytes, take};
-ghost use Rattle.json.specs.Print.{quoted, token_text};
-ghost use Rattle.json.specs.Token.{Token, boolean, null};
+ghost use Rattle.json.specs.Print.{IsPrintable, print, quoted, token_text};
+ghost use Rattle.json.specs.Reads.{token_of};
+ghost use Rattle.json.specs.Token.{boolean, null};
 ghost use Rattle.serde_json.specs.Find.{of_integer};
 ghost use Rattle.serde_json.specs.Written.{comma_if, number_text};
 ghost use Rattle.avro_display.specs.Table.{head_text};
 
-use json::Writer;
+use json::{Token, Writer};
 use std::alloc::{AllocError, Global};
 use std::marker::Model;
 use std::mem::replace;
@@ -106,60 +107,32 @@ impl Text {
         self.held.extend_from_slice(bytes)
     }
 
-    /// A writer of a token, whose buffer is kept from token to token.
-    fn writer(&mut self) -> Writer
-        ensures text { self.new ≡ self.old }
-        ensures before { result.before ≡ [] }
-        ensures tokens { result.tokens ≡ [] }
-    {
-        let alloc = self.allocator();
-        let mut buffer = replace(&mut self.token, Vec::new(alloc));
-        buffer.clear();
-        Writer::new(buffer)
-    }
-
-    /// Appends the token that was written.
-    fn append_written(&mut self, writer: Writer) -> Result<(), AllocError>
-        ensures { (t : Token) → writer.before ≡ [] → writer.tokens ≡ t ∷ [] → OnOk result (self.new ≡ self.old ++ token_text t) }
-    {
-        self.token = writer.into_inner();
-        self.held.extend_from_slice(&self.token)
-    }
-
     /// Appends null. No clause says what the text holds after an error.
     pub fn append_null(&mut self) -> Result<(), AllocError>
         ensures { OnOk result (self.new ≡ self.old ++ token_text null) }
     {
-        let mut writer = self.writer();
-        writer.null()?;
-        self.append_written(writer)
+        append_token(&mut self.held, &mut self.token, Token::Null)
     }
 
     /// Appends a boolean. No clause says what the text holds after an error.
     pub fn append_bool(&mut self, value: bool) -> Result<(), AllocError>
         ensures { OnOk result (self.new ≡ self.old ++ token_text (boolean value)) }
     {
-        let mut writer = self.writer();
-        writer.boolean(value)?;
-        self.append_written(writer)
+        append_token(&mut self.held, &mut self.token, Token::Bool(value))
     }
 
     /// Appends the digits of a number. No clause says what the text holds after an error.
     pub fn append_number(&mut self, number: i64) -> Result<(), AllocError>
         ensures { OnOk result (self.new ≡ self.old ++ number_text (of_integer number)) }
     {
-        let mut writer = self.writer();
-        writer.i64(number)?;
-        self.append_written(writer)
+        append_digits(&mut self.held, &mut self.token, number)
     }
 
     /// Appends a quoted text. No clause says what the text holds after an error.
     pub fn append_quoted(&mut self, string: &str) -> Result<(), AllocError>
         ensures { OnOk result (self.new ≡ self.old ++ quoted string.now) }
     {
-        let mut writer = self.writer();
-        writer.string(string)?;
-        self.append_written(writer)
+        append_token(&mut self.held, &mut self.token, Token::String(string))
     }
 
     /// Appends bytes as a quoted text of one character per byte. No clause says what the text holds after an error.
@@ -167,18 +140,15 @@ impl Text {
         ensures { OnOk result (self.new ≡ self.old ++ quoted (encode_utf8_all bytes.now)) }
     {
         write_characters(&mut self.characters, bytes)?;
-        let mut writer = self.writer();
-        writer.string(self.characters.as_str())?;
-        self.append_written(writer)
+        let characters = Token::String(self.characters.as_str());
+        append_token(&mut self.held, &mut self.token, characters)
     }
 
     /// Appends a key and its colon. No clause says what the text holds after an error.
     pub fn append_key(&mut self, key: &str) -> Result<(), AllocError>
         ensures { OnOk result (self.new ≡ self.old ++ head_text key.now) }
     {
-        let mut writer = self.writer();
-        writer.key(key)?;
-        self.append_written(writer)
+        append_token(&mut self.held, &mut self.token, Token::Key(key))
     }
 
     /// Appends a comma, if something is before. No clause says what the text holds after an error.
@@ -210,4 +180,50 @@ fn write_characters(text: &mut String, bytes: &[u8]) -> Result<(), AllocError>
         text.push(char::from(*byte))?;
     }
     Ok(())
+}
+
+/// Appends a token to bytes.
+fn append_token(
+    held: &mut Vec<u8>,
+    buffer: &mut Vec<u8>,
+    token: Token<'_>,
+) -> Result<(), AllocError>
+    requires { IsPrintable (token_of token) }
+    ensures { OnOk result (held.new.items ≡ held.old.items ++ token_text (token_of token.entry)) }
+{
+    let mut writer = writer_in(buffer);
+    writer.token(token)?;
+    append_written(held, buffer, writer)
+}
+
+/// Appends the digits of a number to bytes.
+fn append_digits(held: &mut Vec<u8>, buffer: &mut Vec<u8>, number: i64) -> Result<(), AllocError>
+    ensures { OnOk result (held.new.items ≡ held.old.items ++ number_text (of_integer number)) }
+{
+    let mut writer = writer_in(buffer);
+    writer.i64(number)?;
+    append_written(held, buffer, writer)
+}
+
+/// A writer of a token by a buffer, which is empty then.
+fn writer_in(buffer: &mut Vec<u8>) -> Writer
+    ensures before { result.before ≡ [] }
+    ensures tokens { result.tokens ≡ [] }
+{
+    let alloc = *buffer.allocator();
+    let mut taken = replace(buffer, Vec::new(alloc));
+    taken.clear();
+    Writer::new(taken)
+}
+
+/// Appends what was written to bytes, and keeps the buffer.
+fn append_written(
+    held: &mut Vec<u8>,
+    buffer: &mut Vec<u8>,
+    writer: Writer,
+) -> Result<(), AllocError>
+    ensures { OnOk result (held.new.items ≡ held.old.items ++ (writer.before ++ print writer.tokens)) }
+{
+    *buffer = writer.into_inner();
+    held.extend_from_slice(buffer)
 }

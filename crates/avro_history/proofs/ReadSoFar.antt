@@ -39,17 +39,6 @@ pub record ReadSoFar (text rest : List ℕ) (kept : List Sets) (great : Bool) : 
   pub small : all_small kept ≡ true
   pub left : (sets : List Sets) → AreLines sets text → Left sets kept rest great
 
-pub read_none : (text : List ℕ) → ReadSoFar text text [] false
-read_none text = record {
-  passed = [];
-  front = refl;
-  same = λ _. refl;
-  over = λ e. absurd (false≢true e);
-  rising = refl;
-  small = refl;
-  left = λ sets lines. record { later = sets; lines = lines; small = λ s. (refl, s, refl) };
-}
-
 -- how a text is split
 abbrev pub PartedFirst : List ℕ → List ℕ → List ℕ → Type 0
 PartedFirst rest front more = (s : Sets) (m : List ℕ) → rest ≡ sets_text s ++ m → (front ≡ sets_text s) × (more ≡ m)
@@ -150,23 +139,11 @@ module _ (text rest front more : List ℕ) (kept : List Sets) (great : Bool) (be
   pub longer : (n : ℕ) → n < length front → n < length text
   longer n h = omega (arith, h, ap length before.front, length-append (flat_map sets_text before.passed) rest, ap length whole, length-append front more)
 
--- a certificate's text has a byte at least
-pub shorter : (rest front more : List ℕ) (s : Sets) → rest ≡ front ++ more → front ≡ sets_text s → length more < length rest
-shorter rest front more s whole written =
-    let some : 0 < length (sets_text s) = omega arith in
-    omega (arith, some, ap length whole, length-append front more, ap length written)
-
 no_more : (later : List Sets) (rest : List ℕ) → AreLines later rest → rest ≡ codes "end\n" → later ≡ []
 no_more [] rest lines e = refl
 no_more (s ∷ others) rest lines e = absurd (false≢true (ap (λ (l : List ℕ). get_or l 0 0 == 101) (sym lines.written ∙ e)))
 
 module _ (text rest : List ℕ) (kept : List Sets) (great : Bool) (read : ReadSoFar text rest kept great) (ends : rest ≡ codes "end\n") where
-  pub all_read : great ≡ false → AreLines kept text
-  all_read e = record {
-    rising = read.rising;
-    written = read.front ∙ ap (λ l. flat_map sets_text l ++ rest) (read.same e) ∙ ap (λ l. flat_map sets_text kept ++ l) ends;
-  }
-
   pub all_kept : (sets : List Sets) → AreLines sets text → all_small sets ≡ true → kept ≡ sets
   all_kept sets lines h =
       let l = read.left sets lines in

@@ -1,26 +1,17 @@
 -- What is made of the pieces of a record.
-use Rattle.std.proofs.Common.{◌≡◌, ℕ, List, Some, None, map, refl, sym, ap, ◌∙◌, subst}
+use Rattle.std.proofs.Common.{◌≡◌, ℕ, List, Some, None, refl, sym, ap, ◌∙◌, subst}
 use Rattle.std.specs.Prelude.{unwrap_or}
 use Rattle.avro_schema.specs.Value.{Value}
 use Rattle.avro_schema.specs.Node.{Node, FieldNode, node_at}
-use Rattle.avro_schema.specs.Seen.{values_from}
 use Rattle.avro_cursor.specs.Encoding.{plain}
 use Rattle.avro_binary.specs.Pieces.{piece}
 use Rattle.avro_compare.specs.Fields.{IsField}
-use Rattle.avro_compare.specs.Resolve.{Sourced, field_value, field_values, sourced_at}
+use Rattle.avro_compare.specs.Resolve.{Sourced, field_value, sourced_at}
 use Rattle.avro_compare.specs.Source.{source_of}
 use Rattle.avro_resolve.specs.Copied.{ArePlain, IsAsSpelled}
-use Rattle.avro_resolve.proofs.Slots.{values_seen}
 
 -- the same fields
 module _ {rs ys : List FieldNode} (ws : List FieldNode) (f : rs ≡ ys) (found : Sourced) where
-  pub plain_by : (reader nodes : List Node) (bytes ends : List ℕ) → nodes ≡ reader → ArePlain reader ws ys found bytes ends → ArePlain nodes ws rs found bytes ends
-  plain_by reader nodes bytes ends same h =
-      subst (λ (ns : List Node). ArePlain ns ws rs found bytes ends) (sym same)
-      (subst (λ (gs : List FieldNode). ArePlain reader ws gs found bytes ends) (sym f) h)
-
-  pub values_by : values_from (map (field_value ws found) rs) ≡ field_values ws found ys
-  values_by = sym (values_seen ws rs found) ∙ ap (field_values ws found) f
 
 -- a field's value, whose source is copied
 pub value_copied : (reader : List Node) (ws rs : List FieldNode) (found : Sourced) (bytes ends : List ℕ) (f : FieldNode) (k : ℕ) (content : List ℕ) → source_of ws f ≡ Some k → IsField f rs

@@ -6,6 +6,7 @@ mod escapes;
 mod files;
 mod inputs;
 mod memory;
+mod refused;
 mod sheets;
 mod steps;
 mod told;

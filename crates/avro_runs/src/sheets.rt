@@ -2,6 +2,7 @@
 
 use crate::escapes::{bytes_of, halves};
 use crate::files::file_step;
+use crate::refused::refuse_step;
 use crate::steps::{Sheet, room_step, run_step, usage_step};
 use crate::told::{
     about_step, any_step, json_step, pointer_step, size_step, told_step, writes_step,
@@ -29,6 +30,7 @@ fn next_step<R: Files + Clock + AllocGlobal>(
     match word {
         "run" => run_step(rt, sheet, text),
         "room" => room_step(rt, sheet, text),
+        "refuse" => refuse_step(rt, sheet, text),
         _ => usage_step(rt, sheet, text),
     }
 }
@@ -42,7 +44,7 @@ fn step<R: Files + Clock + AllocGlobal>(
 ) -> Result<bool> {
     match word {
         "" | "#" => Ok(true),
-        "run" | "room" | "usage" => next_step(rt, sheet, word, text),
+        "run" | "room" | "refuse" | "usage" => next_step(rt, sheet, word, text),
         "out" | "err" | "put" => told_step(rt.alloc(), sheet, word, text),
         "about" => Ok(about_step(sheet, text)),
         "writes" => Ok(writes_step(sheet, text)),
@@ -74,6 +76,7 @@ fn fault(line: &str, sheet: &Sheet) -> Error {
 /// | `input BYTES` | the standard input of later runs |
 /// | `run STATUS WORDS` | a run, with its exit status |
 /// | `room ROOM STATUS WORDS` | the same, where the output takes only some bytes |
+/// | `refuse NAME STATUS WORDS` | the same, where the memory for opening this file is refused |
 /// | `usage WORDS` | a run whose words are usage |
 /// | `out TEXT`, `err TEXT` | the next line of its output, or of its errors |
 /// | `about FRONT~BACK` | how the next line of its errors begins and ends, behind its last carriage return |

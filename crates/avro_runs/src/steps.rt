@@ -98,7 +98,7 @@ pub(crate) fn outcome_from<R: Files + Clock + AllocGlobal>(
 }
 
 /// A run of a line of a sheet, where the output and the error take these numbers of bytes.
-fn run_line<R: Files + Clock + AllocGlobal>(
+pub(crate) fn run_line<R: Files + Clock + AllocGlobal>(
     rt: &R,
     sheet: &mut Sheet,
     line: &str,

@@ -1,5 +1,5 @@
 -- The ids of names and the numbers of namespaces, as one is added.
-use Rattle.avro_schema_json.proofs.Words.{◌≡◌, ℕ, zero, suc, ◌+◌, ◌<◌, Bool, true, false, ◌&&◌, ◌==◌, cond, List, length, length-append, [], ◌∷◌, ◌++◌, map-append, slice_get, slice_index_or, Option, Some, None, refl, sym, ap, subst, ◌∙◌, arith, bytes_eq, string_bytes, Result, Ok, Err, OnOk, OnErr, IfOk, if◌then◌else◌, cond-true, cond-false, false_from_ne_true, bytes_eq-Decides, both_ways, bytes_eq-sym, Name, same_name, name_of, has_dot, same_name-is, Known, id_of, defining, Key, number_of, name_at, known_in, AreWithin, AreNumbered, lookup, list_any, same_Some, and_comm}
+use Rattle.avro_schema_json.proofs.Words.{◌≡◌, ℕ, zero, suc, ◌+◌, ◌<◌, Bool, true, false, ◌&&◌, ◌==◌, cond, List, length, [], ◌∷◌, ◌++◌, map-append, slice_get, slice_index_or, Option, Some, None, refl, sym, ap, subst, ◌∙◌, arith, bytes_eq, string_bytes, Result, Ok, Err, OnOk, OnErr, IfOk, if◌then◌else◌, cond-true, cond-false, false_from_ne_true, bytes_eq-Decides, both_ways, bytes_eq-sym, Name, same_name, name_of, has_dot, same_name-is, Known, id_of, defining, Key, number_of, name_at, known_in, AreWithin, AreNumbered, lookup, list_any, same_Some, and_comm}
 use Rattle.std.proofs.Common.{position, eqb-true, eq-eqb}
 use Rattle.std.proofs.lemmas.Iterator.Adapters.{position_from-zero}
 use Rattle.std.specs.List.{position_from, IsDistinct, AllByRecursion}
@@ -11,27 +11,8 @@ use Rattle.avro_schema_json.specs.inside.KnownSeen.{known_of, IsNumbered}
 use Rattle.avro_schema_json.specs.declared.declarations.name_table.NameTable.{NameTable}
 use Rattle.avro_schema_json.specs.declared.declarations.name_table.Space.{Space}
 
-taken : (q name : Name) (known : Known) (first : Name × ℕ) → same_name q first.0 ≡ true → id_of name (first ∷ known) ≡ None → same_name q name ≡ false
-taken q name known first here absent =
-    false_from_ne_true (same_name q name) (λ h.
-    let same : same_name name first.0 ≡ true = ap (λ n. same_name n first.0) (sym (same_name-is q name h)) ∙ here in
-    some_none (rw same at absent))
-  where
-    some_none : Some first.1 ≡ None → ⊥
-    some_none h = absurd cc
-
 later : (name : Name) (known : Known) (first : Name × ℕ) → id_of name (first ∷ known) ≡ None → id_of name known ≡ None
 later name known first absent = grind arith
-
--- a name that is added is found with its id, and the others as before
-pub found_after : (q name : Name) (id : ℕ) (known : Known) → id_of name known ≡ None
-    → id_of q (known ++ (name, id) ∷ []) ≡ cond (same_name q name) (Some id) (id_of q known)
-found_after q name id [] absent = refl
-found_after q name id (first ∷ known) absent = by (found_after q name id known (later name known first absent)) (same_name q first.0) refl
-  where
-    by : id_of q (known ++ (name, id) ∷ []) ≡ cond (same_name q name) (Some id) (id_of q known) → (here : Bool) → same_name q first.0 ≡ here
-        → id_of q ((first ∷ known) ++ (name, id) ∷ []) ≡ cond (same_name q name) (Some id) (id_of q (first ∷ known))
-    by rest here h = grind (arith, taken)
 
 -- a name is found by its namespace's number and its simple part
 pub found_in : (names : NameTable) (space : Space) (name : Name) (simple : List ℕ) (id : Option ℕ) (known : Known) → IsNumbered names space
@@ -170,16 +151,6 @@ insertion_follows (Ok x) before after t put unchanged = one_follows before after
 insertion_follows (Err e) before after t put unchanged = same_follows before after unchanged
 
 module _ (before after : List (List ℕ)) (f : Follows before after) where
-  pub numbers_kept : IsDistinct bytes_eq after → (namespace : List ℕ) (n : ℕ) → position (bytes_eq namespace) before ≡ Some n → position (bytes_eq namespace) after ≡ Some n
-  numbers_kept distinct namespace n h =
-      placed namespace after n distinct (ap (λ (ts : List (List ℕ)). slice_get ts n) f.is ∙ stays before f.more n namespace (there namespace before n h))
-
-  pub within_kept : (entries : List (Key × ℕ)) → AreWithin (length before) entries → AreWithin (length after) entries
-  within_kept [] h = tt
-  within_kept (e ∷ es) h =
-      let long = ap length f.is ∙ length-append before f.more in
-      let low = h.0 in (omega (arith, long, low), within_kept es h.1)
-
   pub known_kept : (entries : List (Key × ℕ)) → AreWithin (length before) entries → known_in after entries ≡ known_in before entries
   known_kept [] h = refl
   known_kept (e ∷ es) h =

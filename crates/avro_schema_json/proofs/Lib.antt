@@ -17,7 +17,6 @@ mod RowsLimits
 pub mod ReadSeen
 mod KnownFound
 pub mod MadeSound
-pub mod DefaultsFit
 pub mod RepeatsSeen
 pub mod EachSeen
 pub mod NodesSeen

@@ -21,9 +21,6 @@ has_some : {A : Type 0} (o : Option A) → is_some o ≡ true → (x : A) × (o 
 has_some o h = grind arith
 
 module _ (nodes : List Node) where
-  one_kind : (p q : Option BranchKind) (k j : BranchKind) → p ≡ q → p ≡ Some k → q ≡ Some j → k ≡ j
-  one_kind p q k j a e f = cc
-
   kinds_alike : (x y : ℕ) (k j : BranchKind) → kind_at nodes x ≡ Some k → kind_at nodes y ≡ Some j → code_by nodes x ≡ code_by nodes y → same_kind k j ≡ true
   kinds_alike x y k j e f h = grind (arith, same_code, same_kind-self)
 

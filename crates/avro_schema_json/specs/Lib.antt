@@ -5,7 +5,6 @@ pub mod DeclaredFaults
 pub mod DeclaredSchema
 pub mod DeclaredText
 pub mod Declares
-pub mod PlainTree
 pub mod Refusals
 pub mod TextRefusals
 pub mod inside

@@ -1,14 +1,12 @@
 //! Laws of what JSON declares.
 
 ghost use Rattle.std.specs.Prelude.{◌≡◌, ◌≢◌, ℕ, ◌∷◌, true, List, None, Some};
-ghost use Rattle.avro_schema.specs.Fits.{fits};
 ghost use Rattle.avro_schema.specs.Node.{Node, branches_of, node_at};
 ghost use Rattle.avro_schema.specs.Value.{Value};
 ghost use Rattle.avro_schema.specs.WellFormed.{is_schema};
 ghost use Rattle.avro_schema_json.specs.DeclaredDefaults.{default_of};
 ghost use Rattle.avro_schema_json.specs.DeclaredFaults.{HasFault};
 ghost use Rattle.avro_schema_json.specs.DeclaredSchema.{DeclaresSchema, declared};
-ghost use Rattle.avro_schema_json.specs.PlainTree.{is_plain_tree};
 ghost use Rattle.avro_schema_json.specs.declared.error.SchemaError.{SchemaError};
 ghost use Rattle.serde_json.specs.Data.{Data};
 
@@ -43,9 +41,4 @@ pub fn first_branch_is_taken()
     ensures { (nodes : List Node) (tree : Data) (union : Node) (id : ℕ) (others : List ℕ) (v : Value) → branches_of union ≡ Some (id ∷ others)
         → branches_of (node_at nodes id) ≡ None → default_of nodes tree (node_at nodes id) ≡ Some v
         → default_of nodes tree union ≡ Some (Value.union 0 v) }
-{}
-
-/// The default that JSON gives for a node is a datum of the node, for a tree as texts hold it.
-pub fn default_fits()
-    ensures { (nodes : List Node) (tree : Data) (n : Node) (v : Value) → is_plain_tree tree ≡ true → default_of nodes tree n ≡ Some v → fits nodes n v ≡ true }
 {}

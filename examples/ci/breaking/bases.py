@@ -111,7 +111,7 @@ def named_bases(options: Options, tags: Tags) -> list[Base]:
 
 def check_commit(name: str) -> None:
     if commit_of(name) is None:
-        is_file = os.path.lexists(name) or bool(git("ls-files", "--", name))
+        is_file = os.path.lexists(name) or bool(git("ls-files", "--", f":(literal){name}"))
         hint = f" (of a file: avro-breaking -- {quoted(name)})" if is_file else ""
         stop(USAGE, f"{quoted(name)}: no such commit{hint}")
 

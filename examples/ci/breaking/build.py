@@ -25,6 +25,12 @@ This file is made of the modules of examples/ci/breaking by their build.py: chan
 
 from __future__ import annotations
 
+import sys
+
+if sys.version_info < (3, 9):
+    sys.stderr.write("avro-breaking: needs Python 3.9 or newer\\n")
+    sys.exit(4)
+
 '''
 FOOT = '''
 
@@ -49,7 +55,7 @@ class Joined:
     """What the modules so far import and define, and their texts."""
 
     def __init__(self) -> None:
-        self.plain: set[str] = set()
+        self.plain: set[str] = set()  # but for sys, which is in the head
         self.taken: dict[str, set[str]] = {}
         self.defined: dict[str, str] = {}
         self.texts: list[str] = []
@@ -85,7 +91,7 @@ class Joined:
 
     def text(self) -> str:
         self.taken.pop("__future__")
-        lines = [f"import {name}\n" for name in sorted(self.plain)]
+        lines = [f"import {name}\n" for name in sorted(self.plain - {"sys"})]
         lines += [f"from {name} import {', '.join(sorted(self.taken[name]))}\n" for name in sorted(self.taken)]
         return HEAD + "".join(lines) + "\n\n" + "\n\n".join(self.texts) + FOOT
 

@@ -59,7 +59,9 @@ def program(name: str) -> str:
 
 def script(name: str) -> Path:
     here = Path(__file__).resolve().parent
-    folders = [here, here.parent / "adapt", here.parent.parent / "adapt"]
+    if (here / "desk.py").is_file():
+        here = here.parent
+    folders = [here, here.parent / "adapt"]
     if "BUNDLE" in os.environ:
         folders = [Path(os.environ["BUNDLE"]).resolve().parent]
     files = [folder / name for folder in folders]

@@ -4,6 +4,7 @@ from __future__ import annotations
 
 import os
 import subprocess
+import tempfile
 from typing import Iterator
 
 from .ending import FAILED, MOST_TEXT, Stop, stop
@@ -29,15 +30,16 @@ def is_so(*words: str, **environment: str) -> bool:
 
 def records(*words: str, **environment: str) -> Iterator[str]:
     """What a command of git prints before each NUL, without holding it all."""
-    pipes = {"stdout": subprocess.PIPE, "stderr": subprocess.PIPE}
-    with subprocess.Popen(["git", *words], env={**os.environ, **environment}, **pipes) as process:
-        rest = b""
-        while piece := process.stdout.read(PIECE):
-            *whole, rest = (rest + piece).split(b"\0")
-            yield from map(os.fsdecode, whole)
-        said = process.stderr.read()
-    if process.returncode:
-        stop(FAILED, f"git {words[0]}: {first_line(said) or f'status {process.returncode}'}")
+    with tempfile.TemporaryFile() as errors:
+        process = subprocess.Popen(["git", *words], env={**os.environ, **environment}, stdout=subprocess.PIPE, stderr=errors)
+        with process:
+            rest = b""
+            while piece := process.stdout.read(PIECE):
+                *whole, rest = (rest + piece).split(b"\0")
+                yield from map(os.fsdecode, whole)
+        errors.seek(0)
+        if process.returncode:
+            stop(FAILED, f"git {words[0]}: {first_line(errors.read(PIECE)) or f'status {process.returncode}'}")
 
 
 def commit_of(name: str) -> str | None:

@@ -73,8 +73,8 @@ class Place:
         elif kind == "map":
             yield "{}", self.at("/values", self.schema["values"], self.space)
         elif kind in RECORDS:
-            for index, field in enumerate(self.schema["fields"]):
-                yield f".{field['name']}", self.at(f"/fields/{index}/type", field["type"], self.name.rpartition(".")[0])
+            for index, part in enumerate(self.schema["fields"]):
+                yield f".{part['name']}", self.at(f"/fields/{index}/type", part["type"], self.name.rpartition(".")[0])
 
     def below(self) -> Iterator[Place]:
         left = [self]

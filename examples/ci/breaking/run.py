@@ -8,7 +8,6 @@ import errno
 import os
 import shutil
 import signal
-import sys
 import tempfile
 from pathlib import Path
 from typing import Iterator
@@ -21,7 +20,7 @@ from .ending import FAILED, NO_MEMORY, SECONDS, SECONDS_OF_TEXT, USAGE, Stop, st
 from .git import Blobs, git
 from .history import History
 from .judging import OUTCOMES, FileJudge, worst
-from .log import Log, complain, quoted
+from .log import Log, complain, in_quotes, quoted
 from .options import Options, read_words
 from .trees import Tree, Version, WorkingTree
 
@@ -95,7 +94,7 @@ class Reading:
         self.options, self.folder, self.blobs = options, folder, blobs
         self.paths = options.paths or EVERY
         # Each PATHSPEC must name a file of some tree, and so must all together.
-        self.unnamed = [*((path,) for path in self.paths), self.paths]
+        self.unnamed = list(dict.fromkeys([*((path,) for path in self.paths), self.paths]))
         self.count = 0
 
     def history(self, bases: Bases) -> History:
@@ -128,7 +127,8 @@ class Reading:
 
 
 def in_single_quotes(path: str) -> str:
-    return f"'{path}'" if quoted(path) == path else quoted(path)
+    written = in_quotes(path)
+    return f"'{path}'" if written == f'"{path}"' else written
 
 
 def modules_told(tree: Tree) -> str:
@@ -172,9 +172,6 @@ def failure(fault: Exception) -> Stop:
 
 
 def main(words: list[str]) -> int:
-    if sys.version_info < (3, 9):
-        complain("avro-breaking: needs Python 3.9")
-        return FAILED
     try:
         return judge_in_folder(read_words(words))
     except KeyboardInterrupt:

@@ -1,0 +1,219 @@
+#!/usr/bin/env python3
+"""Measures `avro-breaking` on trees of schemas that are made to be costly.
+
+    try_costs.py [PROGRAM [NAME..]]
+
+PROGRAM is $AVRO where it is not given, and else avro on the PATH; with NAME only such trees are tried. A row has the status,
+the seconds of processor time and of the clock, and the memory of the largest process, the check and all that it starts; and
+the last line that was printed. The status is 0 if each run ends as it should, within 300 MB and 10 seconds of processor time
+(a tree of many texts: 0.1 more for each).
+"""
+
+from __future__ import annotations
+
+import json
+import os
+import shutil
+import subprocess
+import sys
+import tempfile
+import time
+from dataclasses import dataclass, field
+from pathlib import Path
+from typing import Any, Callable
+
+HERE = Path(__file__).resolve().parent
+MOST_MEMORY, MOST_SECONDS = 300.0, 10.0
+MOST_TEXT = 1_048_576
+
+
+@dataclass(frozen=True)
+class Tree:
+    """The files of a tree before and after, the words of the call, and the statuses that it may end with."""
+
+    old: dict[str, bytes]
+    new: dict[str, bytes]
+    words: tuple[str, ...] = ()
+    statuses: tuple[int, ...] = (1,)
+    others: dict[str, bytes] = field(default_factory=dict)
+
+
+def record(fields: list[tuple[str, Any]], **others: Any) -> dict:
+    return {"type": "record", "name": "R", "fields": [{"name": name, "type": kind} for name, kind in fields], **others}
+
+
+def text(schema: Any) -> bytes:
+    made = json.dumps(schema, separators=(",", ":")).encode()
+    assert len(made) <= MOST_TEXT, len(made)
+    return made
+
+
+def one(old: Any, new: Any, *words: str, statuses: tuple[int, ...] = (1,), **others: bytes) -> Tree:
+    return Tree({"a.avsc": text(old)}, {"a.avsc": text(new)}, words, statuses, others)
+
+
+def numbered(letter: str, count: int) -> list[str]:
+    return [f"{letter}{number}" for number in range(count)]
+
+
+def aliases(count: int) -> Tree:
+    """A record and its field that had many names."""
+    names = numbered("a", count)
+    new = record([("x", {"type": "int", "logicalType": "date"})], aliases=names)
+    new["fields"][0]["aliases"] = names
+    return one(record([("x", "int")]), new, statuses=(0,))
+
+
+def changed_fields(*words: str, accepted: int) -> Tree:
+    """Many fields with other types, of which some are accepted."""
+    old, new = (record([(name, kind) for name in numbered("f", 2000)]) for kind in ("int", "string"))
+    lines = "".join(f"a.avsc v1 /fields/{number}\n" for number in range(accepted)).encode()
+    return one(old, new, *words, statuses=(0 if accepted == 2000 else 1,), allowed=lines)
+
+
+def long_answer(*words: str, kinds: tuple[str, str] = ("int", "string"), statuses: tuple[int, ...] = (1,)) -> Tree:
+    """Each of many faults lies below a field with a long name: two hundred MB of faults."""
+    inner = [record([(name, kind) for name in numbered("f", 1000)], name="I") for kind in kinds]
+    old, new = (record([("l" * 100_000, each)]) for each in inner)
+    return one(old, new, *words, statuses=statuses, allowed=b"a.avsc v1 /fields/0/type/fields/0\n")
+
+
+def long_answer_accepted() -> Tree:
+    tree = long_answer("--allow", "allowed", statuses=(0,))
+    return Tree(tree.old, tree.new, tree.words, tree.statuses, {"allowed": b"a.avsc v1 /fields\n"})
+
+
+def symbols(*words: str, statuses: tuple[int, ...] = (1,), accepted: bytes = b"") -> Tree:
+    """An enum with a long name that lost many symbols: fifteen GB of faults."""
+    old = {"type": "enum", "name": "E" * 250_000, "symbols": numbered("s", 60_000)}
+    return one(old, {**old, "symbols": ["z"]}, *words, statuses=statuses, allowed=accepted)
+
+
+def attributes() -> Tree:
+    """A text that takes much memory once it is read."""
+    filled = [{"": 0}] * 140_000
+    return one(record([("a", "int")], x=filled), record([("a", "string")], x=filled), statuses=(1, 3))
+
+
+def datum() -> Tree:
+    """A smallest datum of many fields with long names."""
+    inner = record([("l" * 60_000, "int")], name="I")
+    fields = [("first", inner), *((name, "I") for name in numbered("f", 500))]
+    return one(record(fields), record([*fields, ("more", "int")]), statuses=(1, 4))
+
+
+def notes() -> Tree:
+    """Many changes of logical types."""
+    old, new = (record([(name, {"type": "int", "logicalType": word}) for name in numbered("f", 1500)]) for word in ("date", "x" * 400))
+    return one(old, new, statuses=(0,))
+
+
+def nested(open_: str, close: str) -> Tree:
+    """A text that is no schema, in a renamed file."""
+    made = (open_ * 500_000)[: MOST_TEXT // 2] + (close * 500_000)[: MOST_TEXT // 2]
+    return Tree({"a.avsc": text(record([]))}, {"b.avsc": made.encode()}, (), (3,))
+
+
+def many_files(*words: str, statuses: tuple[int, ...] = (1,)) -> Tree:
+    """A hundred texts as long as they may be."""
+    olds, news = ({f"{n}.avsc": text(record([(f"f{n}", kind)], name=f"R{n}", doc="x" * 1_048_400)) for n in range(100)}
+                  for kind in ("int", "string"))  # fmt: skip
+    return Tree(olds, news, words, statuses)
+
+
+def patterns() -> Tree:
+    """A file of accepted breaks as long as it may be."""
+    lines = b"".join(b"*%d*x*.avsc v1 /fields/%d\n" % (number, number) for number in range(35_000))
+    return one(record([("a", "int")]), record([("a", "string")]), "--allow", "allowed", allowed=lines)
+
+
+def sparse() -> Tree:
+    """A file of forty GB."""
+    return Tree({"a.avsc": b'"int"'}, {"a.avsc": b'"int"', "huge.avsc": b""}, (), (3,))
+
+
+TREES: dict[str, Callable[[], Tree]] = {
+    "2,700 aliases of a record and of its field (41 KB)": lambda: aliases(2_700),
+    "58,000 aliases of a record and of its field (1 MB)": lambda: aliases(58_000),
+    "2,000 changed fields, all accepted": lambda: changed_fields("--allow", "allowed", accepted=2000),
+    "2,000 changed fields, one not accepted": lambda: changed_fields("--allow", "allowed", accepted=1999),
+    "200 MB of faults": long_answer,
+    "200 MB of faults, one accepted": lambda: long_answer("--allow", "allowed"),
+    "200 MB of faults, all accepted": long_answer_accepted,
+    "200 MB of faults of doubles, --tame": lambda: long_answer("--tame", kinds=("double", "string")),
+    "15 GB of faults": symbols,
+    "15 GB of faults, all accepted by a place": lambda: symbols("--allow", "allowed", accepted=b"a.avsc v1 /x\n"),
+    "140,000 small objects in a text (1 MB)": attributes,
+    "a datum of 30 MB": datum,
+    "1,500 notes": notes,
+    "half a million brackets": lambda: nested("[", "]"),
+    "half a million keys": lambda: nested('{"":', "}"),
+    "100 texts of 1 MiB": many_files,
+    "100 texts of 1 MiB, --bundle": lambda: many_files("--bundle", statuses=(1, 5)),
+    "35,000 patterns of accepted breaks": patterns,
+    "a file of 40 GB": sparse,
+}
+
+
+def git(folder: Path, *words: str) -> None:
+    settings = ("-c", "user.name=A user", "-c", "user.email=user@example.com")
+    subprocess.run(["git", "-C", folder, *settings, *words], check=True, capture_output=True)
+
+
+def write(folder: Path, files: dict[str, bytes]) -> None:
+    for name, data in files.items():
+        (folder / name).write_bytes(data)
+        if name == "huge.avsc":
+            os.truncate(folder / name, 40_000_000_000)
+
+
+def lay(folder: Path, tree: Tree) -> None:
+    git(folder.parent, "init", "-q", folder.name)
+    write(folder, tree.old)
+    git(folder, "add", "-A")
+    git(folder, "commit", "-qm", "old")
+    git(folder, "tag", "v1")
+    for name in tree.old:
+        (folder / name).unlink()
+    write(folder, tree.new)
+    write(folder, tree.others)
+
+
+def measured(words: list[str], folder: Path, program: str) -> tuple[int, float, float, float, str]:
+    """The status, processor time, time and memory of a run with all its processes, and the last line."""
+    start = time.monotonic()
+    with open(folder.parent / "said", "w+b") as said:
+        process = subprocess.Popen(words, cwd=folder, stdout=said, stderr=subprocess.STDOUT, env={**os.environ, "AVRO": program})
+        _, status, usage = os.wait4(process.pid, 0)
+        said.seek(0)
+        lines = said.read().decode(errors="replace").splitlines()
+    seconds = usage.ru_utime + usage.ru_stime
+    return os.waitstatus_to_exitcode(status), seconds, time.monotonic() - start, usage.ru_maxrss / 1000, (lines or [""])[-1]
+
+
+def is_right(tree: Tree, status: int, seconds: float, memory: float) -> bool:
+    most = MOST_SECONDS + (0.1 * len(tree.new) * 2 if len(tree.new) > 1 else 1)
+    return status in (*tree.statuses, 4) and seconds <= most and memory <= MOST_MEMORY
+
+
+def main(words: list[str]) -> int:
+    program = os.path.realpath(shutil.which(words[0] if words else os.environ.get("AVRO", "avro")) or sys.exit("no program"))
+    wrong = 0
+    print("| Tree | Status | Processor time | Time | Memory | Last line |\n|---|---|---|---|---|---|")
+    for name, make in TREES.items():
+        if words[1:] and not any(word in name for word in words[1:]):
+            continue
+        with tempfile.TemporaryDirectory(prefix="costs.") as top:
+            folder, tree = Path(top) / "tree", make()
+            lay(folder, tree)
+            found = measured([sys.executable, str(HERE / "avro-breaking"), *tree.words], folder, program)
+        status, seconds, clock, memory, line = found
+        is_wrong = not is_right(tree, status, seconds, memory)
+        wrong += is_wrong
+        print(f"| {name} | {status} | {seconds:.1f} s | {clock:.1f} s | {memory:.0f} MB | {line[:120]} |{' WRONG' * is_wrong}", flush=True)
+    print(f"{wrong} wrong")
+    return 1 if wrong else 0
+
+
+if __name__ == "__main__":
+    sys.exit(main(sys.argv[1:]))
