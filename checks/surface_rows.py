@@ -206,7 +206,7 @@ serde_json avro_schema_json/src/read.rt serde_json::Value::from_slice
 serde_json avro_why/src/reasons.rt serde_json::Value::from_slice or serde_json::Value::from_str
 # Displays, the lines of --json and the metadata of a header are written.
 json avro_display/src/text.rt json::Writer::new
-json avro_display/src/text.rt .string
+json avro_display/src/text.rt .token
 serde_json avro_answer/src/json_object.rt serde_json::Value
 serde_json avro_tool/src/commands/header.rt serde_json::Value
 # Bytes from outside become text by one function.
@@ -236,16 +236,13 @@ KEYS = "keys of data or of metadata, which are no names of a schema"
 ORDERED = "a display has the names of fields in the order of their bytes"
 SORTED = "that no name repeats is told by sorting references; nothing is looked up there"
 LISTED = "the texts of one array with their places, in their order; none is looked up there"
-FILLED = "the keys are numbers, as the head of the function says that fills it"
 CUT = "a long text is cut at the start of a character; what is left is checked by text_of"
 SPELLED = "the canonical form is JSON whose attributes have an order of their own, which no Map of serde_json keeps; a clause spells it"
-TOKEN = "a token of a display; a clause says that the whole is serde_json's text"
 MEMBER = "a boolean in a line of JSON; a clause says that the whole is serde_json's text"
 AROUND = "brackets around what a writer has made; a clause says that the whole is serde_json's text"
 LINE = "constant members of a line of JSON; a clause or a test spells the line"
 STEP = "an entry in a path, which is no JSON"
 QUOTED = "a message has a word in quotes, or without those that serde_json puts; it is no JSON"
-SCANNED = "a byte that is looked for; none is written"
 
 # What stands by hand nonetheless: the rule, the file, the reason, and each thing that stands there, with how often.
 EXCEPTIONS = [
@@ -262,8 +259,6 @@ EXCEPTIONS = [
     (NAMES, "avro_schema/src/datum.rt", "a datum is a tree of values, and keeps no names", {"Datum": 1}),
     (NAMES, "avro_tool/src/grammar.rt", "a word is compared with the name of each command, of which there are eleven", {"commands_of: any": 1}),
     (NAMES, "avro_why/src/definitions.rt", LISTED, {"Vec<(&str, PlaceId)>": 1}),
-    (NAMES, "avro_why/src/types.rt", FILLED, {"read_union: no key": 1}),
-    (ERRORS, "avro_compare/src/error.rt", "its text has a path, whose steps are written one by one", {"Fault": 1}),
     (JSON, "avro_answer/src/datum_texts.rt", LINE, {'{"bytes":': 1, ',"datum":': 1}),
     (FRAMES, "avro_answer/src/datum_texts.rt", AROUND, {"}\\n": 1}),
     (JSON, "avro_answer/src/explaining.rt", LINE, {'{"verdict":"yes","faults":[]}\\n': 1, '{"verdict":"undecided","cause":"Pairs"}\\n': 1}),
@@ -297,32 +292,21 @@ EXCEPTIONS = [
     (FRAMES, "avro_canonical/src/opening.rt", SPELLED, {"[": 1, "]}": 1, "}": 1}),
     (JSON, "avro_canonical/src/spelling.rt", SPELLED, {'"': 4, '{"name":': 1, ',"type":': 1}),
     (FRAMES, "avro_canonical/src/writing.rt", SPELLED, {"]": 1, "]}": 1, "}": 1}),
-    (JSON, "avro_display/src/escapes.rt", SCANNED, {'"': 3}),
-    (JSON, "avro_display/src/labels.rt", "tokens of a display, and the word of a type; a clause spells each", {"true": 1, "false": 1, "null": 1}),
+    (JSON, "avro_display/src/labels.rt", "the word of a type, which a branch has as its name", {"null": 1}),
     (FRAMES, "avro_display/src/labels.rt", AROUND, {"{": 1}),
     (FRAMES, "avro_display/src/members.rt", AROUND, {"{": 1}),
-    (JSON, "avro_display/src/putting.rt", TOKEN, {"null": 2}),
     (FRAMES, "avro_display/src/putting.rt", AROUND, {"}": 3, "[": 1, "]": 1, "{": 1, "{}": 1}),
-    (JSON, "avro_display/src/text.rt", TOKEN, {'"': 2}),
-    (NUMBERS, "avro_display/src/text.rt", TOKEN, {"itoa": 1}),
     (FRAMES, "avro_show/src/composing.rt", AROUND, {"[": 1, "]": 1, "{": 1, "}": 2, "{}": 1}),
-    (JSON, "avro_show/src/leaf.rt", TOKEN, {"null": 1}),
-    (NUMBERS, "avro_show/src/numbers.rt", TOKEN, {"itoa": 1}),
-    (FRAMES, "avro_show/src/numbers.rt", AROUND, {"[]": 1, "]": 1, "[": 1}),
     (FRAMES, "avro_show/src/scratch.rt", AROUND, {"}": 1}),
-    (JSON, "avro_why/src/json_fault.rt", SCANNED, {'"': 2}),
-    (FRAMES, "avro_why/src/json_fault.rt", SCANNED, {"[": 2, "{": 2, "]": 1, "}": 1}),
-    (JSON, "avro_why/src/offsets.rt", SCANNED, {'"': 2}),
-    (FRAMES, "avro_why/src/offsets.rt", SCANNED, {"[": 1, "{": 1, "]": 1, "}": 1}),
     (
         JSON,
         "avro_why/src/words.rt",
         QUOTED,
         {
-            '"': 2,
-            '"{name}" is not a valid name': 1,
-            'missing "{key}"': 1,
-            '"{key}" must be {what}': 1,
+            '"': 5,
+            '" is not a valid name': 1,
+            'missing "': 1,
+            '" must be ': 1,
             'missing "type" (a registry\'s answer? its schema is the string under "schema")': 1,
             '"size" must be 0 to 1048576': 1,
         },
