@@ -10,9 +10,6 @@ use Rattle.avro_compare.specs.Resolve.{Sourced, field_value, sourced_at}
 use Rattle.avro_compare.specs.Source.{source_of}
 use Rattle.avro_resolve.specs.Copied.{ArePlain, IsAsSpelled}
 
--- the same fields
-module _ {rs ys : List FieldNode} (ws : List FieldNode) (f : rs ≡ ys) (found : Sourced) where
-
 -- a field's value, whose source is copied
 pub value_copied : (reader : List Node) (ws rs : List FieldNode) (found : Sourced) (bytes ends : List ℕ) (f : FieldNode) (k : ℕ) (content : List ℕ) → source_of ws f ≡ Some k → IsField f rs
     → ArePlain reader ws rs found bytes ends → content ≡ piece bytes ends k → IsAsSpelled (node_at reader f.node) content → plain (field_value ws found f) ≡ content
