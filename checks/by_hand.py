@@ -308,7 +308,8 @@ def defined(crate: str, module: Module, name: str) -> tuple[str, Module, str] | 
         if name in public_types(text):
             return crate, module, name
         if name in aliases_in(text):
-            name = re.findall(r"\w+", aliases_in(text)[name].split("<")[0])[-1]
+            words = re.findall(r"\w+", aliases_in(text)[name].split("<")[0])
+            name = words[-1] if words else ""
             continue
         place = target(crate, module, imports(text)[name]) if name in imports(text) else definition(crate, (), name)
         if place is None or place == (crate, module, name):

@@ -206,7 +206,7 @@ serde_json avro_schema_json/src/read.rt serde_json::Value::from_slice
 serde_json avro_why/src/reasons.rt serde_json::Value::from_slice or serde_json::Value::from_str
 # Displays, the lines of --json and the metadata of a header are written.
 json avro_display/src/text.rt json::Writer::new
-json avro_display/src/text.rt .token
+json avro_display/src/text.rt .string or .token
 serde_json avro_answer/src/json_object.rt serde_json::Value
 serde_json avro_tool/src/commands/header.rt serde_json::Value
 # Bytes from outside become text by one function.
