@@ -149,4 +149,4 @@ words: surface ## tests these, the words and codes of the man page and completio
 clean: ## removes what checks and builds have left (seconds)
 	rm -rf crates/*/out bindings/out packaging/out
 	rm -rf bench/__pycache__ bench/*/__pycache__ bindings/python/__pycache__ checks/__pycache__
-	rm -rf examples/__pycache__ examples/*/__pycache__
+	rm -rf examples/__pycache__ examples/*/__pycache__ examples/*/*/__pycache__ examples/*/*/*/__pycache__

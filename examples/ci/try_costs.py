@@ -37,6 +37,10 @@ class Tree:
     statuses: tuple[int, ...] = (1,)
     others: dict[str, bytes] = field(default_factory=dict)
 
+    def call(self) -> dict[str, Any]:
+        """What is known of the tree once it lies there."""
+        return {"words": self.words, "statuses": self.statuses, "count": 2 * len(self.new)}
+
 
 def record(fields: list[tuple[str, Any]], **others: Any) -> dict:
     return {"type": "record", "name": "R", "fields": [{"name": name, "type": kind} for name, kind in fields], **others}
@@ -191,24 +195,36 @@ def measured(words: list[str], folder: Path, program: str) -> tuple[int, float, 
     return os.waitstatus_to_exitcode(status), seconds, time.monotonic() - start, usage.ru_maxrss / 1000, (lines or [""])[-1]
 
 
-def is_right(tree: Tree, status: int, seconds: float, memory: float) -> bool:
-    most = MOST_SECONDS + (0.1 * len(tree.new) * 2 if len(tree.new) > 1 else 1)
-    return status in (*tree.statuses, 4) and seconds <= most and memory <= MOST_MEMORY
+def is_right(call: dict[str, Any], status: int, seconds: float, memory: float) -> bool:
+    """Some seconds more are for what is done before and after the answers."""
+    most = MOST_SECONDS + 0.1 * call["count"] + 1
+    return status in (*call["statuses"], 4) and seconds <= most and memory <= MOST_MEMORY
+
+
+def laid(name: str, folder: Path) -> dict[str, Any]:
+    """Lays a tree by another process: the memory of this one would count as that of those that it starts."""
+    words = [sys.executable, __file__, "--lay", name, folder]
+    return json.loads(subprocess.run(words, check=True, capture_output=True).stdout)
 
 
 def main(words: list[str]) -> int:
+    if words[:1] == ["--lay"]:
+        tree = TREES[words[1]]()
+        lay(Path(words[2]), tree)
+        print(json.dumps(tree.call()))
+        return 0
     program = os.path.realpath(shutil.which(words[0] if words else os.environ.get("AVRO", "avro")) or sys.exit("no program"))
     wrong = 0
     print("| Tree | Status | Processor time | Time | Memory | Last line |\n|---|---|---|---|---|---|")
-    for name, make in TREES.items():
+    for name in TREES:
         if words[1:] and not any(word in name for word in words[1:]):
             continue
         with tempfile.TemporaryDirectory(prefix="costs.") as top:
-            folder, tree = Path(top) / "tree", make()
-            lay(folder, tree)
-            found = measured([sys.executable, str(HERE / "avro-breaking"), *tree.words], folder, program)
+            folder = Path(top) / "tree"
+            call = laid(name, folder)
+            found = measured([sys.executable, str(HERE / "avro-breaking"), *call["words"]], folder, program)
         status, seconds, clock, memory, line = found
-        is_wrong = not is_right(tree, status, seconds, memory)
+        is_wrong = not is_right(call, status, seconds, memory)
         wrong += is_wrong
         print(f"| {name} | {status} | {seconds:.1f} s | {clock:.1f} s | {memory:.0f} MB | {line[:120]} |{' WRONG' * is_wrong}", flush=True)
     print(f"{wrong} wrong")

@@ -11,6 +11,7 @@ from .log import complain, quoted
 from .options import Options
 
 FETCH = "git fetch --tags; in a workflow of GitHub: fetch-depth: 0"
+COMPARE = ("--no-optional-locks", "diff", "--quiet", "--no-ext-diff")
 UNSHALLOW = "git fetch --unshallow --tags; in a workflow of GitHub: fetch-depth: 0"
 
 
@@ -133,7 +134,7 @@ def without_tag(options: Options, tags: Tags) -> list[Base]:
         matching = f" matches {' or '.join(map(quoted, options.match))} and" if options.match else ""
         stop(USAGE, f"no tag{matching} leads here ({FETCH})")
     if is_without_tags():
-        stop(USAGE, f"the clone was made without tags ({FETCH})")
+        stop(USAGE, f"the clone was made without tags ({FETCH}; before the first one: git config --unset-all remote.origin.tagOpt)")
     if options.is_many:
         stop(USAGE, f"there is no tag ({FETCH}; before the first one leave out --all)")
     complain("avro-breaking: no tag yet: each schema is judged by itself")
@@ -155,6 +156,6 @@ def without_earlier(bases: Bases, options: Options) -> Bases:
 def differs_from_head(options: Options, paths: tuple[str, ...]) -> bool:
     """Whether a schema of the working tree differs from HEAD, or anything in the index, of which a commit is made."""
     if options.staged:
-        return not is_so("diff", "--cached", "--quiet", "--no-ext-diff", "HEAD", "--")
+        return not is_so(*COMPARE, "--cached", "HEAD", "--")
     others = git("ls-files", "--others", "--exclude-standard", "--", *paths)
-    return bool(others) or not is_so("diff", "--quiet", "--no-ext-diff", "HEAD", "--", *paths)
+    return bool(others) or not is_so(*COMPARE, "HEAD", "--", *paths)

@@ -116,7 +116,7 @@ class WorkingTree(Tree):
     @functools.cached_property
     def hash(self) -> str:
         """The hash by which objects are named, so that a file has the key that its object has."""
-        return git("rev-parse", "--show-object-format").strip()
+        return "sha256" if git("rev-parse", "--show-object-format").strip() == "sha256" else "sha1"
 
     def others(self, *paths: str) -> Iterator[str]:
         return records("ls-files", "-z", "--full-name", "--others", "--exclude-standard", "--", *paths)
