@@ -900,6 +900,7 @@ try_logs() {
   expect 1 "$escaped: \"v\\342\\200\\2561\": no" avro-breaking
   expect 1 $'\n''"#\043[stop-commands]x.avsc": "v\342\200\2561": no' avro-breaking
   expect 1 '"\033[2J.avsc": ' avro-breaking
+  expect 1 '"  ::error::x.avsc": ' avro-breaking
   exactly 1 '0' count_unsafe avro-breaking
   exactly 1 '0' count_unsafe avro-breaking --json
   exactly 1 '0' count_unsafe env GITHUB_ACTIONS=true avro-breaking --allow /dev/null

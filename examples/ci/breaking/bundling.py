@@ -26,7 +26,10 @@ def bundled(clock: Clock, folder: Path, versions: dict[str, Version]) -> dict[st
     done = run_script(clock, "bundle.py", "--tree", source, out)
     shutil.rmtree(source)
     faults = iter(done.stderr.decode(errors="replace").splitlines())
-    return {path: made(versions[path], out / file) or refused(versions[path], next(faults, ""), files) for path, file in files.items()}
+    found = {}
+    for path, file in files.items():
+        found[path] = made(versions[path], out / file) or refused(versions[path], next(faults, ""), files)
+    return found
 
 
 def made(own: Version, file: Path) -> Version | None:

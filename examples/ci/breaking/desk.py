@@ -241,7 +241,8 @@ class Faults:
         status = self.process.wait()
         self.clock.check(status)
         self.process.stderr.seek(0)
-        stop(NO_MEMORY if status == NO_MEMORY else FAILED, first_line(self.process.stderr.read(MOST_LINE)) or "avro explain: ends early")
+        said = first_line(self.process.stderr.read(MOST_LINE))
+        stop(NO_MEMORY if status == NO_MEMORY else FAILED, said or "avro explain: ends early")
 
     def __iter__(self) -> Iterator[str]:
         left = self.count
