@@ -1153,7 +1153,7 @@ pre-commit-hooks.yaml	try_framework	s/always_run: true.*/files: \\.avsc$/
 avro-breaking	try_renames	s/        renamed = self.renamed(versions)/        renamed = {}/
 avro-breaking	try_renames	s/return paths\[0\] if len(paths) == 1 else None/return paths[0] if paths else None/
 avro-breaking	try_renames	s/ if path in self.new else renamed.get(path)/ if path in self.new else None/
-avro-breaking	try_allow_words	s/(self.pattern is not None and /(False and /
+avro-breaking	try_allow_words	s/(self.is_pattern and /(False and /
 avro-breaking	try_allow_words	s/while pointer.endswith("\/type"):/while False:/
 avro-breaking	try_allow_words	s/    name = unquoted(written)$/    name = None/
 avro-breaking	try_memory	s/enumerate(faults)/enumerate(list(faults))/

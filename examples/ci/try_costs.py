@@ -63,9 +63,10 @@ def numbered(letter: str, count: int) -> list[str]:
 def aliases(count: int) -> Tree:
     """A record and its field that had many names."""
     names = numbered("a", count)
-    new = record([("x", {"type": "int", "logicalType": "date"})], aliases=names)
+    arrays = [{"type": "array", "items": {"type": "array", "items": {"type": "int", "logicalType": word}}} for word in ("date", "x")]
+    old, new = record([("x", arrays[0])]), record([("x", arrays[1])], aliases=names)
     new["fields"][0]["aliases"] = names
-    return one(record([("x", "int")]), new, statuses=(0,))
+    return one(old, new, statuses=(0,))
 
 
 def changed_fields(*words: str, accepted: int) -> Tree:
@@ -125,10 +126,32 @@ def many_files(*words: str, statuses: tuple[int, ...] = (1,)) -> Tree:
     return Tree(olds, news, words, statuses)
 
 
-def patterns() -> Tree:
-    """A file of accepted breaks as long as it may be."""
-    lines = b"".join(b"*%d*x*.avsc v1 /fields/%d\n" % (number, number) for number in range(35_000))
-    return one(record([("a", "int")]), record([("a", "string")]), "--allow", "allowed", allowed=lines)
+def lines(count: int, line: bytes) -> Tree:
+    """A file of accepted breaks."""
+    made = b"".join(line % number for number in range(count))
+    return one(record([("a", "int")]), record([("a", "string")]), "--allow", "allowed", allowed=made)
+
+
+def namespace() -> Tree:
+    """Many types in a long namespace, of which a branch of each union has the name."""
+    fields = [(name, ["null", {"type": "fixed", "name": name.upper(), "size": 1}]) for name in numbered("f", 1300)]
+    old, new = (record([*fields, ("last", kind)], namespace="n" * 800_000) for kind in ("int", "string"))
+    return one(old, new, "--allow", "allowed", allowed=b"a.avsc v1 /fields/0\n")
+
+
+def long_notes() -> Tree:
+    """Notes with a long word, which many fields had by their aliases."""
+    old = record([("x", {"type": "int", "logicalType": "w" * 900_000})])
+    new = record([(name, "int") for name in numbered("f", 2000)])
+    for each in new["fields"]:
+        each.update(aliases=["x"], default=0)
+    return one(old, new, statuses=(0, 3))
+
+
+def renamed() -> Tree:
+    """Many files with new names, whose types have long names."""
+    olds, news = ({f"{letter}{n}.avsc": text(record([], name=f"R{n}", namespace="n" * 1_048_000)) for n in range(100)} for letter in "ab")
+    return Tree(olds, news, (), (0,))
 
 
 def sparse() -> Tree:
@@ -154,7 +177,11 @@ TREES: dict[str, Callable[[], Tree]] = {
     "half a million keys": lambda: nested('{"":', "}"),
     "100 texts of 1 MiB": many_files,
     "100 texts of 1 MiB, --bundle": lambda: many_files("--bundle", statuses=(1, 5)),
-    "35,000 patterns of accepted breaks": patterns,
+    "100 renamed files, whose types have names of 1 MB": renamed,
+    "1,300 types in a namespace of 0.8 MB": namespace,
+    "2,000 notes on a word of 0.9 MB": long_notes,
+    "1,000 patterns of accepted breaks": lambda: lines(1000, b"*%dx*y*.avsc v1 /fields/0\n"),
+    "120,000 lines of accepted breaks": lambda: lines(120_000, b"%d v\n"),
     "a file of 40 GB": sparse,
 }
 

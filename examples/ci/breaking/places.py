@@ -16,6 +16,10 @@ FAULT = re.compile(rf"(?P<reader>\$(?:{STEP})*): \w+: .* \(writer's (?P<writer>\
 TOKEN = re.compile(r'[{}\[\]:,]|"(?:[^"\\]|\\.)*"|[^\s{}\[\]:,"]+', re.DOTALL)
 
 
+# A namespace, which all names in it share, and the last part; the word of a type without a name is in none.
+Name = tuple[str, str]
+
+
 class Unreadable(Exception):
     """A text is no schema, as far as one has to look."""
 
@@ -43,38 +47,38 @@ class Place:
         return word if is_word else "reference"
 
     @property
-    def name(self) -> str:
+    def name(self) -> Name:
         """The fullname of a definition or a reference, or the word of another type."""
         kind, space = self.kind, self.space
         if kind not in NAMED and kind != "reference":
-            return kind
+            return "", kind
         name = self.schema
         if kind == "reference":
             name = name["type"] if isinstance(name, dict) else name
         else:
             name, own = self.schema["name"], self.schema.get("namespace")
             space = own if isinstance(own, str) else space
-        return name if "." in name or not space else f"{space}.{name}"
+        return name_of(name) if "." in name else (space, name)
 
     def at(self, step: str, schema: Any, space: str) -> Place:
         while isinstance(schema, dict) and isinstance(schema["type"], (dict, list)):
             step, schema = step + "/type", schema["type"]
         return Place(self.pointer + step, schema, space)
 
-    def parts(self) -> Iterator[tuple[str, Place]]:
-        """The types right below, each with the step to it that `avro explain` prints."""
+    def parts(self) -> Iterator[tuple[str | Name, Place]]:
+        """The types right below, each with the step to it that `avro explain` prints; of a branch its name."""
         kind = self.kind
         if kind == "union":
             for index, branch in enumerate(self.schema):
                 part = self.at(f"/{index}", branch, self.space)
-                yield f"<{part.name}>", part
+                yield part.name, part
         elif kind == "array":
             yield "[]", self.at("/items", self.schema["items"], self.space)
         elif kind == "map":
             yield "{}", self.at("/values", self.schema["values"], self.space)
         elif kind in RECORDS:
             for index, part in enumerate(self.schema["fields"]):
-                yield f".{part['name']}", self.at(f"/fields/{index}/type", part["type"], self.name.rpartition(".")[0])
+                yield f".{part['name']}", self.at(f"/fields/{index}/type", part["type"], self.name[0])
 
     def below(self) -> Iterator[Place]:
         left = [self]
@@ -82,6 +86,11 @@ class Place:
             place = left.pop()
             yield place
             left.extend(part for _, part in place.parts())
+
+
+def name_of(text: str) -> Name:
+    space, _, last = text.rpartition(".")
+    return space, last
 
 
 def root(text: bytes) -> Place:
@@ -96,7 +105,7 @@ def root_name(text: bytes) -> str | None:
     """The fullname of the type that a text defines, if it is one with a name."""
     try:
         place = root(text)
-        return place.name if place.kind in NAMED else None
+        return ".".join(filter(None, place.name)) if place.kind in NAMED else None
     except (Unreadable, KeyError, TypeError):
         return None
 
@@ -114,9 +123,9 @@ class Schema:
     def __init__(self, text: bytes) -> None:
         self.root = root(text)
         self.types = {place.name: place for place in self.root.below() if place.kind in NAMED}
-        self.known: dict[str, dict[str, Place]] = {}
+        self.known: dict[str, dict[str | Name, Place]] = {}
 
-    def parts(self, place: Place) -> dict[str, Place]:
+    def parts(self, place: Place) -> dict[str | Name, Place]:
         place = self.types.get(place.name, place)
         if place.pointer not in self.known:
             self.known[place.pointer] = dict(place.parts())
@@ -126,7 +135,7 @@ class Schema:
         """The JSON pointer of a place that `avro explain` prints; of a field, without '/type'."""
         place = self.root
         for step in re.findall(STEP, at, re.ASCII):
-            place = self.parts(place).get(step)
+            place = self.parts(place).get(name_of(step[1:-1]) if step[0] == "<" else step)
             if place is None:
                 return None
         return of_field(place.pointer)

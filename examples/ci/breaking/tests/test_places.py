@@ -23,8 +23,9 @@ class Kinds(unittest.TestCase):
         for word in KINDS:
             self.assertEqual(Place("", word, "").kind, "reference")
             self.assertEqual(Place("", {"type": word}, "").kind, word)
-            self.assertEqual(Place("", word, "a").name, f"a.{word}")
-        self.assertEqual(Place("", "int", "a").name, "int")
+            self.assertEqual(Place("", word, "a").name, ("a", word))
+        self.assertEqual(Place("", "int", "a").name, ("", "int"))
+        self.assertEqual(Place("", "b.c.D", "a").name, ("b.c", "D"))
 
     def test_names_of_roots(self):
         self.assertEqual(root_name(ORDER), "shop.Order")
@@ -53,6 +54,19 @@ class Pointers(unittest.TestCase):
         fault = "$.last{}.text: NoMatch: a: b (writer's $.id) cannot be (writer's $.id)"
         self.assertEqual(pointer_of(fault, "writer", Schema(ORDER)), "/fields/0")
         self.assertEqual(pointer_of(fault, "reader", Schema(ORDER)), "/fields/1/type/1/items/fields/0")
+
+    def test_branches_are_found_by_fullnames(self):
+        fixed = {"type": "fixed", "name": "F", "size": 1}
+        schema = Schema(text(["null", {"type": "record", "name": "a.b.R", "fields": [{"name": "x", "type": ["string", fixed, "R"]}]}]))
+        for at, pointer in [("$<a.b.R>.x<a.b.F>", "/1/fields/0/type/1"), ("$<a.b.R>.x<a.b.R>.x<string>", "/1/fields/0/type/0"),
+                            ("$<R>", None), ("$<null>", "/0")]:  # fmt: skip
+            self.assertEqual(schema.pointer(at), pointer, at)
+
+    def test_names_share_their_namespace(self):
+        fields = [{"name": f"f{n}", "type": {"type": "fixed", "name": f"F{n}", "size": 1}} for n in range(2000)]
+        record = {"type": "record", "name": "R", "namespace": "n" * 500_000, "fields": fields}
+        names = [place.name for place in Schema(text(record)).root.below()]
+        self.assertEqual(len({id(space) for space, _ in names}), 1)
 
     def test_a_cut_line_has_no_place(self):
         for fault in ["$.i...d: NoMatch: x (writer's $.id)", "$.id: NoMatch: x (writer's $.i...d)", "$<a...b>: NoMatch: x (writer's $)"]:
