@@ -930,6 +930,7 @@ try_hints() {
   amount '"int"' > order.avsc
   expect 3 $'order.avsc: v1: avro: order.avsc: S10\n    order.avsc:1:95: /fields/1/type: float is not supported
     --tame takes float and double' avro-breaking
+  expect 3 '::error file=order.avsc::v1: avro: order.avsc: S10%0A' env GITHUB_ACTIONS=true avro-breaking
   amount '"double","default":0.5' > new.avsc
   expect 3 $'\n''    --tame takes float and double' avro-breaking -- new.avsc
   exactly 64 'avro-breaking: order.avsc: no such commit (of a file: avro-breaking -- order.avsc)' avro-breaking order.avsc
@@ -1177,7 +1178,7 @@ avro-breaking	try_hints	s/: no such commit{hint}/: no such commit/
 avro-breaking	try_kinds	s/(word in KINDS and isinstance(self.schema, dict))/word in KINDS/
 adapt/tame.py	try_kinds	s/(isinstance(schema, str) or word not in ATTRIBUTES)/word not in ATTRIBUTES/
 avro-breaking	try_lines	s/(f",line={line}" if line else "")/""/
-avro-breaking	try_lines	s/if depth < best or path != wanted\[:depth\]:/if depth:/
+avro-breaking	try_lines	s/place = root if not around else .*/place = root/
 avro-breaking	try_module	s/{modules_told(new)}//
 END
 }

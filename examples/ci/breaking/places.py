@@ -4,8 +4,8 @@ from __future__ import annotations
 
 import json
 import re
-from dataclasses import dataclass
-from typing import Any, Iterator
+from dataclasses import dataclass, field
+from typing import Any, Iterable, Iterator
 
 PRIMITIVES = {"null", "boolean", "int", "long", "float", "double", "bytes", "string"}
 RECORDS = {"record", "error"}
@@ -147,44 +147,65 @@ def pointer_of(fault: str, side: str, schema: Schema | None) -> str | None:
     return schema.pointer(found[side]) if found else None
 
 
-def line_of(text: bytes, pointer: str) -> int:
-    """The line, counted from 1, where what a pointer leads to begins, or the last above it that the text has."""
-    wanted, best, line, end = pointer.split("/")[1:], 0, 1, 0
-    decoded = text.decode(errors="replace")
-    last = 1
-    for depth, path, start in values(decoded):
-        if depth < best or path != wanted[:depth]:
-            continue
-        line += decoded.count("\n", end, start)
-        end, best, last = start, depth, line
-        if depth == len(wanted):
-            break
-    return last
+@dataclass
+class Wanted:
+    """A place whose line is wanted, or is above such places; the line is 0 until it is found."""
+
+    line: int = 0
+    below: dict[str, Wanted] = field(default_factory=dict)
+
+    def add(self, pointer: str) -> None:
+        place = self
+        for step in steps_of(pointer):
+            place = place.below.setdefault(step, Wanted())
+
+    def line_at(self, pointer: str) -> int:
+        """The line of a place, or of the last above it that was found."""
+        place, line = self, self.line
+        for step in steps_of(pointer):
+            place = place.below[step]
+            line = place.line or line
+        return line
 
 
-def values(text: str) -> Iterator[tuple[int, list[str], int]]:
-    """Each value of a JSON text: how deep it lies, the steps to it, and where it begins."""
-    path: list[str] = []
-    counts: list[int | None] = []
+def steps_of(pointer: str) -> list[str]:
+    return pointer.split("/")[1:]
+
+
+def lines_of(text: bytes, pointers: Iterable[str]) -> dict[str, int]:
+    """The lines, counted from 1, where what some pointers lead to begins, or the last above it that the text has."""
+    wanted, found, decoded = Wanted(), list(pointers), text.decode(errors="replace")
+    for pointer in found:
+        wanted.add(pointer)
+    line, end = 1, 0
+    for place, start in values(decoded, wanted):
+        if place is not None:
+            line, end = line + decoded.count("\n", end, start), start
+            place.line = line
+    return {pointer: wanted.line_at(pointer) for pointer in found}
+
+
+def values(text: str, root: Wanted) -> Iterator[tuple[Wanted | None, int]]:
+    """Each value of a JSON text: the place that is wanted of it, if any, and where it begins."""
+    around: list[Wanted | None] = []
+    steps: list[str | int] = []
     is_key = False
     for token in TOKEN.finditer(text):
         word = token[0]
-        if word in ":":
-            is_key = False
-        elif word in "]}":
-            counts.pop()
-            path.pop()
+        if word in ("]", "}"):
+            around.pop()
+            steps.pop()
         elif word == ",":
-            is_key = counts[-1] is None
-            if not is_key:
-                counts[-1] += 1
-                path[-1] = str(counts[-1])
+            is_key = isinstance(steps[-1], str)
+            steps[-1] = "" if is_key else steps[-1] + 1
+        elif word == ":":
+            is_key = False
         elif is_key:
-            path[-1] = word[1:-1]
+            steps[-1] = word[1:-1]
         else:
-            yield len(path), path, token.start()
-            if word in "{[":
+            place = root if not around else around[-1] and around[-1].below.get(str(steps[-1]))
+            yield place, token.start()
+            if word in ("{", "["):
                 is_key = word == "{"
-                counts.append(None if is_key else 0)
-                path.append("" if is_key else "0")
-    return
+                around.append(place)
+                steps.append("" if is_key else 0)

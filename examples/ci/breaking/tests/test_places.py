@@ -3,7 +3,7 @@
 import json
 import unittest
 
-from ..places import KINDS, Place, Schema, Unreadable, line_of, pointer_of, root, root_name
+from ..places import KINDS, Place, Schema, Unreadable, lines_of, pointer_of, root, root_name
 
 ORDER = """{"type": "record", "name": "shop.Order", "fields": [
   {"name": "id", "type": "long"},
@@ -77,15 +77,16 @@ class Lines(unittest.TestCase):
     def test_lines_are_those_of_values(self):
         for pointer, line in [("", 1), ("/fields/0", 2), ("/fields/1", 3), ("/fields/1/type", 4), ("/fields/1/type/1/items", 5),
                               ("/fields/2", 6), ("/fields/1/type/1/items/fields/0/type/type", 5)]:  # fmt: skip
-            self.assertEqual(line_of(ORDER, pointer), line, pointer)
+            self.assertEqual(lines_of(ORDER, [pointer]), {pointer: line})
 
     def test_what_is_not_there_is_where_its_parent_is(self):
-        self.assertEqual(line_of(ORDER, "/fields/2/type/values/fields/7"), 6)
+        self.assertEqual(lines_of(ORDER, ["/fields/2/type/values/fields/7", "/fields/0"]), {"/fields/2/type/values/fields/7": 6, "/fields/0": 2})
+        self.assertEqual(lines_of(b'\n\n "int"', ["/x"]), {"/x": 3})
 
     def test_each_value_has_its_line(self):
         written = json.dumps({"a": [1, {"b": [], "c": {}}, "x\\\"]"], "d": [[], [[2]]]}, indent=1)
         for pointer, word in [("/a/0", "1,"), ("/a/1/b", '"b"'), ("/a/1/c", '"c"'), ("/a/2", '"x'), ("/d/0", "[],"), ("/d/1/0/0", "2")]:
-            line = line_of(written.encode(), pointer)
+            line = lines_of(written.encode(), [pointer])[pointer]
             self.assertIn(word, written.splitlines()[line - 1])
 
 
