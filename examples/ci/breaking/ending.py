@@ -9,6 +9,8 @@ FAILED, NO_MEMORY, USAGE = 4, 5, 64
 
 # The bytes that a schema may have for `avro`; of a longer text one more is read.
 MOST_TEXT = 1_048_576
+# The schemas that a tree may have.
+MOST_FILES = 100_000
 # The bytes of an answer of the program, and those of a filter.
 MOST_ANSWER = 4_194_304
 # The characters of a line that is printed; what is longer is cut in the middle.
