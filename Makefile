@@ -163,4 +163,4 @@ words: surface ## tests these, the edits that they have to find, the words and c
 clean: ## removes what checks and builds have left (seconds)
 	rm -rf crates/*/out bindings/out packaging/out
 	rm -rf bench/__pycache__ bench/*/__pycache__ bindings/python/__pycache__ checks/__pycache__
-	rm -rf examples/__pycache__ examples/*/__pycache__
+	rm -rf examples/__pycache__ examples/*/__pycache__ examples/*/*/__pycache__ examples/*/*/*/__pycache__

@@ -623,7 +623,7 @@ try_tagged() {
   git checkout -q order.avsc
   exactly 0 '2 schemas against v2: 1 new, 1 yes' avro-breaking
   rm new.avsc
-  expect 4 'avro-breaking: git diff: ' with_broken_git diff 2
+  expect 4 'avro-breaking: git: ' with_broken_git --no-optional-locks 2
 }
 
 # 2. A shallow clone, and one without tags, lack what counts: what to do is said.
@@ -653,9 +653,9 @@ try_clones() {
   expect 64 'the clone is shallow' avro-breaking --all
   fetch=${fetch/ --unshallow/}
   cd "$start.untagged"
-  exactly 64 "avro-breaking: the clone was made without tags ($fetch)" avro-breaking
-  exactly 64 "avro-breaking: the clone was made without tags ($fetch)" avro-breaking --all
-  git config --unset remote.origin.tagOpt
+  expect 64 "avro-breaking: the clone was made without tags ($fetch; before the first one: git config" avro-breaking
+  expect 64 "avro-breaking: the clone was made without tags ($fetch; " avro-breaking --all
+  git config --unset-all remote.origin.tagOpt
   exactly 64 "avro-breaking: there is no tag ($fetch; before the first one leave out --all)" avro-breaking --all
   expect 0 'avro-breaking: no tag yet: each schema is judged by itself' avro-breaking
 }
@@ -731,6 +731,9 @@ renamed schemas/payment.avsc -> shop/payment.avsc
   cp "$orders/order-1.avsc" other.avsc
   expect 0 'renamed shop/order.avsc -> order.avsc' avro-breaking
   cp "$orders/order-2.avsc" order.avsc
+  expect 1 'shop/order.avsc: v3: gone' avro-breaking
+  cp "$orders/order-3.avsc" order.avsc
+  cp order.avsc other.avsc
   expect 1 'shop/order.avsc: v3: gone' avro-breaking
 }
 
@@ -897,6 +900,7 @@ try_logs() {
   expect 1 "$escaped: \"v\\342\\200\\2561\": no" avro-breaking
   expect 1 $'\n''"#\043[stop-commands]x.avsc": "v\342\200\2561": no' avro-breaking
   expect 1 '"\033[2J.avsc": ' avro-breaking
+  expect 1 '"  ::error::x.avsc": ' avro-breaking
   exactly 1 '0' count_unsafe avro-breaking
   exactly 1 '0' count_unsafe avro-breaking --json
   exactly 1 '0' count_unsafe env GITHUB_ACTIONS=true avro-breaking --allow /dev/null
@@ -926,6 +930,7 @@ try_hints() {
   amount '"int"' > order.avsc
   expect 3 $'order.avsc: v1: avro: order.avsc: S10\n    order.avsc:1:95: /fields/1/type: float is not supported
     --tame takes float and double' avro-breaking
+  expect 3 '::error file=order.avsc::v1: avro: order.avsc: S10%0A' env GITHUB_ACTIONS=true avro-breaking
   amount '"double","default":0.5' > new.avsc
   expect 3 $'\n''    --tame takes float and double' avro-breaking -- new.avsc
   exactly 64 'avro-breaking: order.avsc: no such commit (of a file: avro-breaking -- order.avsc)' avro-breaking order.avsc
@@ -998,6 +1003,17 @@ try_hook() {
   expect 0 'a buyer' git commit -m 'a buyer'
   git rm -qf order.avsc
   expect 1 'order.avsc: v1: gone' git commit -m 'no order'
+}
+
+# The one file is what the modules make, which are tested, and which run as it does.
+try_modules() {
+  exactly 0 '' "$here/breaking/build.py" --check
+  expect 0 $'\n''OK' env -C "$here" python3 -m unittest discover -s breaking -t .
+  repository modules
+  cp "$orders/order-1.avsc" order.avsc
+  commit 'the first order' v1
+  cp "$orders/order-3.avsc" order.avsc
+  expect 1 'order.avsc: v1: no' env PYTHONPATH="$here" python3 -m breaking
 }
 
 try_git_hook() {
@@ -1091,7 +1107,7 @@ avro-breaking	try_paths	s/\[\*((path,) for path in self.paths), self.paths\]/[se
 avro-breaking	try_paths	s/if self.unnamed and (self.options.paths or not self.options.changed)/if self.unnamed/
 avro-breaking	try_names	s/return name if written == .*/return name/
 avro-breaking	try_names	s/.replace(":", "%3A")//
-avro-breaking	try_names	s/.replace("\\n", "%0A")//
+avro-breaking	try_check	s/.replace("\\n", "%0A")//
 avro-breaking	try_links	s/if entry.mode == LINK:/if False:/
 avro-breaking	try_links	s/posixpath.join(posixpath.dirname(link), target)/target/
 avro-breaking	try_failures	s/stop(FAILED, f"git cat-file: {name}: cannot read")/MOST_TEXT + 1/
@@ -1121,7 +1137,7 @@ avro-breaking	try_notes	s/attributes.get("scale", 0)/attributes.get("scale")/
 avro-breaking	try_notes	s/, \*(schema.get("aliases") or ())/,/
 avro-breaking	try_notes	s/if (pointer, words) not in self.noted/if True/
 avro-breaking	try_tagged	s/if not same or differs_from_head(options, paths):/if True:/
-avro-breaking	try_tagged	s/return not is_so("diff", "--cached", .*/return False/
+avro-breaking	try_tagged	s/return not is_so(\*COMPARE, "--cached", .*/return False/
 avro-breaking	try_tagged	s/tags.last(\*tags.here())/tags.last(same[0].name)/
 avro-breaking	try_tagged	s/stop(USAGE, f"no earlier tag: {here}, and nothing differs from it")/pass/
 avro-breaking	try_clones	s/if options.is_many and is_shallow():/if False:/
@@ -1138,7 +1154,7 @@ pre-commit-hooks.yaml	try_framework	s/always_run: true.*/files: \\.avsc$/
 avro-breaking	try_renames	s/        renamed = self.renamed(versions)/        renamed = {}/
 avro-breaking	try_renames	s/return paths\[0\] if len(paths) == 1 else None/return paths[0] if paths else None/
 avro-breaking	try_renames	s/ if path in self.new else renamed.get(path)/ if path in self.new else None/
-avro-breaking	try_allow_words	s/(self.pattern is not None and /(False and /
+avro-breaking	try_allow_words	s/(self.is_pattern and /(False and /
 avro-breaking	try_allow_words	s/while pointer.endswith("\/type"):/while False:/
 avro-breaking	try_allow_words	s/    name = unquoted(written)$/    name = None/
 avro-breaking	try_memory	s/enumerate(faults)/enumerate(list(faults))/
@@ -1162,7 +1178,7 @@ avro-breaking	try_hints	s/: no such commit{hint}/: no such commit/
 avro-breaking	try_kinds	s/(word in KINDS and isinstance(self.schema, dict))/word in KINDS/
 adapt/tame.py	try_kinds	s/(isinstance(schema, str) or word not in ATTRIBUTES)/word not in ATTRIBUTES/
 avro-breaking	try_lines	s/(f",line={line}" if line else "")/""/
-avro-breaking	try_lines	s/if depth < best or path != wanted\[:depth\]:/if depth:/
+avro-breaking	try_lines	s/place = root if not around else .*/place = root/
 avro-breaking	try_module	s/{modules_told(new)}//
 END
 }
@@ -1194,7 +1210,7 @@ missing() { # WHAT
 
 for each in try_{check,faults,paths,names,links,failures,sparse,changed,all_tags,start,faults_told,modes,bundle,tame,json} \
   try_{allow,notes,tagged,clones,match,hook_files,renames,allow_words,memory,time,links_out,unforeseen,logs,hints,kinds} \
-  try_{lines,module,git_hook,framework,workflow}; do
+  try_{lines,module,modules,git_hook,framework,workflow}; do
   if is_wanted "$each" && has_what "$each"; then "$each"; fi
 done
 try_planted

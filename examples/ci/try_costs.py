@@ -1,23 +1,24 @@
 #!/usr/bin/env python3
 """Measures `avro-breaking` on trees of schemas that are made to be costly.
 
-    try_costs.py [PROGRAM [NAME..]]
+    try_costs.py [--apart] [PROGRAM [NAME..]]
 
 PROGRAM is $AVRO where it is not given, and else avro on the PATH; with NAME only such trees are tried. A row has the status,
-the seconds of processor time and of the clock, and the memory of the largest process, the check and all that it starts; and
-the last line that was printed. The status is 0 if each run ends as it should, within 300 MB and 10 seconds of processor time
-(a tree of many texts: 0.1 more for each).
+the seconds of processor time, and the memory of the largest process, the check and all that it starts; and the last line that
+was printed. The status is 0 if each run ends as it should, within 300 MB and 10 seconds (a tree of many texts: 0.1 more for
+each). With --apart the program may take as long as it needs, and its own seconds are left out: for one that was built with
+checks.
 """
 
 from __future__ import annotations
 
 import json
 import os
+import re
 import shutil
 import subprocess
 import sys
 import tempfile
-import time
 from dataclasses import dataclass, field
 from pathlib import Path
 from typing import Any, Callable
@@ -36,6 +37,10 @@ class Tree:
     words: tuple[str, ...] = ()
     statuses: tuple[int, ...] = (1,)
     others: dict[str, bytes] = field(default_factory=dict)
+
+    def call(self) -> dict[str, Any]:
+        """What is known of the tree once it lies there."""
+        return {"words": self.words, "statuses": self.statuses, "count": 2 * len(self.new)}
 
 
 def record(fields: list[tuple[str, Any]], **others: Any) -> dict:
@@ -59,9 +64,10 @@ def numbered(letter: str, count: int) -> list[str]:
 def aliases(count: int) -> Tree:
     """A record and its field that had many names."""
     names = numbered("a", count)
-    new = record([("x", {"type": "int", "logicalType": "date"})], aliases=names)
+    arrays = [{"type": "array", "items": {"type": "array", "items": {"type": "int", "logicalType": word}}} for word in ("date", "x")]
+    old, new = record([("x", arrays[0])]), record([("x", arrays[1])], aliases=names)
     new["fields"][0]["aliases"] = names
-    return one(record([("x", "int")]), new, statuses=(0,))
+    return one(old, new, statuses=(0,))
 
 
 def changed_fields(*words: str, accepted: int) -> Tree:
@@ -121,10 +127,32 @@ def many_files(*words: str, statuses: tuple[int, ...] = (1,)) -> Tree:
     return Tree(olds, news, words, statuses)
 
 
-def patterns() -> Tree:
-    """A file of accepted breaks as long as it may be."""
-    lines = b"".join(b"*%d*x*.avsc v1 /fields/%d\n" % (number, number) for number in range(35_000))
-    return one(record([("a", "int")]), record([("a", "string")]), "--allow", "allowed", allowed=lines)
+def lines(count: int, line: bytes) -> Tree:
+    """A file of accepted breaks."""
+    made = b"".join(line % number for number in range(count))
+    return one(record([("a", "int")]), record([("a", "string")]), "--allow", "allowed", allowed=made)
+
+
+def namespace() -> Tree:
+    """Many types in a long namespace, of which a branch of each union has the name."""
+    fields = [(name, ["null", {"type": "fixed", "name": name.upper(), "size": 1}]) for name in numbered("f", 1300)]
+    old, new = (record([*fields, ("last", kind)], namespace="n" * 800_000) for kind in ("int", "string"))
+    return one(old, new, "--allow", "allowed", allowed=b"a.avsc v1 /fields/0\n")
+
+
+def long_notes() -> Tree:
+    """Notes with a long word, which many fields had by their aliases."""
+    old = record([("x", {"type": "int", "logicalType": "w" * 900_000})])
+    new = record([(name, "int") for name in numbered("f", 2000)])
+    for each in new["fields"]:
+        each.update(aliases=["x"], default=0)
+    return one(old, new, statuses=(0, 3))
+
+
+def renamed() -> Tree:
+    """Many files with new names, whose types have long names."""
+    olds, news = ({f"{letter}{n}.avsc": text(record([], name=f"R{n}", namespace="n" * 1_048_000)) for n in range(100)} for letter in "ab")
+    return Tree(olds, news, (), (0,))
 
 
 def sparse() -> Tree:
@@ -150,7 +178,11 @@ TREES: dict[str, Callable[[], Tree]] = {
     "half a million keys": lambda: nested('{"":', "}"),
     "100 texts of 1 MiB": many_files,
     "100 texts of 1 MiB, --bundle": lambda: many_files("--bundle", statuses=(1, 5)),
-    "35,000 patterns of accepted breaks": patterns,
+    "100 renamed files, whose types have names of 1 MB": renamed,
+    "1,300 types in a namespace of 0.8 MB": namespace,
+    "2,000 notes on a word of 0.9 MB": long_notes,
+    "1,000 patterns of accepted breaks": lambda: lines(1000, b"*%dx*y*.avsc v1 /fields/0\n"),
+    "120,000 lines of accepted breaks": lambda: lines(120_000, b"%d v\n"),
     "a file of 40 GB": sparse,
 }
 
@@ -179,40 +211,82 @@ def lay(folder: Path, tree: Tree) -> None:
     write(folder, tree.others)
 
 
-def measured(words: list[str], folder: Path, program: str) -> tuple[int, float, float, float, str]:
-    """The status, processor time, time and memory of a run with all its processes, and the last line."""
-    start = time.monotonic()
+@dataclass(frozen=True)
+class Measured:
+    """A run: its status, processor time without that of the program if that is apart, memory in MB and last line."""
+
+    status: int
+    seconds: float
+    memory: float
+    line: str
+
+    def row(self, name: str) -> str:
+        return f"| {name} | {self.status} | {self.seconds:.1f} s | {self.memory:.0f} MB | {self.line[:100]} |"
+
+
+def measured(words: list[str], folder: Path, program: str) -> Measured:
     with open(folder.parent / "said", "w+b") as said:
         process = subprocess.Popen(words, cwd=folder, stdout=said, stderr=subprocess.STDOUT, env={**os.environ, "AVRO": program})
         _, status, usage = os.wait4(process.pid, 0)
         said.seek(0)
         lines = said.read().decode(errors="replace").splitlines()
-    seconds = usage.ru_utime + usage.ru_stime
-    return os.waitstatus_to_exitcode(status), seconds, time.monotonic() - start, usage.ru_maxrss / 1000, (lines or [""])[-1]
+    seconds = usage.ru_utime + usage.ru_stime - seconds_apart(folder.parent)
+    return Measured(os.waitstatus_to_exitcode(status), seconds, usage.ru_maxrss / 1000, (lines or [""])[-1])
 
 
-def is_right(tree: Tree, status: int, seconds: float, memory: float) -> bool:
-    most = MOST_SECONDS + (0.1 * len(tree.new) * 2 if len(tree.new) > 1 else 1)
-    return status in (*tree.statuses, 4) and seconds <= most and memory <= MOST_MEMORY
+def timed(program: str, folder: Path) -> str:
+    """A program that runs another, and writes down the time that it took."""
+    made = folder / "avro"
+    made.write_text(f'#!/bin/sh\n"{program}" "$@"\nstatus=$?\ntimes >> "{folder}/times"\nexit $status\n')
+    made.chmod(0o755)
+    return str(made)
+
+
+def seconds_apart(folder: Path) -> float:
+    file = folder / "times"
+    found = re.findall(r"(\d+)m([\d.]+)s", file.read_text() if file.is_file() else "")
+    return sum(int(minutes) * 60 + float(seconds) for minutes, seconds in found)
+
+
+def is_right(call: dict[str, Any], found: Measured) -> bool:
+    """Whether a run ended as it should; a second more is for what is done before and after the answers."""
+    most = MOST_SECONDS + 0.1 * call["count"] + 1
+    return found.status in (*call["statuses"], 4) and found.seconds <= most and found.memory <= MOST_MEMORY
+
+
+def laid(name: str, folder: Path) -> dict[str, Any]:
+    """Lays a tree by another process: the memory of this one would count as that of those that it starts."""
+    words = [sys.executable, __file__, "--lay", name, folder]
+    return json.loads(subprocess.run(words, check=True, capture_output=True).stdout)
 
 
 def main(words: list[str]) -> int:
+    if words[:1] == ["--lay"]:
+        tree = TREES[words[1]]()
+        lay(Path(words[2]), tree)
+        print(json.dumps(tree.call()))
+        return 0
+    is_apart = words[:1] == ["--apart"]
+    words = words[is_apart:]
     program = os.path.realpath(shutil.which(words[0] if words else os.environ.get("AVRO", "avro")) or sys.exit("no program"))
     wrong = 0
-    print("| Tree | Status | Processor time | Time | Memory | Last line |\n|---|---|---|---|---|---|")
-    for name, make in TREES.items():
-        if words[1:] and not any(word in name for word in words[1:]):
-            continue
-        with tempfile.TemporaryDirectory(prefix="costs.") as top:
-            folder, tree = Path(top) / "tree", make()
-            lay(folder, tree)
-            found = measured([sys.executable, str(HERE / "avro-breaking"), *tree.words], folder, program)
-        status, seconds, clock, memory, line = found
-        is_wrong = not is_right(tree, status, seconds, memory)
-        wrong += is_wrong
-        print(f"| {name} | {status} | {seconds:.1f} s | {clock:.1f} s | {memory:.0f} MB | {line[:120]} |{' WRONG' * is_wrong}", flush=True)
+    print("| Tree | Status | Processor time | Memory | Last line |\n|---|---|---|---|---|")
+    for name in TREES:
+        if not words[1:] or any(word in name for word in words[1:]):
+            call, found = run(name, program, is_apart)
+            wrong += not is_right(call, found)
+            print(found.row(name) + ("" if is_right(call, found) else " WRONG"), flush=True)
     print(f"{wrong} wrong")
     return 1 if wrong else 0
+
+
+def run(name: str, program: str, is_apart: bool) -> tuple[dict[str, Any], Measured]:
+    with tempfile.TemporaryDirectory(prefix="costs.") as top:
+        folder = Path(top) / "tree"
+        call = laid(name, folder)
+        program = timed(program, folder.parent) if is_apart else program
+        words = [sys.executable, str(HERE / "avro-breaking"), *call["words"], *(("--max-time", "1000") if is_apart else ())]
+        return call, measured(words, folder, program)
 
 
 if __name__ == "__main__":

@@ -9,7 +9,7 @@ from dataclasses import dataclass
 from pathlib import Path
 from typing import Iterator
 
-from .ending import FAILED, MOST_TEXT, USAGE, stop
+from .ending import FAILED, MOST_PATTERNS, MOST_TEXT, USAGE, stop
 from .log import in_quotes, quoted, unquoted
 from .places import of_field
 from .trees import read_file
@@ -20,17 +20,17 @@ class Words:
     """What a line has for a file or a base: a name, or a pattern, which a name in quotes is not."""
 
     name: str
-    pattern: re.Pattern[str] | None
+    is_pattern: bool = False
 
     def match(self, name: str) -> bool:
-        return name == self.name or (self.pattern is not None and bool(self.pattern.match(name)))
+        return name == self.name or (self.is_pattern and fnmatch.fnmatchcase(name, self.name))
 
 
 def words_of(written: str) -> Words:
     name = unquoted(written)
     if name is not None or not re.search(r"[*?[]", written):
-        return Words(written if name is None else name, None)
-    return Words(written, re.compile(fnmatch.translate(written)))
+        return Words(written if name is None else name)
+    return Words(written, is_pattern=True)
 
 
 @dataclass(frozen=True)
@@ -54,13 +54,16 @@ class Line:
             parts = words.rsplit(None, 1)
         return cls(text.strip(), *map(words_of, map(str.rstrip, parts)), of_field(pointer)) if len(parts) == 2 else None
 
+    def has_pattern(self) -> bool:
+        return self.file.is_pattern or self.base.is_pattern
+
 
 def line_for(path: str, base: str, pointer: str) -> str:
     """The line that accepts what fails at a place."""
     file = quoted(path)
     text = f"{file} {quoted(base)} {pointer}".rstrip()
     line = Line.read(text)
-    is_read = line and (line.file, line.base, line.pointer) == (Words(path, None), Words(base, None), pointer)
+    is_read = line and (line.file, line.base, line.pointer) == (Words(path), Words(base), pointer)
     return text if is_read and not text.startswith("#") else f"{in_quotes(path)} {in_quotes(base)} {pointer}".rstrip()
 
 
@@ -95,7 +98,9 @@ class Allowed:
             if text.strip() and not text.startswith("#"):
                 line = Line.read(text)
                 self.lines[number] = line or stop(USAGE, f"{quoted(file)}:{number}: not FILE BASE [POINTER]")
-        self.patterns = [line for line in self.lines.values() if line.file.pattern]
+        self.patterns = [line for line in self.lines.values() if line.file.is_pattern]
+        if sum(line.has_pattern() for line in self.lines.values()) > MOST_PATTERNS:
+            stop(FAILED, f"{quoted(file)}: has more than {MOST_PATTERNS} patterns")
         self.names: dict[str, list[Line]] = {}
         for line in self.lines.values():
             self.names.setdefault(line.file.name, []).append(line)

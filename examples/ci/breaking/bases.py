@@ -11,6 +11,7 @@ from .log import complain, quoted
 from .options import Options
 
 FETCH = "git fetch --tags; in a workflow of GitHub: fetch-depth: 0"
+COMPARE = ("--no-optional-locks", "diff", "--quiet", "--no-ext-diff")
 UNSHALLOW = "git fetch --unshallow --tags; in a workflow of GitHub: fetch-depth: 0"
 
 
@@ -20,6 +21,8 @@ class Base:
 
     name: str
     revision: str
+    # Whether it is the call's BASE, and no tag that was found.
+    is_given: bool = False
 
 
 def tag_base(tag: str) -> Base:
@@ -86,10 +89,10 @@ def find_bases(options: Options, paths: tuple[str, ...]) -> Bases:
 
 
 def those_at_head(bases: list[Base], tags: Tags) -> list[Base]:
+    """Those of the bases that are HEAD itself."""
     head = commit_of("HEAD")
-    here = {tag_base(tag).revision for tag in (tags.here() if head else ())}
-    is_tag = [base.revision.startswith("refs/tags/") for base in bases]
-    return [base for base, known in zip(bases, is_tag) if (base.revision in here if known else commit_of(base.revision) == head)]
+    here = {tag_base(tag) for tag in (tags.here() if head else ())}
+    return [base for base in bases if base in here or (base.is_given and commit_of(base.revision) == head)]
 
 
 def named_bases(options: Options, tags: Tags) -> list[Base]:
@@ -99,7 +102,7 @@ def named_bases(options: Options, tags: Tags) -> list[Base]:
     for name in filter(None, (options.base, options.since)):
         check_commit(name)
     if options.base is not None:
-        return [Base(options.base, options.base)]
+        return [Base(options.base, options.base, is_given=True)]
     last = tags.last()
     if last is None:
         return without_tag(options, tags)
@@ -133,7 +136,8 @@ def without_tag(options: Options, tags: Tags) -> list[Base]:
         matching = f" matches {' or '.join(map(quoted, options.match))} and" if options.match else ""
         stop(USAGE, f"no tag{matching} leads here ({FETCH})")
     if is_without_tags():
-        stop(USAGE, f"the clone was made without tags ({FETCH})")
+        unset = "git config --unset-all remote.origin.tagOpt"
+        stop(USAGE, f"the clone was made without tags ({FETCH}; before the first one: {unset})")
     if options.is_many:
         stop(USAGE, f"there is no tag ({FETCH}; before the first one leave out --all)")
     complain("avro-breaking: no tag yet: each schema is judged by itself")
@@ -155,6 +159,6 @@ def without_earlier(bases: Bases, options: Options) -> Bases:
 def differs_from_head(options: Options, paths: tuple[str, ...]) -> bool:
     """Whether a schema of the working tree differs from HEAD, or anything in the index, of which a commit is made."""
     if options.staged:
-        return not is_so("diff", "--cached", "--quiet", "--no-ext-diff", "HEAD", "--")
+        return not is_so(*COMPARE, "--cached", "HEAD", "--")
     others = git("ls-files", "--others", "--exclude-standard", "--", *paths)
-    return bool(others) or not is_so("diff", "--quiet", "--no-ext-diff", "HEAD", "--", *paths)
+    return bool(others) or not is_so(*COMPARE, "HEAD", "--", *paths)

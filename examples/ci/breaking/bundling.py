@@ -26,7 +26,11 @@ def bundled(clock: Clock, folder: Path, versions: dict[str, Version]) -> dict[st
     done = run_script(clock, "bundle.py", "--tree", source, out)
     shutil.rmtree(source)
     faults = iter(done.stderr.decode(errors="replace").splitlines())
-    return {path: made(versions[path], out / file) or refused(versions[path], next(faults, ""), files) for path, file in files.items()}
+    names = {file: path for path, file in files.items()}
+    found = {}
+    for path, file in files.items():
+        found[path] = made(versions[path], out / file) or refused(versions[path], next(faults, ""), names)
+    return found
 
 
 def made(own: Version, file: Path) -> Version | None:
@@ -36,7 +40,6 @@ def made(own: Version, file: Path) -> Version | None:
     return Version(f"{own.key} {hashlib.sha256(read()).hexdigest()}", read, own.own)
 
 
-def refused(own: Version, fault: str, files: dict[str, str]) -> Version:
-    names = {file: path for path, file in files.items()}
+def refused(own: Version, fault: str, names: dict[str, str]) -> Version:
     told = re.sub(r"\b\d{8}\.avsc", lambda found: quoted(names.get(found[0], found[0])), fault)
     return replace(own, fault=told or "bundle: no text")

@@ -73,6 +73,11 @@ def seconds_used() -> float:
     return sum(sum(resource.getrusage(who)[:2]) for who in (resource.RUSAGE_SELF, resource.RUSAGE_CHILDREN))
 
 
+def limit_resource(kind: int, most: int) -> None:
+    with contextlib.suppress(ValueError, OSError):
+        resource.setrlimit(kind, (most, most + 1))
+
+
 class Clock:
     """The processor time that all answers may take."""
 
@@ -82,10 +87,6 @@ class Clock:
     def end(self, *_: object) -> NoReturn:
         stop(FAILED, f"the answers take more than {self.seconds:g} seconds of processor time (--max-time takes another number)")
 
-    def limit(self, kind: int, most: int) -> None:
-        with contextlib.suppress(ValueError, OSError):
-            resource.setrlimit(kind, (most, most + 1))
-
     def limits(self, memory: int = 0) -> Callable[[], None]:
         """What limits a program before it starts."""
         left = self.seconds - (seconds_used() - self.start)
@@ -93,9 +94,9 @@ class Clock:
             self.end()
 
         def limit() -> None:
-            self.limit(resource.RLIMIT_CPU, int(left) + 1)
+            limit_resource(resource.RLIMIT_CPU, int(left) + 1)
             if memory:
-                self.limit(resource.RLIMIT_DATA, memory)
+                limit_resource(resource.RLIMIT_DATA, memory)
 
         return limit
 
@@ -241,7 +242,8 @@ class Faults:
         status = self.process.wait()
         self.clock.check(status)
         self.process.stderr.seek(0)
-        stop(NO_MEMORY if status == NO_MEMORY else FAILED, first_line(self.process.stderr.read(MOST_LINE)) or "avro explain: ends early")
+        said = first_line(self.process.stderr.read(MOST_LINE))
+        stop(NO_MEMORY if status == NO_MEMORY else FAILED, said or "avro explain: ends early")
 
     def __iter__(self) -> Iterator[str]:
         left = self.count

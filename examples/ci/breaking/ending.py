@@ -9,12 +9,16 @@ FAILED, NO_MEMORY, USAGE = 4, 5, 64
 
 # The bytes that a schema may have for `avro`; of a longer text one more is read.
 MOST_TEXT = 1_048_576
+# The schemas that a tree may have.
+MOST_FILES = 100_000
 # The bytes of an answer of the program, and those of a filter.
-MOST_ANSWER = 16_777_216
+MOST_ANSWER = 4_194_304
 # The characters of a line that is printed; what is longer is cut in the middle.
 MOST_LINE = 16_384
 # The faults, and likewise the notes, that are told of a file.
 MOST_FAULTS = 100
+# The patterns in a file of accepted breaks.
+MOST_PATTERNS = 1_000
 # The bytes of memory for a filter.
 MOST_MEMORY = 314_572_800
 # The seconds of processor time for all answers, and how many more there are for each text.

@@ -24,7 +24,7 @@ def is_so(*words: str, **environment: str) -> bool:
     """Whether a command of git that tests something ends with 0, and not with 1."""
     done = subprocess.run(["git", *words], capture_output=True, env={**os.environ, **environment})
     if done.returncode > 1:
-        stop(FAILED, f"git {words[0]}: {first_line(done.stderr) or f'status {done.returncode}'}")
+        stop(FAILED, f"git: {first_line(done.stderr) or f'status {done.returncode}'}")
     return done.returncode == 0
 
 

@@ -2,6 +2,8 @@
 
 from __future__ import annotations
 
+import hashlib
+
 from .places import root_name
 from .trees import Version
 
@@ -51,8 +53,11 @@ class History:
         return paths[0] if len(paths) == 1 else None
 
     def root_name(self, version: Version) -> str | None:
+        """The fullname of the type that a text defines, or what stands for a long one."""
         if version.key not in self.root_names:
-            self.root_names[version.key] = root_name(version.own())
+            name = root_name(version.own())
+            is_long = name is not None and len(name) > 200
+            self.root_names[version.key] = hashlib.sha256(name.encode(errors="surrogatepass")).hexdigest() if is_long else name
         return self.root_names[version.key]
 
     def is_unchanged(self, path: str) -> bool:

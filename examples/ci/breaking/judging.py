@@ -13,7 +13,7 @@ from .history import Groups
 from .log import Log, complain, quoted
 from .logical import notes
 from .options import Options
-from .places import Schema, Unreadable, line_of, pointer_of
+from .places import Schema, Unreadable, lines_of, pointer_of
 from .trees import Version
 
 # What comes of a file, and the status, from what weighs least to what weighs most.
@@ -82,7 +82,8 @@ class FileJudge:
         self.new = self.sheet.lay(version, self.path)
         answer = self.sheet.schema(self.new)
         if answer.status:
-            return self.refused(self.why(answer))
+            why = self.why(answer)
+            return self.refused(why, self.line_in(why))
         self.schema = schema_of(self.new) if groups else None
         found = [each for (path, old), bases in groups.items() for each in self.against(path, old, bases)]
         if len(self.noted) > MOST_FAULTS:
@@ -156,27 +157,36 @@ class FileJudge:
     def note(self, old: Laid) -> None:
         """Tells what has changed of logical types."""
         before = schema_of(old)
-        for pointer, words in notes(before, self.schema) if before and self.schema else ():
-            if (pointer, words) not in self.noted:
-                self.noted.add((pointer, words))
-                if len(self.noted) <= MOST_FAULTS:
-                    self.log.note(self.path, f"{pointer}: {words}" if pointer else words, self.line(pointer))
+        told = []
+        for note in notes(before, self.schema) if before and self.schema else ():
+            if note not in self.noted:
+                self.noted.add(note)
+                told += [note] if len(self.noted) <= MOST_FAULTS else []
+        lines = self.lines(pointer for pointer, _ in told)
+        for pointer, words in told:
+            self.log.note(self.path, f"{pointer}: {words}" if pointer else words, lines.get(pointer, 0))
 
-    def line(self, pointer: str | None) -> int:
-        """The line of a place in the file, for a remark at it."""
-        return line_of(self.new.version.own(), pointer) if self.log.is_workflow and pointer is not None else 0
+    def lines(self, pointers: Iterable[str]) -> dict[str, int]:
+        """The lines of places in the file, if there are remarks at them."""
+        found = list(pointers) if self.log.is_workflow else []
+        return lines_of(self.new.version.own(), found) if found else {}
 
-    def refused(self, lines: list[str]) -> str:
-        own = re.compile(rf"{re.escape(quoted(self.path))}:(\d+):")
-        line = next((int(found[1]) for found in map(own.match, lines) if found), 0)
+    def refused(self, lines: list[str], line: int = 0) -> str:
         self.log.tell(self.path, lines, line)
         return "refused"
+
+    def line_in(self, lines: list[str]) -> int:
+        """The first line of the file that `avro schema --why` names."""
+        named = re.compile(rf"{re.escape(quoted(self.path))}:(\d+):")
+        return next((int(found[1]) for found in map(named.match, lines) if found), 0)
 
     def tell(self, outcome: str, answer: Answer, findings: Findings, pair: Pair) -> None:
         first, *others = ["no, accepted"] if outcome == "accepted" else answer.said.split("\n")
         allow = [f"allow: {line_for(self.path, pair.bases[0], place)}" for place in findings.left if place is not None]
         kind = "notice" if outcome == "accepted" else "error"
-        self.log.tell(self.path, [pair.start + first, *others, *findings.told(), *allow], self.line(findings.first), kind)
+        place = findings.first or ""
+        line = self.lines([place]).get(place, 0) if findings.first is not None else 0
+        self.log.tell(self.path, [pair.start + first, *others, *findings.told(), *allow], line, kind)
 
     def answer(self, outcome: str, answer: Answer, pair: Pair) -> None:
         renamed = {"renamed": pair.path} if pair.path != self.path else {}

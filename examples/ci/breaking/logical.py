@@ -25,11 +25,19 @@ Steps = dict[str, dict[str, Logical]]
 Fields = dict[str, Steps]
 
 
+def brief(value: Any) -> Any:
+    """A value as it is told; of a long one the beginning and the end."""
+    if value is None or isinstance(value, int):
+        return value
+    words = str(value)
+    return words if len(words) <= 200 else f"{words[:100]}...{words[-100:]}"
+
+
 def logical(schema: Any) -> Logical:
     attributes = schema if isinstance(schema, dict) else {}
     if attributes.get("logicalType") == "decimal":
-        return Logical("decimal", attributes.get("precision"), attributes.get("scale", 0))
-    return Logical(attributes.get("logicalType"))
+        return Logical("decimal", brief(attributes.get("precision")), brief(attributes.get("scale", 0)))
+    return Logical(brief(attributes.get("logicalType")))
 
 
 def last_names(schema: dict) -> list[str]:
@@ -67,7 +75,7 @@ def leaves(root: Place, enter: Callable[[Place], list[Steps]], outer: Steps) -> 
             if kind in RECORDS:
                 below.append(Leaf(part, f"{place.pointer}/fields/{index}", "", inner[index]))
             else:
-                below.append(Leaf(part, leaf.field, leaf.steps + step * (kind != "union"), leaf.known))
+                below.append(Leaf(part, leaf.field, leaf.steps if kind == "union" else leaf.steps + step, leaf.known))
         left.extend(reversed(below))
 
 

@@ -92,7 +92,8 @@ def parser() -> Parser:
     add("--allow", metavar="FILE", help="accept the breaks that FILE lists")
     add("--json", action="store_true", help="print each answer as a line of JSON")
     add("--quiet", action="store_true", help="print no summary")
-    add("--max-time", metavar="SECONDS", type=seconds, help="end after so much processor time, instead of 10 seconds and 0.1 for each text")
+    time = "end after so much processor time, instead of 10 seconds and 0.1 for each text"
+    add("--max-time", metavar="SECONDS", type=seconds, help=time)
     add("base", metavar="BASE", nargs="*", help="the commit to judge against")
     return made
 

@@ -134,7 +134,8 @@ def in_single_quotes(path: str) -> str:
 def modules_told(tree: Tree) -> str:
     """What is said of submodules, whose files are those of another repository."""
     modules = tree.modules()
-    return f" (files of a submodule are judged in it: {', '.join(map(quoted, modules))})" if modules else ""
+    names = ", ".join(map(quoted, modules[:3])) + ", .." * (len(modules) > 3)
+    return f" (files of a submodule are judged in it: {names})" if modules else ""
 
 
 def judge(options: Options, folder: Path) -> int:
@@ -167,7 +168,7 @@ def failure(fault: Exception) -> Stop:
         return Stop(NO_MEMORY, "out of memory")
     if isinstance(fault, OSError):
         name = fault.filename or "output"
-        return Stop(FAILED, f"{quoted(os.fsdecode(name)) if isinstance(name, (str, bytes, Path)) else name}: {fault.strerror}")
+        return Stop(FAILED, f"{quoted(os.fsdecode(name))}: {fault.strerror or fault}")
     return Stop(FAILED, f"{type(fault).__name__}: {fault}")
 
 

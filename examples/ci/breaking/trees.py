@@ -11,7 +11,7 @@ from dataclasses import dataclass, field
 from pathlib import Path
 from typing import Callable, Iterator
 
-from .ending import FAILED, MOST_TEXT, stop
+from .ending import FAILED, MOST_FILES, MOST_TEXT, stop
 from .git import Blobs, git, records
 from .log import quoted
 
@@ -65,8 +65,16 @@ class Tree:
 
     def versions(self) -> dict[str, Version]:
         """The schemas that PATHSPEC names."""
-        found = {path: self.version(path, entry) for path, entry in self.entries(*self.paths) if entry.mode != MODULE}
-        return {path: version for path, version in found.items() if version is not None}
+        found: dict[str, Version] = {}
+        for path, entry in self.entries(*self.paths):
+            self.put(found, path, self.version(path, entry) if entry.mode != MODULE else None)
+        return found
+
+    def put(self, found: dict[str, Version], path: str, version: Version | None) -> None:
+        if version is not None:
+            found[path] = version
+        if len(found) > MOST_FILES:
+            stop(FAILED, f"there are more than {MOST_FILES} schemas: PATHSPEC can name fewer")
 
     def version(self, path: str, entry: Entry) -> Version | None:
         if entry.mode == LINK:
@@ -116,7 +124,7 @@ class WorkingTree(Tree):
     @functools.cached_property
     def hash(self) -> str:
         """The hash by which objects are named, so that a file has the key that its object has."""
-        return git("rev-parse", "--show-object-format").strip()
+        return "sha256" if git("rev-parse", "--show-object-format").strip() == "sha256" else "sha1"
 
     def others(self, *paths: str) -> Iterator[str]:
         return records("ls-files", "-z", "--full-name", "--others", "--exclude-standard", "--", *paths)
@@ -126,7 +134,8 @@ class WorkingTree(Tree):
 
     def versions(self) -> dict[str, Version]:
         found = super().versions()
-        found.update((path, version) for path in self.others(*self.paths) if (version := self.file(path)) is not None)
+        for path in self.others(*self.paths):
+            self.put(found, path, self.file(path))
         return found
 
     def version(self, path: str, entry: Entry) -> Version | None:

@@ -59,6 +59,11 @@ class Lines(unittest.TestCase):
                 allowed(text)
             self.assertEqual(raised.exception.status, 64)
 
+    def test_patterns_are_not_too_many(self):
+        with self.assertRaises(Stop) as raised:
+            allowed("".join(f"*{number} v1\n" for number in range(1001)))
+        self.assertEqual(raised.exception.status, 4)
+
     def test_hostile_lines_take_no_time(self):
         for text in ['"' * 100_000 + " v1", "*" * 5000 + "x v1", "a" + " " * 100_000 + "v1"]:
             allowed(text + "\n").of("a" * 5000, ["v1"])
