@@ -2,9 +2,9 @@
 
 use crate::fault::Fault;
 use crate::nodes::{Node, NodeId};
-use crate::walk::{Members, Walk};
+use crate::walk::{FieldDefault, Members, Walk};
 use serde_json::{Number, Value};
-use std::alloc::AllocError;
+use std::alloc::{AllocError, Global};
 
 /// How many values are compared with types at the most. What is left then is taken to fit.
 const MAX_STEPS: u32 = 4_194_304;
@@ -19,21 +19,32 @@ struct Fitting<'n, 'a> {
 impl<'a> Walk<'a> {
     /// Notes the defaults that are not valid data of their fields.
     pub(crate) fn check_defaults(&mut self) -> Result<(), AllocError> {
-        let mut fitting = Fitting {
-            nodes: &self.nodes,
-            steps: 0,
-        };
-        for default in &self.defaults {
-            if !fitting.fits(default.value, default.node) {
-                let fault = match self.nodes.get(default.node) {
-                    Some(Node::Union(_)) => Fault::NoBranchFits,
-                    _ => Fault::Default(self.title(default.node)),
-                };
-                self.faults.push((default.place, fault))?;
-            }
+        let misfits = misfits(self.alloc, &self.nodes, &self.defaults)?;
+        for default in &misfits {
+            let fault = match self.nodes.get(default.node) {
+                Some(Node::Union(_)) => Fault::NoBranchFits,
+                _ => Fault::Default(self.title(default.node)),
+            };
+            self.note(default.place, fault)?;
         }
         Ok(())
     }
+}
+
+/// The defaults that are not valid data of their fields.
+fn misfits<'a>(
+    alloc: Global,
+    nodes: &[Node<'a>],
+    defaults: &[FieldDefault<'a>],
+) -> Result<Vec<FieldDefault<'a>>, AllocError> {
+    let mut fitting = Fitting { nodes, steps: 0 };
+    let mut misfits = Vec::new(alloc);
+    for default in defaults {
+        if !fitting.fits(default.value, default.node) {
+            misfits.push(*default)?;
+        }
+    }
+    Ok(misfits)
 }
 
 impl<'n, 'a> Fitting<'n, 'a> {

@@ -146,8 +146,9 @@ impl<'a> Places<'a> {
             pointer.push('/')?;
             match step {
                 Step::Member(number) => {
-                    let key = self.keys.get_index(*number).map_or("", |key| *key);
-                    put_key(alloc, &mut pointer, key)?;
+                    if let Some(key) = self.keys.get_index(*number) {
+                        put_key(alloc, &mut pointer, key)?;
+                    }
                 }
                 Step::Item(index) => pointer.push_str(index.to_string(alloc)?.as_str())?,
             }

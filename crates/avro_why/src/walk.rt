@@ -113,7 +113,7 @@ impl<'a> Walk<'a> {
     pub(crate) fn title(&self, id: NodeId) -> Name<'a> {
         match self.nodes.get(id) {
             Some(node) => node.title(),
-            None => Node::Unknown.title(),
+            None => Name::plain("a type"),
         }
     }
 
