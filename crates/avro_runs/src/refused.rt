@@ -1,8 +1,8 @@
 //! A runtime that is refused the memory for one file, and the step that runs the program over it.
 
-use crate::escapes::halves;
 use crate::steps::{Sheet, run_line};
 use anyhow::Result;
+use avro_calls::halves;
 use std::alloc::{AllocError, Allocator, Global};
 use std::fs::{Metadata, OpenOptions};
 use std::io;
