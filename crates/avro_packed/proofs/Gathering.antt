@@ -14,12 +14,12 @@ use Rattle.avro_packed.specs.declared.written.Written.{Written}
 use Rattle.avro_packed.proofs.Joined.{values_with_one, entries_with_one, values_count-length, entries_count-length}
 
 -- one more item, and one more entry
-pub item_gathered : {T E : Type 0} (r : Result T E) (out : List ℕ) (into branch : Option ℕ) (count : ℕ) (new : Written) (old : Gathered) (vs : List Value) (v : Value)
-    → into ≡ branch → AreItems out old vs → count ≡ old.count + 1 → OnOk r (Holds out new (plain_values (values_from vs) ++ plain v))
+pub item_gathered : {T E : Type 0} (r : Result T E) (out : List ℕ) (into branch : Option ℕ) (count old : ℕ) (new : Written) (vs : List Value) (v : Value)
+    → into ≡ branch → old ≡ length vs → count ≡ old + 1 → OnOk r (Holds out new (plain_values (values_from vs) ++ plain v))
     → OnOk r ((into ≡ branch) × ((count ≡ length (vs ++ v ∷ [])) × Holds out new (plain_values (values_from (vs ++ v ∷ [])))))
-item_gathered (Err e) out into branch count new old vs v same are one holds = tt
-item_gathered (Ok u) out into branch count new old vs v same are one holds =
-    (same, (omega (arith, one, are.0, length-append vs (v ∷ [])), subst (λ (l : List ℕ). Holds out new l) (sym (values_with_one vs v)) holds))
+item_gathered (Err e) out into branch count old new vs v same counted one holds = tt
+item_gathered (Ok u) out into branch count old new vs v same counted one holds =
+    (same, (omega (arith, one, counted, length-append vs (v ∷ [])), subst (λ (l : List ℕ). Holds out new l) (sym (values_with_one vs v)) holds))
 
 -- more items that have no bytes
 plain-none : (n : ℕ) (vs : List Value) (v : Value) → plain v ≡ [] → plain_values (values_from (vs ++ replicate n v)) ≡ plain_values (values_from vs)
@@ -34,12 +34,12 @@ items_repeated out new old n vs v are none more written = (
   subst (λ (w : Written). Holds out w (plain_values (values_from (vs ++ replicate n v)))) (sym written) (subst (λ (b : List ℕ). Holds out old.written b) (sym (plain-none n vs v none)) are.1),
 )
 
-pub entry_gathered : {T E : Type 0} (r : Result T E) (out : List ℕ) (into branch : Option ℕ) (count : ℕ) (key : List ℕ) (new : Written) (old : Gathered) (es : List (List ℕ × Value)) (v : Value)
-    → into ≡ branch → AreEntries out old es → count ≡ old.count + 1 → OnOk r (Holds out new ((plain_entries (entries_from es) ++ plain_bytes key) ++ plain v))
+pub entry_gathered : {T E : Type 0} (r : Result T E) (out : List ℕ) (into branch : Option ℕ) (count old : ℕ) (key : List ℕ) (new : Written) (es : List (List ℕ × Value)) (v : Value)
+    → into ≡ branch → old ≡ length es → count ≡ old + 1 → OnOk r (Holds out new ((plain_entries (entries_from es) ++ plain_bytes key) ++ plain v))
     → OnOk r ((into ≡ branch) × ((count ≡ length (es ++ (key, v) ∷ [])) × Holds out new (plain_entries (entries_from (es ++ (key, v) ∷ [])))))
-entry_gathered (Err e) out into branch count key new old es v same are one holds = tt
-entry_gathered (Ok u) out into branch count key new old es v same are one holds =
-    (same, (omega (arith, one, are.0, length-append es ((key, v) ∷ [])), subst (λ (l : List ℕ). Holds out new l) (sym (entries_with_one es key v)) holds))
+entry_gathered (Err e) out into branch count old key new es v same counted one holds = tt
+entry_gathered (Ok u) out into branch count old key new es v same counted one holds =
+    (same, (omega (arith, one, counted, length-append es ((key, v) ∷ [])), subst (λ (l : List ℕ). Holds out new l) (sym (entries_with_one es key v)) holds))
 
 -- the one block of all
 pub block_of_items : (out : List ℕ) (branch : Option ℕ) (g : Gathered) (vs : List Value) → g.into ≡ branch → AreItems out g vs

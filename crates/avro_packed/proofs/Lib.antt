@@ -2,4 +2,4 @@ pub mod Joined
 pub mod Gathering
 pub mod IntoBranches
 pub mod Grouping
-pub mod Left
+pub mod Staying

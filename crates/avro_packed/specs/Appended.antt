@@ -18,11 +18,10 @@ abbrev pub Keeps : Output → Output → Type 0
 Keeps before after =
     (after.most ≡ before.most) × Grows before.bytes after.bytes × (length after.bytes ≤ max before.most (length before.bytes))
 
--- what was written is these bytes, in the output followed by a buffer of its own, or this many bytes
+-- what was written is these bytes, in the output or in a buffer of their own, or this many bytes
 abbrev pub Holds : List ℕ → Written → List ℕ → Type 0
 Holds out (Written.Range start end) bytes = StandsAt out start end bytes
-Holds out (Written.Apart apart) bytes =
-    (front : List ℕ) × StandsAt out apart.value.start apart.value.end front × (bytes ≡ front ++ apart.value.more.items)
+Holds out (Written.Apart buffer) bytes = bytes ≡ buffer.items
 Holds out (Written.Counted count) bytes = count ≡ length bytes
 
 -- bytes were appended to an output that is then no longer than `most`, or they would make it longer, and it is

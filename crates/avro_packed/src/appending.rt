@@ -1,6 +1,6 @@
 //! The maker that appends the plain encoding of what is read.
 
-ghost use Rattle.std.specs.Prelude.{◌≡◌, ◌++◌, [], ◌≤◌, List, ℕ, IfNone, IfOk, OnOk, OnErr, length, max};
+ghost use Rattle.std.specs.Prelude.{◌≡◌, ◌++◌, [], ◌∷◌, ◌≤◌, List, ℕ, IfNone, IfOk, OnOk, OnErr, length, max};
 ghost use Rattle.std.specs.Option.{IfSome};
 ghost use Rattle.avro_zigzag.specs.Number.{number_bytes};
 ghost use Rattle.avro_cursor.specs.Encoding.{plain_blocks};
@@ -8,23 +8,26 @@ ghost use Rattle.avro_binary.specs.Outputs.{Grows};
 ghost use Rattle.avro_packed.specs.Appended.{AppendsWithin, Holds, Keeps, branch_bytes};
 
 use crate::gathered::Gathered;
-use crate::limit::Limit;
-use crate::moving::{append_written, closed, give_back, is_past, keep_within, only_counted};
-use crate::numbers::{append_byte, append_number};
-use crate::written::{Apart, Written};
+use crate::joining::{append_written, give_back, is_past, size};
+use crate::numbers::append_number;
+use crate::written::Written;
 use std::alloc::{AllocError, Global};
 use std::marker::Model;
 
 /// Appends the plain encoding of what is read to an output of its own, as it is read. What is for a branch of a union has
 /// the index of the branch in front.
 ///
-/// Items of arrays and entries of maps are moved into a buffer of their own, since their number comes
-/// before them. Buffers are kept for later. What would make the output longer than a limit is taken back, and only counted.
+/// What does not stand there in its order is copied into a buffer of its own: so are the items of an array and the entries of a map,
+/// since their number comes before them. Buffers are kept for later. What would make the output longer than a limit is taken back,
+/// and only counted.
 #[derive(Drop)]
 pub struct Appending {
     pub(crate) out: Vec<u8>,
-    pub(crate) limit: Limit,
-    pub(crate) spares: Vec<Box<Apart>>,
+    // how many bytes of the output are kept at most
+    pub(crate) most: usize,
+    // whether nothing is put that may be in no datum
+    pub(crate) sparing: bool,
+    pub(crate) buffers: Vec<Vec<u8>>,
     pub(crate) slots: Vec<Vec<Option<Written>>>,
     pub(crate) ends: Vec<Vec<usize>>,
 }
@@ -34,7 +37,7 @@ impl Model for Appending {
 
     ghost Value = { Output };
 
-    ghost view = { λ a. record { bytes = a.out.items; most = a.limit.most } };
+    ghost view = { λ a. record { bytes = a.out.items; most = a.most } };
 }
 
 impl Appending {
@@ -44,11 +47,9 @@ impl Appending {
     {
         Appending {
             out: Vec::new(alloc),
-            limit: Limit {
-                most: usize::MAX,
-                sparing: false,
-            },
-            spares: Vec::new(alloc),
+            most: usize::MAX,
+            sparing: false,
+            buffers: Vec::new(alloc),
             slots: Vec::new(alloc),
             ends: Vec::new(alloc),
         }
@@ -61,52 +62,33 @@ impl Appending {
         ensures limit { self.new.most ≡ most }
     {
         self.out.clear();
-        self.limit = Limit { most, sparing };
-    }
-
-    /// Sets how many bytes of the output are kept at most.
-    #[inline(always)]
-    pub(crate) fn keep_at_most(&mut self, most: usize)
-        ensures bytes { self.new.bytes ≡ self.old.bytes }
-        ensures limit { self.new.most ≡ most }
-    {
-        self.limit.most = most;
+        self.most = most;
+        self.sparing = sparing;
     }
 
     /// Appends to other bytes what was written, unless they would be more than `most`. Returns whether they were not, or `None`
-    /// for what was only counted, and would fit.
+    /// for what was only counted, and would fit. Its buffer is kept for later.
     ///
     /// # Errors
     ///
     /// Memory ran out; they are as they were.
     pub(crate) fn append(
-        &self,
-        written: &Written,
+        &mut self,
+        written: Written,
         most: usize,
         to: &mut Vec<u8>,
     ) -> Result<Option<bool>, AllocError>
-        ensures appended { (bytes : List ℕ) → Holds self.now.bytes written.now bytes → IfOk result (λ told. IfSome told (λ fits. AppendsWithin most to.old.items to.new.items bytes fits)) }
+        ensures appended { (bytes : List ℕ) → Holds self.old.bytes written bytes → IfOk result (λ told. IfSome told (λ fits. AppendsWithin most to.old.items to.new.items bytes fits)) }
         ensures none { IfOk result (λ told. IfNone told (to.new.items ≡ to.old.items)) }
         ensures unchanged { OnErr result (to.new.items ≡ to.old.items) }
+        ensures same { self.new ≡ self.old }
     {
-        let end = to.len();
-        if let Some(count) = only_counted(written) {
-            return Ok(is_past(end, count, most).then_some(false));
+        if is_past(to.len(), size(&written), most) {
+            return Ok(Some(false));
         }
-        match append_written(&self.out, written, to) {
-            Ok(()) => Ok(Some(keep_within(to, end, most))),
-            Err(_) => {
-                to.truncate(end);
-                Err(AllocError)
-            }
-        }
-    }
-
-    /// Keeps the buffer of what was written for later.
-    pub(crate) fn keep_buffer(&mut self, written: Written)
-        ensures { self.new ≡ self.old }
-    {
-        give_back(&mut self.spares, written);
+        let is_kept = append_written(&self.out, &written, to)?;
+        give_back(&mut self.buffers, written);
+        Ok(is_kept.then_some(true))
     }
 
     /// Writes the index of a branch, if there is one, and returns where.
@@ -134,7 +116,7 @@ impl Appending {
             → length self.new.bytes ≤ max self.old.most (length before) }
         ensures limit { self.new.most ≡ self.old.most }
     {
-        written_since(&mut self.out, start, self.limit.most)
+        written_since(&mut self.out, start, self.most)
     }
 
     /// Writes a number.
@@ -180,17 +162,35 @@ impl Appending {
         ensures stays { (front : List ℕ) → Grows front self.old.bytes → Grows front self.new.bytes }
     {
         if gathered.count == 0 {
-            let start = self.begin(gathered.into)?;
-            append_byte(0, &mut self.out)?;
-            return Ok(self.since(start));
+            return self.number(gathered.into, 0);
         }
         match i64::try_from(gathered.count) {
             Ok(count) => {
                 let head = self.number(gathered.into, count)?;
-                closed(alloc, &self.out, &mut self.spares, head, gathered.written)
+                self.closed(alloc, head, gathered.written)
             }
             Err(_) => Err(AllocError),
         }
+    }
+
+    /// A block behind its head, and the end of its array or map.
+    #[inline(always)]
+    fn closed(
+        &mut self,
+        alloc: Global,
+        head: Written,
+        written: Written,
+    ) -> Result<Written, AllocError>
+        ensures kept { OnOk result (Keeps self.old self.new) }
+        ensures holds { (a b : List ℕ) → Holds self.old.bytes head a → Holds self.old.bytes written b
+            → IfOk result (λ all. Holds self.new.bytes all ((a ++ b) ++ 0 ∷ [])) }
+        ensures stays { (front : List ℕ) → Grows front self.old.bytes → Grows front self.new.bytes }
+    {
+        let mut all = head;
+        self.join(alloc, &mut all, written)?;
+        let end = self.number(None, 0)?;
+        self.join(alloc, &mut all, end)?;
+        Ok(all)
     }
 }
 

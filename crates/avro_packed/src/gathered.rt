@@ -11,37 +11,22 @@ pub struct Gathered {
 }
 
 impl Gathered {
-    ghost use Rattle.std.specs.Prelude.{◌≡◌, ◌+◌, OnOk, true, false};
+    ghost use Rattle.std.specs.Prelude.{◌≡◌, ◌+◌, OnErr, OnOk};
 
-    /// Counts one more. A count that no block can have is refused.
+    /// Counts so many more. A count that no block can have is refused.
     #[inline(always)]
-    pub(crate) fn count_one(&mut self) -> Result<(), AllocError>
-        ensures count { OnOk result (self.new.count ≡ self.old.count + 1) }
+    pub(crate) fn count_more(&mut self, more: u32) -> Result<(), AllocError>
+        ensures count { OnOk result (self.new.count ≡ self.old.count + more) }
         ensures written { self.new.written ≡ self.old.written }
         ensures into { self.new.into ≡ self.old.into }
+        ensures none { OnErr result (self.new ≡ self.old) }
     {
-        match self.count.checked_add(1) {
+        match self.count.checked_add(u64::from(more)) {
             Some(count) => {
                 self.count = count;
                 Ok(())
             }
             None => Err(AllocError),
-        }
-    }
-
-    /// Counts so many more, or none where no block can have them.
-    pub(crate) fn count_more(&mut self, more: u32) -> bool
-        ensures count { result ≡ true → self.new.count ≡ self.old.count + more }
-        ensures written { self.new.written ≡ self.old.written }
-        ensures into { self.new.into ≡ self.old.into }
-        ensures none { result ≡ false → self.new ≡ self.old }
-    {
-        match self.count.checked_add(u64::from(more)) {
-            Some(count) => {
-                self.count = count;
-                true
-            }
-            None => false,
         }
     }
 }

@@ -1,6 +1,6 @@
 //! Appending bytes and numbers.
 
-ghost use Rattle.std.specs.Prelude.{◌≡◌, ◌++◌, [], ◌∷◌, List, ℕ, OnOk};
+ghost use Rattle.std.specs.Prelude.{◌≡◌, ◌++◌, [], ◌∷◌, List, ℕ, OnErr, OnOk};
 ghost use Rattle.avro_zigzag.specs.Number.{AreLeastGroups, number_bytes};
 ghost use Rattle.avro_binary.specs.Outputs.{Grows};
 
@@ -11,6 +11,7 @@ use std::alloc::AllocError;
 #[inline(always)]
 pub(crate) fn append_byte(byte: u8, out: &mut Vec<u8>) -> Result<(), AllocError>
     ensures appended { OnOk result (out.new.items ≡ out.old.items ++ byte ∷ []) }
+    ensures unchanged { OnErr result (out.new.items ≡ out.old.items) }
     ensures stays { (front : List ℕ) → Grows front out.old.items → Grows front out.new.items }
 {
     if out.len() < out.capacity() {
@@ -25,6 +26,7 @@ pub(crate) fn append_byte(byte: u8, out: &mut Vec<u8>) -> Result<(), AllocError>
 #[inline(always)]
 pub(crate) fn append_bytes(content: &[u8], out: &mut Vec<u8>) -> Result<(), AllocError>
     ensures appended { OnOk result (out.new.items ≡ out.old.items ++ content.now) }
+    ensures unchanged { OnErr result (out.new.items ≡ out.old.items) }
     ensures stays { (front : List ℕ) → Grows front out.old.items → Grows front out.new.items }
 {
     if content.len() == 1 {

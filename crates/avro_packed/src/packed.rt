@@ -4,14 +4,14 @@ ghost use Rattle.std.specs.Prelude.{◌≡◌, ◌++◌, ◌+◌, [], IfOk, OnOk
 ghost use Rattle.std.specs.List.{concat};
 ghost use Rattle.avro_cursor.specs.Encoding.{plain_blocks, plain_bytes};
 
-use crate::moving::append_measured;
+use crate::joining::append_measured;
 use crate::numbers::{append_byte, append_number};
 use avro_binary::{Build, append_plain};
 use avro_schema::Datum;
 use std::alloc::{AllocError, Global};
 
 /// Builds the plain encoding of a datum (Avro 1.11, "Binary Encoding"). The bytes of a part are copied again into each whole
-/// that has it; [`Appending`](crate::Appending) copies bytes once.
+/// that has it; those that [`Appending`](crate::Appending) writes in their order are not.
 #[derive(Clone, Copy, Drop)]
 pub struct Packed;
 

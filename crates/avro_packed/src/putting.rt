@@ -9,7 +9,7 @@ ghost use Rattle.avro_binary.specs.Outputs.{Grows};
 
 use crate::appending::Appending;
 use crate::gathered::Gathered;
-use crate::moving::{append_measured, is_nothing, join, join_key, join_near};
+use crate::joining::{append_measured, is_nothing};
 use crate::numbers::{append_byte, append_bytes, append_number};
 use crate::written::Written;
 use avro_binary::{Leaf, Make, Place, append_plain, give_list, list};
@@ -219,19 +219,16 @@ impl Make for Appending {
         items: &mut Gathered,
         value: Written,
     ) -> Result<(), AllocError> {
-        items.count_one()?;
-        join(
-            alloc,
-            &self.out,
-            &mut self.spares,
-            &mut items.written,
-            value,
-        )
+        items.count_more(1)?;
+        self.join(alloc, &mut items.written, value)
     }
 
     fn repeat(&self, items: &mut Gathered, value: &Written, count: u32) -> bool {
         if is_nothing(value) {
-            return items.count_more(count);
+            return match items.count_more(count) {
+                Ok(()) => true,
+                Err(_) => false,
+            };
         }
         false
     }
@@ -259,20 +256,9 @@ impl Make for Appending {
         key: &str,
         value: Written,
     ) -> Result<(), AllocError> {
-        entries.count_one()?;
-        join_key(
-            alloc,
-            &mut self.spares,
-            &mut entries.written,
-            key.as_bytes(),
-        )?;
-        join(
-            alloc,
-            &self.out,
-            &mut self.spares,
-            &mut entries.written,
-            value,
-        )
+        entries.count_more(1)?;
+        self.join_key(alloc, &mut entries.written, key.as_bytes())?;
+        self.join(alloc, &mut entries.written, value)
     }
 
     #[inline(always)]
@@ -300,14 +286,7 @@ impl Make for Appending {
         fields: &mut Written,
         value: Written,
     ) -> Result<(), AllocError> {
-        join_near(
-            alloc,
-            &mut self.out,
-            &self.limit,
-            &mut self.spares,
-            fields,
-            value,
-        )
+        self.join(alloc, fields, value)
     }
 
     fn empty_fields(&self, _fields: &mut Written, _count: u32) -> bool {
@@ -336,7 +315,7 @@ impl Make for Appending {
 
     #[inline(always)]
     fn spare_ends(&mut self, alloc: Global) -> Option<Vec<usize>> {
-        if self.limit.sparing {
+        if self.sparing {
             return None;
         }
         Some(list(alloc, &mut self.ends))

@@ -13,7 +13,6 @@ ghost use Rattle.avro_cursor.specs.Seen.{read_fault};
 ghost use Rattle.avro_packed.specs.Appended.{AppendsWithin};
 
 use crate::appending::Appending;
-use crate::settling::settle;
 use avro_binary::{Place, ReadError, read_made};
 use avro_schema::{Limits, Schema};
 use std::alloc::Global;
@@ -39,21 +38,11 @@ pub fn append_read(
     ensures unchanged { OnErr result (out.new.items ≡ out.old.items) }
     ensures refused { IfErr result (λ e. IfSome (read_fault e) (Breaks (schema_nodes schema.now) limits.now (node_at (schema_nodes schema.now) 0) bytes.now)) }
 {
-    let end = out.len();
-    scratch.keep_at_most(most);
-    scratch.exchange(out);
+    scratch.restart(most.saturating_sub(out.len()), false);
     let root = schema.root();
-    let read = read_made(alloc, schema, root, bytes, limits, scratch, Place::of(root));
-    scratch.exchange(out);
-    match read {
-        Ok((written, len)) => {
-            let fits = settle(out, end, &written, most)?;
-            scratch.keep_buffer(written);
-            Ok((fits, len))
-        }
-        Err(error) => {
-            out.truncate(end);
-            Err(error)
-        }
+    let (written, len) = read_made(alloc, schema, root, bytes, limits, scratch, Place::of(root))?;
+    match scratch.append(written, most, out)? {
+        Some(fits) => Ok((fits, len)),
+        None => Err(ReadError::OutOfMemory),
     }
 }

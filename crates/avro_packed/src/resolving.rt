@@ -75,11 +75,8 @@ fn append_put(
     ensures kept { OnOk result (Keeps scratch.old scratch.new) }
 {
     match put_into(alloc, plan, bytes, limits, scratch) {
-        Ok((written, len)) => match scratch.append(&written, most, out) {
-            Ok(told) => {
-                scratch.keep_buffer(written);
-                Ok((told, len))
-            }
+        Ok((written, len)) => match scratch.append(written, most, out) {
+            Ok(told) => Ok((told, len)),
             Err(_) => Err(ReadResolveError::Read(ReadError::OutOfMemory)),
         },
         Err(error) => Err(error),

@@ -15,7 +15,7 @@ keeps_on s t u before after =
 
 pub still_holds : (s t : List ℕ) (w : Written) (bytes : List ℕ) → Grows s t → Holds s w bytes → Holds t w bytes
 still_holds s t (Written.Range start end) bytes kept holds = stands_still s t start end bytes kept holds
-still_holds s t (Written.Apart apart) bytes kept holds = (holds.0, stands_still s t apart.value.start apart.value.end holds.0 kept holds.1, holds.2)
+still_holds s t (Written.Apart buffer) bytes kept holds = holds
 still_holds s t (Written.Counted count) bytes kept holds = holds
 
 -- two parts of which one ends where the other starts

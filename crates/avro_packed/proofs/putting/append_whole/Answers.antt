@@ -1,6 +1,6 @@
 use Rattle.avro_schema.specs.Seen.{value_of}
 use Rattle.avro_cursor.specs.Encoding.{plain}
-use Rattle.avro_packed.proofs.Left.{stays_by}
+use Rattle.avro_packed.proofs.Staying.{stays_by}
 use Rattle.avro_packed.proofs.putting.append_whole.Goals as goal
 
 pub returns-clause-stays : goal.returns-clause-stays

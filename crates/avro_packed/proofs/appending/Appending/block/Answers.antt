@@ -2,7 +2,6 @@ use Rattle.std.proofs.Common.{◌≡◌, ◌++◌, ℕ, ℤ, List, w64, subst, �
 use Rattle.std.specs.Prelude.{IfOk, pos}
 use Rattle.std.proofs.lemmas.Int.{to_z-of_z}
 use Rattle.avro_zigzag.specs.Number.{number_bytes}
-use Rattle.avro_cursor.specs.Encoding.{plain_blocks}
 use Rattle.avro_packed.specs.Appended.{Holds, branch_bytes}
 use Rattle.avro_packed.specs.inside.Outputs.{still_holds}
 use Rattle.avro_packed.proofs.Gathering.{block_closed}
@@ -11,16 +10,13 @@ use Rattle.avro_packed.proofs.appending.Appending.block.Goals as goal
 pub returns-in_ok-head-in-Ok-clause-holds : goal.returns-in_ok-head-in-Ok-clause-holds
 returns-in_ok-head-in-Ok-clause-holds c = λ bytes holds.
     let old = c.args.self.now.bytes in
-    let new = c.number.new.self.bytes in
+    let new = c.number-in-Ok.new.self.bytes in
     let front = branch_bytes c.args.gathered.into in
     let k = number_bytes (pos c.args.gathered.count) in
     let fits : FitsSigned w64 c.in-Ok.count = search rules in
     let named : c.in-Ok.count ≡ pos c.args.gathered.count = search rules in
     let head : Holds new c.in_ok-head-in-Ok.head (front ++ k) =
     subst (λ (z : ℤ). Holds new c.in_ok-head-in-Ok.head (front ++ number_bytes z)) (to_z-of_z w64 c.in-Ok.count fits ∙ named) c.in_ok-head-in-Ok.ensures.holds in
-    let same : new ≡ c.deref.result.now = search rules in
-    let closed = c.closed.ensures (front ++ k) bytes (subst (λ (o : List ℕ). Holds o c.in_ok-head-in-Ok.head (front ++ k)) same head)
-    (subst (λ (o : List ℕ). Holds o c.args.gathered.written bytes) same (still_holds old new c.args.gathered.written bytes c.in_ok-head-in-Ok.ensures.kept.1 holds)) in
-    let inside : c.deref.result.now ≡ c.self-in-Ok.inside.out.items = search rules in
-    subst (λ (o : List ℕ). IfOk c.closed.result (λ all. Holds o all (front ++ plain_blocks c.args.gathered.count bytes))) inside
-    (subst (λ (l : List ℕ). IfOk c.closed.result (λ all. Holds c.deref.result.now all l)) (block_closed front bytes c.args.gathered.count c.if-gathered-eq0.false) closed)
+    let behind = still_holds old new c.args.gathered.written bytes c.in_ok-head-in-Ok.ensures.kept.1 holds in
+    subst (λ (l : List ℕ). IfOk c.closed.result (λ all. Holds c.closed.new.self.bytes all l)) (block_closed front bytes c.args.gathered.count c.if-gathered-eq0.false)
+    (c.closed.ensures.holds (front ++ k) bytes head behind)

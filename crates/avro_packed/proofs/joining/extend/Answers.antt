@@ -2,7 +2,7 @@ use Rattle.std.proofs.Common.{subst}
 use Rattle.avro_binary.specs.Outputs.{StandsAt}
 use Rattle.avro_packed.specs.Appended.{Holds}
 use Rattle.avro_packed.specs.inside.Outputs.{stands_joined}
-use Rattle.avro_packed.proofs.moving.extend.Goals as goal
+use Rattle.avro_packed.proofs.joining.extend.Goals as goal
 
 pub returns-then-from-end-clause-joined : goal.returns-then-from-end-clause-joined
 returns-then-from-end-clause-joined c = λ out a b yes first second.

@@ -1,6 +1,6 @@
 use Rattle.std.specs.Prelude.{is_ok}
-use Rattle.avro_packed.proofs.Left.{stays_if}
-use Rattle.avro_packed.proofs.moving.append_measured.Goals as goal
+use Rattle.avro_packed.proofs.Staying.{stays_if}
+use Rattle.avro_packed.proofs.joining.append_measured.Goals as goal
 
 pub returns-clause-stays : goal.returns-clause-stays
 returns-clause-stays c = λ front kept.
