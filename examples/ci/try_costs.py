@@ -84,15 +84,11 @@ def long_answer(*words: str, kinds: tuple[str, str] = ("int", "string"), statuse
     return one(old, new, *words, statuses=statuses, allowed=b"a.avsc v1 /fields/0/type/fields/0\n")
 
 
-def long_answer_accepted() -> Tree:
-    tree = long_answer("--allow", "allowed", statuses=(0,))
-    return Tree(tree.old, tree.new, tree.words, tree.statuses, {"allowed": b"a.avsc v1 /fields\n"})
-
-
-def symbols(*words: str, statuses: tuple[int, ...] = (1,), accepted: bytes = b"") -> Tree:
-    """An enum with a long name that lost many symbols: fifteen GB of faults."""
-    old = {"type": "enum", "name": "E" * 250_000, "symbols": numbered("s", 60_000)}
-    return one(old, {**old, "symbols": ["z"]}, *words, statuses=statuses, allowed=accepted)
+def symbols(name: int, *words: str, statuses: tuple[int, ...] = (1,), accepted: bytes = b"") -> Tree:
+    """An enum with a long name that lost many symbols, each of which is a fault with this name."""
+    old = {"type": "enum", "name": "E" * name, "symbols": numbered("s", 60_000)}
+    old, new = (record([("a", each)]) for each in (old, {**old, "symbols": ["z"]}))
+    return one(old, new, *words, statuses=statuses, allowed=accepted)
 
 
 def attributes() -> Tree:
@@ -167,10 +163,11 @@ TREES: dict[str, Callable[[], Tree]] = {
     "2,000 changed fields, one not accepted": lambda: changed_fields("--allow", "allowed", accepted=1999),
     "200 MB of faults": long_answer,
     "200 MB of faults, one accepted": lambda: long_answer("--allow", "allowed"),
-    "200 MB of faults, all accepted": long_answer_accepted,
+    "200 MB of faults, all accepted": lambda: symbols(3_000, "--allow", "allowed", statuses=(0,), accepted=b"a.avsc v1 /fields\n"),
     "200 MB of faults of doubles, --tame": lambda: long_answer("--tame", kinds=("double", "string")),
-    "15 GB of faults": symbols,
-    "15 GB of faults, all accepted by a place": lambda: symbols("--allow", "allowed", accepted=b"a.avsc v1 /x\n"),
+    "15 GB of faults": lambda: symbols(250_000),
+    "15 GB of faults, none accepted": lambda: symbols(250_000, "--allow", "allowed", accepted=b"a.avsc v1 /fields/1\n"),
+    "15 GB of faults, all accepted": lambda: symbols(250_000, "--allow", "allowed", statuses=(0,), accepted=b"a.avsc v1 /fields\n"),
     "140,000 small objects in a text (1 MB)": attributes,
     "a datum of 30 MB": datum,
     "1,500 notes": notes,
