@@ -142,9 +142,10 @@ surface: ## tests the public items and their libraries against checks/surface.py
 	checks/surface.py
 	checks/pages.py --check
 
-words: surface ## tests these, the words and codes of the man page and completions, and the table of the headline (five seconds)
+words: surface ## tests these, the words and codes of the man page and completions, the table of the headline, and that avro-breaking is what its modules make (five seconds)
 	checks/words.py
 	checks/headline.py
+	examples/ci/breaking/build.py --check
 
 clean: ## removes what checks and builds have left (seconds)
 	rm -rf crates/*/out bindings/out packaging/out
