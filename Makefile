@@ -142,7 +142,7 @@ surface: ## tests the public items and their libraries against checks/surface.py
 	checks/surface.py
 	checks/pages.py --check
 
-words: surface ## tests these, the words and codes of the man page and completions, the table of the headline, and that avro-breaking is what its modules make (five seconds)
+words: surface ## tests these, the words and codes of the man page and completions, the headline, and the one file of avro-breaking (five seconds)
 	checks/words.py
 	checks/headline.py
 	examples/ci/breaking/build.py --check
