@@ -137,12 +137,12 @@ def namespace() -> Tree:
 
 
 def long_notes() -> Tree:
-    """Notes with a long word, which many fields had by their aliases."""
-    old = record([("x", {"type": "int", "logicalType": "w" * 900_000})])
-    new = record([(name, "int") for name in numbered("f", 2000)])
-    for each in new["fields"]:
-        each.update(aliases=["x"], default=0)
-    return one(old, new, statuses=(0, 3))
+    """Notes with a long word, which a field had that many fields of many records had been."""
+    old = record([("o", record([("x", {"type": "int", "logicalType": "w" * 900_000})], name="Old"))])
+    inner = [record([("y", "int")], name=f"S{number}", aliases=["Old"]) for number in range(1000)]
+    for each in inner:
+        each["fields"][0]["aliases"] = ["x"]
+    return one(old, record([(f"f{number}", each) for number, each in enumerate(inner)]))
 
 
 def renamed() -> Tree:
@@ -177,7 +177,7 @@ TREES: dict[str, Callable[[], Tree]] = {
     "100 texts of 1 MiB, --bundle": lambda: many_files("--bundle", statuses=(1, 5)),
     "100 renamed files, whose types have names of 1 MB": renamed,
     "1,300 types in a namespace of 0.8 MB": namespace,
-    "2,000 notes on a word of 0.9 MB": long_notes,
+    "1,000 notes on a word of 0.9 MB": long_notes,
     "1,000 patterns of accepted breaks": lambda: lines(1000, b"*%dx*y*.avsc v1 /fields/0\n"),
     "120,000 lines of accepted breaks": lambda: lines(120_000, b"%d v\n"),
     "a file of 40 GB": sparse,
