@@ -1137,7 +1137,7 @@ avro-breaking	try_allow	s/accepted.takes(place)/accepted.takes("")/
 avro-breaking	try_allow	s/if line.text not in self.used/if False/
 avro-breaking	try_notes	s/attributes.get("scale", 0)/attributes.get("scale")/
 avro-breaking	try_notes	s/, \*(schema.get("aliases") or ())/,/
-avro-breaking	try_notes	s/if (pointer, words) not in self.noted/if True/
+avro-breaking	try_notes	s/if note not in self.noted/if True/
 avro-breaking	try_tagged	s/if not same or differs_from_head(options, paths):/if True:/
 avro-breaking	try_tagged	s/return not is_so(\*COMPARE, "--cached", .*/return False/
 avro-breaking	try_tagged	s/tags.last(\*tags.here())/tags.last(same[0].name)/
