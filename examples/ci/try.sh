@@ -1207,7 +1207,7 @@ has_what() { # FUNCTION
 }
 
 missing() { # WHAT
-  not_tried+=("$1")
+  [[ " ${not_tried[*]} " = *" $1 "* ]] || not_tried+=("$1")
   return 1
 }
 
