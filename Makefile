@@ -159,6 +159,7 @@ words: surface ## tests these, the edits that they have to find, the words and c
 	checks/words.py
 	checks/headline.py
 	checks/weight.py
+	examples/ci/breaking/build.py --check
 
 clean: ## removes what checks and builds have left (seconds)
 	rm -rf crates/*/out bindings/out packaging/out

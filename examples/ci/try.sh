@@ -828,6 +828,8 @@ try_time() {
   wide 2000 string 0 > wide.avsc
   for number in {0..1999}; do echo "wide.avsc v1 /fields/$number"; done > allowed
   expect 0 $'\n''1 schema against v1: 1 accepted' with_stub 2000 --allow allowed --max-time 8
+  sed -i '$d' allowed
+  expect 1 $'\n''    allow: wide.avsc v1 /fields/1999'$'\n' with_stub 2000 --allow allowed --max-time 8
   sed -i 's/^explain)/explain) while :; do :; done/' "$work/stub/avro"
   expect 4 'avro-breaking: the answers take more than 1 seconds of processor time' with_stub 2000 --max-time 1
 }
@@ -1135,7 +1137,7 @@ avro-breaking	try_allow	s/accepted.takes(place)/accepted.takes("")/
 avro-breaking	try_allow	s/if line.text not in self.used/if False/
 avro-breaking	try_notes	s/attributes.get("scale", 0)/attributes.get("scale")/
 avro-breaking	try_notes	s/, \*(schema.get("aliases") or ())/,/
-avro-breaking	try_notes	s/if (pointer, words) not in self.noted/if True/
+avro-breaking	try_notes	s/if note not in self.noted/if True/
 avro-breaking	try_tagged	s/if not same or differs_from_head(options, paths):/if True:/
 avro-breaking	try_tagged	s/return not is_so(\*COMPARE, "--cached", .*/return False/
 avro-breaking	try_tagged	s/tags.last(\*tags.here())/tags.last(same[0].name)/
@@ -1161,6 +1163,7 @@ avro-breaking	try_memory	s/enumerate(faults)/enumerate(list(faults))/
 avro-breaking	try_memory	s/return \[last_names(field) for field in/return [[f"{one}.{other}" for one in last_names(place.schema) for other in last_names(field)] for field in/
 avro-breaking	try_memory	s/self.room -= len(findings.lines)/pass/
 avro-breaking	try_time	s/pointer_of(fault, side, self.schema)/pointer_of(fault, side, schema_of(self.new))/
+avro-breaking	try_time	s/left >= MOST_FAULTS or (left > 0 and number >= MOST_READ)/True/
 avro-breaking	try_links_out	s/if inner in ("..", ".git"):/if inner == "..":/
 avro-breaking	try_links_out	s/if path.startswith("\/") or path.split("\/")\[0\] == "..":/if False:/
 avro-breaking	try_unforeseen	s/    except Exception as fault:/    except Stop as fault:/
@@ -1204,7 +1207,7 @@ has_what() { # FUNCTION
 }
 
 missing() { # WHAT
-  not_tried+=("$1")
+  [[ " ${not_tried[*]} " = *" $1 "* ]] || not_tried+=("$1")
   return 1
 }
 

@@ -84,15 +84,11 @@ def long_answer(*words: str, kinds: tuple[str, str] = ("int", "string"), statuse
     return one(old, new, *words, statuses=statuses, allowed=b"a.avsc v1 /fields/0/type/fields/0\n")
 
 
-def long_answer_accepted() -> Tree:
-    tree = long_answer("--allow", "allowed", statuses=(0,))
-    return Tree(tree.old, tree.new, tree.words, tree.statuses, {"allowed": b"a.avsc v1 /fields\n"})
-
-
-def symbols(*words: str, statuses: tuple[int, ...] = (1,), accepted: bytes = b"") -> Tree:
-    """An enum with a long name that lost many symbols: fifteen GB of faults."""
-    old = {"type": "enum", "name": "E" * 250_000, "symbols": numbered("s", 60_000)}
-    return one(old, {**old, "symbols": ["z"]}, *words, statuses=statuses, allowed=accepted)
+def symbols(name: int, *words: str, statuses: tuple[int, ...] = (1,), accepted: bytes = b"") -> Tree:
+    """An enum with a long name that lost many symbols, each of which is a fault with this name."""
+    old = {"type": "enum", "name": "E" * name, "symbols": numbered("s", 60_000)}
+    old, new = (record([("a", each)]) for each in (old, {**old, "symbols": ["z"]}))
+    return one(old, new, *words, statuses=statuses, allowed=accepted)
 
 
 def attributes() -> Tree:
@@ -141,12 +137,12 @@ def namespace() -> Tree:
 
 
 def long_notes() -> Tree:
-    """Notes with a long word, which many fields had by their aliases."""
-    old = record([("x", {"type": "int", "logicalType": "w" * 900_000})])
-    new = record([(name, "int") for name in numbered("f", 2000)])
-    for each in new["fields"]:
-        each.update(aliases=["x"], default=0)
-    return one(old, new, statuses=(0, 3))
+    """Notes with a long word, which a field had that many fields of many records had been."""
+    old = record([("o", record([("x", {"type": "int", "logicalType": "w" * 900_000})], name="Old"))])
+    inner = [record([("y", "int")], name=f"S{number}", aliases=["Old"]) for number in range(1000)]
+    for each in inner:
+        each["fields"][0]["aliases"] = ["x"]
+    return one(old, record([(f"f{number}", each) for number, each in enumerate(inner)]))
 
 
 def renamed() -> Tree:
@@ -167,10 +163,11 @@ TREES: dict[str, Callable[[], Tree]] = {
     "2,000 changed fields, one not accepted": lambda: changed_fields("--allow", "allowed", accepted=1999),
     "200 MB of faults": long_answer,
     "200 MB of faults, one accepted": lambda: long_answer("--allow", "allowed"),
-    "200 MB of faults, all accepted": long_answer_accepted,
+    "200 MB of faults, all accepted": lambda: symbols(3_000, "--allow", "allowed", statuses=(0,), accepted=b"a.avsc v1 /fields\n"),
     "200 MB of faults of doubles, --tame": lambda: long_answer("--tame", kinds=("double", "string")),
-    "15 GB of faults": symbols,
-    "15 GB of faults, all accepted by a place": lambda: symbols("--allow", "allowed", accepted=b"a.avsc v1 /x\n"),
+    "15 GB of faults": lambda: symbols(250_000),
+    "15 GB of faults, none accepted": lambda: symbols(250_000, "--allow", "allowed", accepted=b"a.avsc v1 /fields/1\n"),
+    "15 GB of faults, all accepted": lambda: symbols(250_000, "--allow", "allowed", statuses=(0,), accepted=b"a.avsc v1 /fields\n"),
     "140,000 small objects in a text (1 MB)": attributes,
     "a datum of 30 MB": datum,
     "1,500 notes": notes,
@@ -180,7 +177,7 @@ TREES: dict[str, Callable[[], Tree]] = {
     "100 texts of 1 MiB, --bundle": lambda: many_files("--bundle", statuses=(1, 5)),
     "100 renamed files, whose types have names of 1 MB": renamed,
     "1,300 types in a namespace of 0.8 MB": namespace,
-    "2,000 notes on a word of 0.9 MB": long_notes,
+    "1,000 notes on a word of 0.9 MB": long_notes,
     "1,000 patterns of accepted breaks": lambda: lines(1000, b"*%dx*y*.avsc v1 /fields/0\n"),
     "120,000 lines of accepted breaks": lambda: lines(120_000, b"%d v\n"),
     "a file of 40 GB": sparse,

@@ -75,6 +75,8 @@ class Accepted:
         self.lines: dict[str, list[str]] = {}
         for line in lines:
             self.lines.setdefault(line.pointer, []).append(line.text)
+        # Whether everything about the file is accepted.
+        self.is_all = "" in self.lines
 
     def takes(self, pointer: str | None) -> bool:
         """Whether a fault is accepted, there or anywhere above; of one whose place is not known, only with its file."""

@@ -17,6 +17,8 @@ MOST_ANSWER = 4_194_304
 MOST_LINE = 16_384
 # The faults, and likewise the notes, that are told of a file.
 MOST_FAULTS = 100
+# The faults that are read in search of what is not accepted, once something is not.
+MOST_READ = 2_000
 # The patterns in a file of accepted breaks.
 MOST_PATTERNS = 1_000
 # The bytes of memory for a filter.

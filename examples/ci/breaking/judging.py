@@ -8,7 +8,7 @@ from typing import Iterable
 
 from .allowed import Accepted, Allowed, line_for
 from .desk import ANSWERS, Answer, Faults, Laid, Sheet
-from .ending import MOST_FAULTS
+from .ending import MOST_FAULTS, MOST_READ
 from .history import Groups
 from .log import Log, complain, quoted
 from .logical import notes
@@ -130,7 +130,7 @@ class FileJudge:
         """Reads faults as long as there is something to tell or to accept."""
         findings, left = Findings(), {}
         for number, fault in enumerate(faults):
-            if number >= self.room and (accepted is None or len(left) >= MOST_FAULTS):
+            if number >= max(self.room, 1) and self.is_enough(number, accepted, len(left)):
                 break
             place = pointer_of(fault, side, self.schema) if accepted or number == 0 else None
             findings.first = place if number == 0 else findings.first
@@ -141,6 +141,11 @@ class FileJudge:
         findings.more = faults.count - len(findings.lines)
         findings.left, findings.is_accepted = list(left), accepted is not None and not left
         return findings
+
+    @staticmethod
+    def is_enough(number: int, accepted: Accepted | None, left: int) -> bool:
+        """Whether no further fault can change what is told."""
+        return accepted is None or accepted.is_all or left >= MOST_FAULTS or (left > 0 and number >= MOST_READ)
 
     def why(self, answer: Answer) -> list[str]:
         """Why a text is refused, and what to do if --tame takes it."""
@@ -182,7 +187,7 @@ class FileJudge:
 
     def tell(self, outcome: str, answer: Answer, findings: Findings, pair: Pair) -> None:
         first, *others = ["no, accepted"] if outcome == "accepted" else answer.said.split("\n")
-        allow = [f"allow: {line_for(self.path, pair.bases[0], place)}" for place in findings.left if place is not None]
+        allow = [f"allow: {line_for(self.path, pair.bases[0], place or '')}" for place in findings.left]
         kind = "notice" if outcome == "accepted" else "error"
         place = findings.first or ""
         line = self.lines([place]).get(place, 0) if findings.first is not None else 0
