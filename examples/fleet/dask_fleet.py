@@ -14,7 +14,7 @@ this script may be killed, and the same line goes on. Each failure is told on st
 avro.
 
 Exit status: 0 where nothing is missing any more, else the highest of the jobs' statuses, where 4 stands for a job that was
-killed; 64 usage.
+killed; 4 also where the scheduler is not there or `list` or PLAN cannot be read; 64 usage.
 """
 
 from __future__ import annotations
@@ -121,4 +121,8 @@ def main(words: list[str]) -> int:
 
 
 if __name__ == "__main__":
-    sys.exit(main(sys.argv[1:]))
+    try:
+        sys.exit(main(sys.argv[1:]))
+    except (OSError, ValueError, KeyError) as fault:
+        print(f"dask_fleet: {fault}", file=sys.stderr)
+        sys.exit(4)

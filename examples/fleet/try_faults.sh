@@ -5,9 +5,9 @@
 #
 # PROGRAM is $AVRO where it is not given, and else avro on the PATH. Without a RECIPE all are tried: xargs, parallel, slurm, job (of Kubernetes) and
 # dask, and slurm-split and dask-split for the parts of one file. The tasks of Slurm and the indexes of Kubernetes are run by their variables, and
-# Dask by a scheduler and two workers on this machine. What is not tried is said. The faults are: none; a job's program is killed; what started the jobs is
-# killed, and its running job goes on beside the next run; the disk is full, which needs root for a small file system; a file is cut; the list
-# grew; and one of Dask's workers is killed. After each, what stands in `out` must be whole, what is missing must be named, and the same line must do the
+# Dask by a scheduler and two workers on this machine. What is not tried is said. The faults are: none; a job's program is killed, or its shell; what
+# started the jobs is killed, and its running job goes on beside the next run; the disk is full, which needs root for a small file system; a file is
+# cut; the list grew; and one of Dask's workers is killed. After each, what stands in `out` must be whole, what is missing must be named, and the same line must do the
 # rest, with the right sum. The status is 0 where all of this holds.
 set -euo pipefail
 export LC_ALL=C
@@ -35,7 +35,7 @@ end() { # PID..
   local pid running
   running=$(jobs -pr)
   for pid in "$@"; do
-    if grep -qx "$pid" <<< "$running"; then kill -9 "$pid"; fi
+    if grep -qx "$pid" <<< "$running"; then kill -9 "$pid" 2> /dev/null || true; fi
   done
 }
 
@@ -276,6 +276,26 @@ fault_job() {
   echo "nothing lost, named ($said)"
 }
 
+fault_shell() {
+  local shell
+  [ "$recipe" = xargs ] || [ "$recipe" = parallel ] || return 0
+  begin
+  start_held
+  shell=$(ps -o ppid= -p "$held" | tr -d ' ')
+  [[ $(ps -o args= -p "$shell") == *'avro copy'* ]] || fail 'the held job has no shell'
+  kill -9 "$shell"
+  finish
+  [ "$status" != 0 ] || fail 'status 0 after a killed shell'
+  [ -n "$(missing)" ] || fail 'the held job is not missing'
+  check_whole
+  said="status $status; missing: $(missing | wc -l)"
+  run
+  check_complete
+  let_go
+  check_complete
+  echo "nothing lost, named ($said)"
+}
+
 fault_starter() {
   begin
   start_held
@@ -429,7 +449,7 @@ for recipe in "${recipes[@]}"; do
     printf '%-12s not tried: its programs are not here\n' "$recipe"
     continue
   fi
-  for fault in none job starter disk file list worker; do
+  for fault in none job shell starter disk file list worker; do
     status=0
     set +e
     (
