@@ -3,11 +3,13 @@
 #
 #     parallel.sh [PROGRAM [copy|pipe]]
 #
-# PROGRAM is $AVRO where it is not given, and else avro on the PATH. A job is `avro copy IN OUT`, or `avro pipe < IN > OUT`. One of the files is
-# cut, and one is of another schema: the joblog must name these two and no other, the copies of all others must be those of single runs, byte for
-# byte, and what stands in the OUT of the two must be a beginning. Then --resume-failed tries the two again, first as they are and
-# then mended. The status is 0 where all of this holds.
+# PROGRAM is $AVRO where it is not given, and else avro on the PATH. A job is `avro copy IN PART`, or `avro pipe < IN > PART`, and gives the copy its
+# name once it is whole. One of the files is cut, and one is of another schema: the joblog and what is missing must name these two and no other,
+# the copies of all others must be those of single runs, byte for byte, and what stands in the PART of the two must be a beginning. The same line
+# then goes on: with the two as they are, with a list that grew, and with the two mended. --resume-failed must find the two as well,
+# where of the lines that a job has in the joblog the last one counts. The status is 0 where all of this holds.
 set -euo pipefail
+export LC_ALL=C
 
 # GNU parallel is the Debian package parallel; another program of this name is in moreutils.
 if [[ $(parallel --version 2>/dev/null || true) != "GNU parallel"* ]]; then
@@ -30,8 +32,8 @@ export AVRO
 # The lines are for the shells of the jobs, which put in the program.
 # shellcheck disable=SC2016
 case ${2:-copy} in
-  copy) job='"$AVRO" copy in/{} out/{} --reader new.avsc > /dev/null' ;;
-  pipe) job='"$AVRO" pipe --reader new.avsc < in/{} > out/{}' ;;
+  copy) job='t=out/{}.part.$$; "$AVRO" copy in/{} "$t" --reader new.avsc > /dev/null && mv "$t" out/{}' ;;
+  pipe) job='t=out/{}.part.$$; "$AVRO" pipe --reader new.avsc < in/{} > "$t" && mv "$t" out/{}' ;;
   *) fail "$2: neither copy nor pipe" ;;
 esac
 
@@ -50,15 +52,28 @@ while read -r name; do
   "$AVRO" copy "whole/$name" "want/$name" --reader new.avsc > /dev/null || fail "$name: no copy by a single run"
 done < list
 
-# Runs the jobs, with further options. Says in $failed how many failed, in the file lines which, and in the file errors what they said.
-run() {
-  local jobs_before=0
-  [ ! -e joblog ] || jobs_before=$(($(wc -l < joblog) - 1))
+todo() { comm -23 <(sort -u list) <(find out -type f ! -name '*.part.*' -printf '%P\n' | sort); }
+
+# The numbers of the jobs that failed, by the last line that each has in a joblog: the first field is a job's number, the seventh its status, and the
+# eighth the signal that ended it.
+failed_in() {
+  awk -F '\t' 'NR > 1 { bad[$1] = $7 || $8 } END { for (at in bad) if (bad[at]) print at }' "$1" | sort -n
+}
+
+# Runs the jobs of a list, with a joblog and further options. Says in $failed how many failed, in the file lines which, and in the file errors what
+# they said.
+run() { # LIST JOBLOG OPTION..
   failed=0
-  parallel "$@" --joblog joblog "$job" :::: list 2> errors || failed=$?
-  # Of this run's lines the first field is a job's number in the list, the seventh its status, and the eighth the signal that ended it.
-  tail -n +2 joblog | tail -n +$((jobs_before + 1)) > ran
-  awk -F '\t' '$7 != 0 || $8 != 0 { print $1 }' ran | sort -n | while read -r at; do sed -n "${at}p" list; done > lines
+  parallel "${@:3}" --joblog "$2" "$job" :::: "$1" 2> errors || failed=$?
+  failed_in "$2" | while read -r at; do sed -n "${at}p" "$1"; done > lines
+}
+
+# Runs the jobs of what is missing.
+go_on() {
+  find out -name '*.part.*' -delete
+  todo > missing
+  rm -f joblog
+  run missing joblog
 }
 
 # Whether each copy but those of the two is the wanted one.
@@ -68,39 +83,57 @@ check_others() {
   done
 }
 
-# Whether the jobs that failed are the two, each with status 3, and what they left is a beginning.
+# Whether the jobs that failed are the two, each with status 3, and what they left is a beginning, under another name than the copy's.
 check_two() {
+  local name part
   cmp two lines || fail "the joblog names $(paste -sd ' ' lines)"
+  todo | cmp - two || fail "what is missing is $(todo | paste -sd ' ')"
   [ "$failed" = 2 ] || fail "parallel ended with $failed"
-  awk -F '\t' '($7 != 0 || $8 != 0) && $7 $8 != "30" { print $7, $8; exit 1 }' ran > ended || fail "a job ended with $(cat ended), and not with 3"
+  awk -F '\t' 'NR > 1 && ($7 != 0 || $8 != 0) && $7 $8 != "30" { print $7, $8; exit 1 }' "$1" > ended || fail "a job ended with $(cat ended), and not with 3"
   [ "$(wc -l < errors)" = 2 ] || fail "the jobs said: $(cat errors)"
   while read -r name; do
-    cmp -n "$(stat -c %s "out/$name")" "want/$name" "out/$name" || fail "$name: what was left is no beginning"
+    for part in "out/$name".part.*; do
+      cmp -n "$(stat -c %s "$part")" "want/$name" "$part" || fail "$name: what was left is no beginning"
+    done
   done < two
 }
 
 files=$(wc -l < list)
 echo "$files files: $(paste -sd , spoiled | sed 's/,/, /')"
 
-run
-[ "$(wc -l < ran)" = "$files" ] || fail "the joblog has $(wc -l < ran) jobs"
-check_two
+# All but the last file, which is added later.
+head -n -1 list > list.short
+mv list list.all
+mv list.short list
+go_on
+[ "$(wc -l < joblog)" = "$files" ] || fail "the joblog has $(wc -l < joblog) lines"
+check_two joblog
 check_others
-echo "first run: $(wc -l < ran) jobs; the joblog names $(paste -sd ' ' lines); the other $((files - 2)) copies are those of single runs"
+echo "first run: $((files - 1)) jobs; the joblog names $(paste -sd ' ' lines); the other $((files - 3)) copies are those of single runs"
 sed 's/^/    /' errors
 
-run --resume-failed
-check_two
-[ "$(wc -l < ran)" = 2 ] || fail "--resume-failed ran $(wc -l < ran) jobs"
+cp list list.of.joblog
+run list.of.joblog joblog.of.list
+cp joblog.of.list joblog.before
+run list.of.joblog joblog.of.list --resume-failed
+check_two joblog.of.list
+[ "$(($(wc -l < joblog.of.list) - $(wc -l < joblog.before)))" = 2 ] || fail "--resume-failed ran other jobs than two"
+echo "--resume-failed: 2 jobs; by the last line of each job the joblog names $(paste -sd ' ' lines)"
+
+# The new line comes first, so that each other has another number.
+tac list.all > list
+go_on
+[ "$(wc -l < joblog)" = 4 ] || fail "after the list grew, the joblog has $(wc -l < joblog) lines"
+check_two joblog
 check_others
-echo "--resume-failed: $(wc -l < ran) jobs; the joblog names $(paste -sd ' ' lines)"
+echo "the list grew by one, in front: 3 jobs; the joblog names $(paste -sd ' ' lines)"
 
 while read -r name; do cp "whole/$name" "in/$name"; done < two
-run --resume-failed
-[ "$(wc -l < ran),$failed" = 2,0 ] || fail "with the two mended: $(wc -l < ran) jobs, $failed failed"
+go_on
+[ "$(wc -l < joblog),$failed" = 3,0 ] || fail "with the two mended: $(wc -l < joblog) lines, $failed failed"
 diff -r want out || fail "another copy than that of a single run"
-echo "--resume-failed, the two mended: $(wc -l < ran) jobs, none failed; all $files copies are those of single runs"
+echo "the two mended: 2 jobs, none failed; all $files copies are those of single runs"
 
-run --resume-failed
-[ "$(wc -l < ran),$failed" = 0,0 ] || fail "with nothing left to do: $(wc -l < ran) jobs, $failed failed"
-echo "--resume-failed once more: no job"
+go_on
+[ ! -s missing ] || fail "with nothing left to do: $(paste -sd ' ' missing)"
+echo "once more: nothing is missing"

@@ -67,13 +67,15 @@ try() { # NAME FUNCTION
   cp whole/* in
   "$2" 3 > said 2>&1 || fail "$1: 3, mended: $(cat said)"
   "$2" 6 > said 2>&1 || fail "$1: 6, mended: $(cat said)"
+  find out -name '*.part.*' -delete
   diff -r out want || fail "$1: another copy"
   cp was/* in
   echo "$1: 9 files, of which 2 failed and were done again"
 }
 
 task_of_slurm() {
-  SLURM_ARRAY_TASK_ID=$1 "$here/array.sbatch"
+  cp list missing
+  SLURM_JOB_ID=1 SLURM_ARRAY_TASK_COUNT=9 SLURM_ARRAY_TASK_MIN=1 SLURM_ARRAY_TASK_MAX=9 SLURM_ARRAY_TASK_ID=$1 "$here/array.sbatch"
 }
 
 index_of_job() {
