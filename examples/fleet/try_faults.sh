@@ -391,8 +391,12 @@ fault_worker() {
   [[ $recipe == dask* ]] || return 0
   begin
   start_held
-  worker=$(ps -o ppid= -p "$held" | tr -d ' ')
-  [[ " ${cluster[*]} " == *" $worker "* ]] || fail 'the held job is not of a worker'
+  # A job may be started by a program that the worker runs.
+  worker=$held
+  until [[ " ${cluster[*]} " == *" $worker "* ]]; do
+    worker=$(ps -o ppid= -p "$worker" | tr -d ' ')
+    [ "${worker:-1}" != 1 ] || fail 'the held job is not of a worker'
+  done
   kill -9 "$worker"
   finish
   check_complete
