@@ -175,7 +175,7 @@ def wrong(script: Path, program: str, url: str, folder: Path) -> list[str]:
     found = []
     environment = {**os.environ, "AVRO": program, "no_proxy": "*", "NETRC": str(folder / "netrc"), "PYTHONDONTWRITEBYTECODE": "1"}
     for words, status, said in rows(url):
-        done = subprocess.run(["bash", script, *words], cwd=folder, env=environment, capture_output=True, text=True)
+        done = subprocess.run(["timeout", "60", "bash", script, *words], cwd=folder, env=environment, capture_output=True, text=True)
         if done.returncode != status or not is_like(done.stdout + done.stderr, said):
             found.append(f"{words}: status {done.returncode}, {done.stdout + done.stderr!r}")
     certificates = folder / "yes.certs"
