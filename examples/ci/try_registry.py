@@ -18,6 +18,7 @@ import subprocess
 import sys
 import tempfile
 import threading
+import time
 from concurrent.futures import ThreadPoolExecutor
 from pathlib import Path
 
@@ -77,7 +78,7 @@ PLANTED = [
     ("others[at + 1] = os.path.abspath(others[at + 1])", "pass"),
     ("left += references_of(other)", "pass"),
     ("if key not in texts:", "if True:"),
-    ('"new", *self.options.others]', '"new"]'),
+    ('"new", *self.options.others)', '"new")'),
     ("itertools.islice(lines, MOST_FAULTS)", "lines"),
     ('if "@" in urlsplit(url).netloc:', "if False:"),
     ("        program.check_new()\n", ""),
@@ -105,7 +106,9 @@ class Server(http.server.BaseHTTPRequestHandler):
         status, body = HARM[subject]
         self.answer(status, body, "/subjects/orders-value/versions")
         try:
-            for _ in range(100_000 if subject == "endless" else 0):
+            for at in range(3_000 if subject == "endless" else 0):
+                # Past the bound it goes on slowly.
+                time.sleep(0.2 if at > 1_500 else 0)
                 self.wfile.write(b",1" * 4_096)
         except OSError:
             pass
